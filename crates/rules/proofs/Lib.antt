@@ -1,0 +1,10 @@
+pub mod Closing
+pub mod Masks
+pub mod Actions
+pub mod Tables
+pub mod Local
+pub mod Allowed
+pub mod Walks
+pub mod Numbers
+pub mod Connections
+pub mod Proper

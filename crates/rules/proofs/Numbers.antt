@@ -1,0 +1,81 @@
+-- A step's number is 0 or from 10 to 37, and a walk accepts no more steps than there are.
+-- Assumes nothing.
+use mathlib.Core.Path.{_≡_, refl}
+use mathlib.Core.Logic.{_⊎_, inl, inr}
+use mathlib.Core.Bool.{Bool, true, false, _&&_, cond}
+use mathlib.Core.List.{List, [], _∷_}
+use Prim.Native.Nat.{ℕ, suc, _≤_}
+use native.Mathlib.Omega.{arith}
+use lib.Dec.{T, eqb, leb, lit≤}
+use lib.ListN.{length}
+use Rattle.model.specs.declared.Tables.{Tables}
+use Rattle.model.specs.declared.Program.{Program}
+use Rattle.model.specs.declared.Step.{Step}
+use Rattle.model.specs.declared.Configuration.{Configuration}
+use Rattle.model.specs.declared.Walked.{Walked}
+use Rattle.rules.specs.Refusal.{_⇒_∣_, noInstructionLeft, orElse}
+use Rattle.rules.specs.Ports.{portCheck}
+use Rattle.rules.specs.Add.{addCheck}
+use Rattle.rules.specs.Del.{delCheck}
+use Rattle.rules.specs.PushB.{pushbCheck}
+use Rattle.rules.specs.Con.{conCheck}
+use Rattle.rules.specs.DCon.{dconCheck}
+use Rattle.rules.specs.Wait.{waitCheck}
+use Rattle.rules.specs.Fire.{fireRow, fireCheck}
+use Rattle.rules.specs.End.{endCheck}
+use Rattle.rules.specs.Enter.{enterRow, enterCheck}
+use Rattle.rules.specs.Finish.{finishRow, finishCheck}
+use Rattle.rules.specs.Action.{Action, add, del, pushb, con, dcon, wait, fire, end, enter, finish, check}
+use Rattle.rules.specs.Step.{isNext, action, number, after}
+use Rattle.rules.specs.Walk.{oneMore, walk}
+use Rattle.rules.proofs.Walks.{walk-cases}
+
+-- 01's numbers of a step
+pub record Numbered (n : ℕ) : Type 0 where
+  pub range : (n ≡ 0) ⊎ ((10 ≤ n) × (n ≤ 37))
+
+none : Numbered 0
+none = record { range = inl refl }
+
+row : (b : Bool) (n m : ℕ) → T (leb 10 n) → T (leb n 37) → Numbered m → Numbered (b ⇒ n ∣ m)
+row true n m h g f = record { range = inr (lit≤ h, lit≤ g) }
+row false n m h g f = f
+
+or-else : (a b : ℕ) → Numbered a → Numbered b → Numbered (orElse a b)
+or-else a b f g = go (eqb a 0)
+  where
+    go : (t : Bool) → Numbered (cond t b a)
+    go true = g
+    go false = f
+
+ruleset rows = (row, or-else, none)
+
+check-numbered : (default : ℕ) (t : Tables) (c : Configuration) (a : Action) → Numbered (check default t c a)
+unfolding check addCheck delCheck pushbCheck conCheck dconCheck waitCheck fireCheck fireRow endCheck enterCheck enterRow finishCheck finishRow portCheck
+check-numbered default t c (add i k) = search rows
+check-numbered default t c (del i) = search rows
+check-numbered default t c (pushb i b) = search rows
+check-numbered default t c (con k) = search rows depth 8
+check-numbered default t c (dcon k) = search rows
+check-numbered default t c (wait i) = search rows
+check-numbered default t c (fire i p) = search rows depth 8
+check-numbered default t c (end i x) = search rows
+check-numbered default t c (enter i p) = search rows depth 8
+check-numbered default t c (finish i) = search rows
+
+pub step-numbered : (default : ℕ) (t : Tables) (p : Program) (c : Configuration) (s : Step) → Numbered (number default t p c s)
+unfolding number
+step-numbered default t p c s = row (isNext s && leb (p .count) (c .done)) noInstructionLeft _ tt tt (check-numbered default t c (action p c s))
+
+-- a walk over n steps
+pub record WalkNumbers (n : ℕ) (w : Walked) : Type 0 where
+  pub refused : Numbered (w .refused)
+  pub accepted : w .accepted ≤ n
+
+pub walk-numbers : (default : ℕ) (t : Tables) (p : Program) (ss : List Step) (c : Configuration) → WalkNumbers (length ss) (walk default t p c ss)
+unfolding walk oneMore
+walk-numbers default t p [] c = record { refused = none; accepted = omega arith }
+walk-numbers default t p (s ∷ ss) c =
+    walk-cases default t p (WalkNumbers (suc (length ss))) c s ss
+    (λ e. let h = walk-numbers default t p ss (after t p c s) in record { refused = h .refused; accepted = omega (arith, h .accepted) })
+    (λ n. record { refused = step-numbered default t p c s; accepted = omega arith })

@@ -1,0 +1,78 @@
+-- The ten kinds of steps: six instructions and four moves, with their number and effect.
+use mathlib.Core.Bool.{cond}
+use Prim.Native.Nat.{ℕ}
+use lib.Dec.{eqb}
+use Rattle.model.specs.declared.Tables.{Tables}
+use Rattle.model.specs.declared.Instruction.{Instruction}
+use Rattle.model.specs.declared.Step.{Step}
+use Rattle.model.specs.declared.Connection.{Connection}
+use Rattle.model.specs.declared.Configuration.{Configuration}
+use Rattle.model.specs.Verb.{addVerb, delVerb, pushbVerb, conVerb, dconVerb, fireVerb, endVerb, enterVerb}
+use Rattle.rules.specs.Add.{addCheck, added}
+use Rattle.rules.specs.Del.{delCheck, deleted}
+use Rattle.rules.specs.PushB.{pushbCheck, pushed}
+use Rattle.rules.specs.Con.{conCheck, connected}
+use Rattle.rules.specs.DCon.{dconCheck, disconnected}
+use Rattle.rules.specs.Wait.{waitCheck}
+use Rattle.rules.specs.Fire.{fireCheck, fireTo}
+use Rattle.rules.specs.End.{endCheck, endTo}
+use Rattle.rules.specs.Enter.{enterCheck, enterTo}
+use Rattle.rules.specs.Finish.{finishCheck, finished}
+
+pub data Action : Type 0 where
+  add : ℕ → ℕ → Action
+  del : ℕ → Action
+  pushb : ℕ → ℕ → Action
+  con : Connection → Action
+  dcon : Connection → Action
+  wait : ℕ → Action
+  fire : ℕ → ℕ → Action
+  end : ℕ → ℕ → Action
+  enter : ℕ → ℕ → Action
+  finish : ℕ → Action
+
+-- the connection that a `con` or `dcon` names
+abbrev pub named : Instruction → Connection
+named n = record { user = n .id; useport = n .number; provider = n .provider; provideport = n .provideport }
+
+-- the instruction of a `do` line; a code that no line says counts as the last verb
+unfoldable pub instruction : Instruction → Action
+instruction n =
+    cond (eqb (n .verb) addVerb) (add (n .id) (n .number))
+    (cond (eqb (n .verb) delVerb) (del (n .id))
+    (cond (eqb (n .verb) pushbVerb) (pushb (n .id) (n .number))
+    (cond (eqb (n .verb) conVerb) (con (named n))
+    (cond (eqb (n .verb) dconVerb) (dcon (named n))
+    (wait (n .id))))))
+
+-- the move of a `step` line other than `next`
+unfoldable pub move : Step → Action
+move s =
+    cond (eqb (s .verb) fireVerb) (fire (s .id) (s .number))
+    (cond (eqb (s .verb) endVerb) (end (s .id) (s .number))
+    (cond (eqb (s .verb) enterVerb) (enter (s .id) (s .number))
+    (finish (s .id))))
+
+unfoldable pub check : ℕ → Tables → Configuration → Action → ℕ
+check default t c (add i k) = addCheck c i
+check default t c (del i) = delCheck c i
+check default t c (pushb i b) = pushbCheck default t c i b
+check default t c (con k) = conCheck t c k
+check default t c (dcon k) = dconCheck t c k
+check default t c (wait i) = waitCheck c i
+check default t c (fire i p) = fireCheck t c i p
+check default t c (end i x) = endCheck c i x
+check default t c (enter i p) = enterCheck t c i p
+check default t c (finish i) = finishCheck t c i
+
+unfoldable pub effect : Tables → Configuration → Action → Configuration
+effect t c (add i k) = added t c i k
+effect t c (del i) = deleted c i
+effect t c (pushb i b) = pushed c i b
+effect t c (con k) = connected c k
+effect t c (dcon k) = disconnected c k
+effect t c (wait i) = c
+effect t c (fire i p) = fireTo t c i p
+effect t c (end i x) = endTo c i x
+effect t c (enter i p) = enterTo t c i p
+effect t c (finish i) = finished c i

@@ -1,0 +1,35 @@
+-- "`fire p`: p is marked; the transitions of the current behavior that leave p are at least one, none held. The mark goes and all of
+-- them run."
+use mathlib.Core.Bool.{not}
+use Prim.Native.Nat.{ℕ}
+use lib.Dec.{eqb}
+use Rattle.sets.specs.Mask.{member, overlaps}
+use Rattle.model.specs.declared.Tables.{Tables}
+use Rattle.model.specs.declared.Instance.{Instance}
+use Rattle.model.specs.declared.Configuration.{Configuration}
+use Rattle.model.specs.View.{instance, put}
+use Rattle.rules.specs.Refusal.{_⇒_∣_, allowed, idAbsent, queueEmpty, noTransition, notReady, heldOrMarked, orElse}
+use Rattle.rules.specs.Instance.{held, leaving, fired}
+use Rattle.rules.specs.Ports.{behavior, portCheck}
+
+-- xs is what leaves p
+unfoldable pub fireRow : Instance → ℕ → ℕ → ℕ
+fireRow v p xs =
+    not (v .present) ⇒ idAbsent
+    ∣ eqb (v .queued) 0 ⇒ queueEmpty
+    ∣ eqb xs 0 ⇒ noTransition
+    ∣ not (member p (v .marked)) ⇒ notReady
+    ∣ overlaps xs (held v) ⇒ heldOrMarked
+    ∣ allowed
+
+abbrev pub leavers : Tables → Configuration → ℕ → ℕ → ℕ
+leavers t c i p = leaving t (instance c i .kind) (behavior t c i) p
+
+abbrev pub afterFire : Tables → Configuration → ℕ → ℕ → Instance
+afterFire t c i p = fired (instance c i) p (leavers t c i p)
+
+unfoldable pub fireCheck : Tables → Configuration → ℕ → ℕ → ℕ
+fireCheck t c i p = orElse (fireRow (instance c i) p (leavers t c i p)) (portCheck t c i (instance c i) (afterFire t c i p))
+
+unfoldable pub fireTo : Tables → Configuration → ℕ → ℕ → Configuration
+fireTo t c i p = put c i (afterFire t c i p)

@@ -1,0 +1,63 @@
+-- Connections and the three checks of ports, 34, 35 and 36, where instance i goes from v to w.
+use mathlib.Core.Bool.{Bool, not, _&&_}
+use Prim.Native.Nat.{ℕ}
+use lib.Dec.{eqb}
+use Rattle.sets.specs.Test.{any}
+use Rattle.sets.specs.Mask.{member, overlaps}
+use Rattle.model.specs.declared.Tables.{Tables}
+use Rattle.model.specs.declared.Instance.{Instance}
+use Rattle.model.specs.declared.Connection.{Connection}
+use Rattle.model.specs.declared.Configuration.{Configuration}
+use Rattle.model.specs.View.{isUse, instance, connection, head}
+use Rattle.rules.specs.Refusal.{_⇒_∣_, allowed, unserved, providerRefusing, serviceInUse}
+use Rattle.rules.specs.Instance.{held, active, portsOf, current, leaving, fired}
+
+-- some connection passes the test
+unfoldable pub someConnection : Configuration → (Connection → Bool) → Bool
+someConnection c test = any (c .count) (λ l. test (connection c l))
+
+-- the current behavior of instance i
+abbrev pub behavior : Tables → Configuration → ℕ → ℕ
+behavior t c i = current t (instance c i) (head c i)
+
+-- "some marked place [p] of its instance has leaving transitions in the current behavior [m], none held, whose firing would make the port [q] inactive"
+unfoldable pub wouldLeave : Tables → Instance → ℕ → ℕ → ℕ → Bool
+wouldLeave t v m q p =
+    member p (v .marked) && (not (eqb (leaving t (v .kind) m p) 0)
+    && (not (overlaps (leaving t (v .kind) m p) (held v)) && not (active t (fired v p (leaving t (v .kind) m p)) q)))
+
+-- "A provide port is *refusing* when it is active and" one of the 16 places is such a place
+unfoldable pub refusing : Tables → Instance → ℕ → ℕ → Bool
+refusing t v m q = active t v q && any 16 (wouldLeave t v m q)
+
+-- the connection joins the use port q of i to an active provide port; to a refusing one
+unfoldable pub serves : Tables → Configuration → ℕ → ℕ → Connection → Bool
+serves t c i q k = eqb (k .user) i && (eqb (k .useport) q && active t (instance c (k .provider)) (k .provideport))
+
+unfoldable pub blocks : Tables → Configuration → ℕ → ℕ → Connection → Bool
+blocks t c i q k =
+    eqb (k .user) i && (eqb (k .useport) q && refusing t (instance c (k .provider)) (behavior t c (k .provider)) (k .provideport))
+
+-- the connection joins an active use port to the provide port q of i
+unfoldable pub employs : Tables → Configuration → ℕ → ℕ → Connection → Bool
+employs t c i q k = eqb (k .provider) i && (eqb (k .provideport) q && active t (instance c (k .user)) (k .useport))
+
+-- "Each use port active after must be connected to an active provide port"
+unfoldable pub failsUnserved : Tables → Configuration → ℕ → Instance → ℕ → Bool
+failsUnserved t c i w q = isUse t (w .kind) q && (active t w q && not (someConnection c (serves t c i q)))
+
+-- "If it was inactive before, that provide port must not be refusing"
+unfoldable pub failsRefusing : Tables → Configuration → ℕ → Instance → Instance → ℕ → Bool
+failsRefusing t c i v w q = isUse t (w .kind) q && (active t w q && (not (active t v q) && someConnection c (blocks t c i q)))
+
+-- "Each provide port active before and inactive after must have no active use port connected"
+unfoldable pub failsInUse : Tables → Configuration → ℕ → Instance → Instance → ℕ → Bool
+failsInUse t c i v w q = not (isUse t (w .kind) q) && (active t v q && (not (active t w q) && someConnection c (employs t c i q)))
+
+-- "Only the moving instance's own ports are tested"; "Checks 34, 35 and 36 each run over all ports before the next"
+unfoldable pub portCheck : Tables → Configuration → ℕ → Instance → Instance → ℕ
+portCheck t c i v w =
+    any (portsOf t v) (failsUnserved t c i w) ⇒ unserved
+    ∣ any (portsOf t v) (failsRefusing t c i v w) ⇒ providerRefusing
+    ∣ any (portsOf t v) (failsInUse t c i v w) ⇒ serviceInUse
+    ∣ allowed

@@ -1,0 +1,63 @@
+-- What every point of a walk on lawful tables keeps: numbers within the type, running and ended apart, the queue within the depth, at most
+-- 64 connections, each between the right ports of two present instances.
+use mathlib.Core.Path.{_≡_}
+use mathlib.Core.Logic.{_≢_}
+use mathlib.Core.Bool.{true, false}
+use mathlib.Core.List.{List}
+use Prim.Native.Nat.{ℕ, _≤_, _<_}
+use lib.ListN.{length}
+use Rattle.sets.specs.Mask.{member}
+use Rattle.model.specs.declared.Tables.{Tables}
+use Rattle.model.specs.declared.Program.{Program}
+use Rattle.model.specs.declared.Step.{Step}
+use Rattle.model.specs.declared.Instance.{Instance}
+use Rattle.model.specs.declared.Connection.{Connection}
+use Rattle.model.specs.declared.Configuration.{Configuration}
+use Rattle.model.specs.Empty.{start}
+use Rattle.model.specs.View.{typeOf, isUse, instance, connection, slot}
+use Rattle.reading.specs.Lawful.{Lawful}
+use Rattle.rules.specs.Instance.{portsOf}
+use Rattle.rules.specs.PushB.{depthOf}
+use Rattle.rules.specs.Walk.{walk}
+
+-- the record v with the queue slots s
+pub record ProperInstance (default : ℕ) (t : Tables) (v : Instance) (s : ℕ → ℕ) : Type 0 where
+  pub kind : v .kind < t .count
+  pub marked : (x : ℕ) → member x (v .marked) ≡ true → x < typeOf t (v .kind) .places
+  pub running : (x : ℕ) → member x (v .running) ≡ true → x < typeOf t (v .kind) .transitions
+  pub ended : (x : ℕ) → member x (v .ended) ≡ true → x < typeOf t (v .kind) .transitions
+  pub disjoint : (x : ℕ) → member x (v .running) ≡ true → member x (v .ended) ≡ false
+  pub short : v .queued ≤ depthOf default t
+  pub queue : (r : ℕ) → r < v .queued → s r < typeOf t (v .kind) .behaviors
+
+-- k joins a use port of a present instance to a provide port of another present one
+pub record Joins (t : Tables) (c : Configuration) (k : Connection) : Type 0 where
+  pub user : instance c (k .user) .present ≡ true
+  pub provider : instance c (k .provider) .present ≡ true
+  pub apart : k .user ≢ k .provider
+  pub useport : k .useport < portsOf t (instance c (k .user))
+  pub uses : isUse t (instance c (k .user) .kind) (k .useport) ≡ true
+  pub provideport : k .provideport < portsOf t (instance c (k .provider))
+  pub provides : isUse t (instance c (k .provider) .kind) (k .provideport) ≡ false
+
+-- each connection joins, and a use port has one at most
+pub record WellFormed (t : Tables) (c : Configuration) : Type 0 where
+  pub joins : (l : ℕ) → l < c .count → Joins t c (connection c l)
+  pub once : (l m : ℕ) → l < c .count → m < c .count → connection c l .user ≡ connection c m .user → connection c l .useport ≡ connection c m .useport → l ≡ m
+
+pub record Proper (default : ℕ) (t : Tables) (p : Program) (c : Configuration) : Type 0 where
+  pub each : (i : ℕ) → instance c i .present ≡ true → ProperInstance default t (instance c i) (slot c i)
+  pub connections : WellFormed t c
+  pub few : c .count ≤ 64
+  pub done : c .done ≤ p .count
+  pub instances-length : length (c .instances) ≡ 32
+  pub queue-length : length (c .queue) ≡ 256
+  pub connections-length : length (c .connections) ≡ 64
+
+-- a prefix of an answer is an answer, so this speaks of each accepted point
+unfoldable pub WalksAreProper : Type 0
+WalksAreProper =
+    (default : ℕ) (t : Tables) (p : Program) (ss : List Step)
+    → default ≤ 8
+    → Lawful t p
+    → Proper default t p (walk default t p start ss .configuration)

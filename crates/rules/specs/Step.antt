@@ -1,0 +1,35 @@
+-- One step: `next` carries out the next instruction of the program, the other verbs are moves.
+use mathlib.Core.Bool.{Bool, _&&_, cond}
+use Prim.Native.Nat.{ℕ, suc}
+use lib.Dec.{eqb, leb}
+use lib.ListN.{getD}
+use Rattle.model.specs.declared.Tables.{Tables}
+use Rattle.model.specs.declared.Program.{Program}
+use Rattle.model.specs.declared.Step.{Step}
+use Rattle.model.specs.declared.Configuration.{Configuration}
+use Rattle.model.specs.declared.Stepped.{Stepped}
+use Rattle.model.specs.Empty.{noInstruction}
+use Rattle.model.specs.View.{withDone}
+use Rattle.model.specs.Verb.{nextVerb}
+use Rattle.rules.specs.Refusal.{noInstructionLeft, settle}
+use Rattle.rules.specs.Action.{Action, instruction, move, check, effect}
+
+abbrev pub isNext : Step → Bool
+isNext s = eqb (s .verb) nextVerb
+
+-- instruction number n of the program
+unfoldable pub line : Program → ℕ → Action
+line p n = instruction (getD (p .instructions) n noInstruction)
+
+-- what the step does
+unfoldable pub action : Program → Configuration → Step → Action
+action p c s = cond (isNext s) (line p (c .done)) (move s)
+
+unfoldable pub number : ℕ → Tables → Program → Configuration → Step → ℕ
+number default t p c s = cond (isNext s && leb (p .count) (c .done)) noInstructionLeft (check default t c (action p c s))
+
+unfoldable pub after : Tables → Program → Configuration → Step → Configuration
+after t p c s = cond (isNext s) (withDone (effect t c (action p c s)) (suc (c .done))) (effect t c (action p c s))
+
+unfoldable pub step : ℕ → Tables → Program → Configuration → Step → Stepped
+step default t p c s = settle (number default t p c s) c (after t p c s)
