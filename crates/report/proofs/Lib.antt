@@ -1,0 +1,4 @@
+-- The report has at most 8,192 bytes (Bound): sums (Sums) of what each number and list takes (Widths).
+pub mod Sums
+pub mod Widths
+pub mod Bound

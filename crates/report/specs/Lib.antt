@@ -1,0 +1,3 @@
+-- Section 'The report and its program' of 01.
+pub mod Report
+pub mod Faults
