@@ -1,0 +1,72 @@
+-- What is computed from texts, all of it under one line: the marked cases of 01, and what tells the shams from the judge (Shams).
+-- Assumes nothing.
+use Prim.Native.Nat.{ℕ}
+use mathlib.Core.List.{List}
+use mathlib.Core.Path.{_≡_, refl}
+use lib.ListN.{length}
+use Rattle.sets.specs.Mask.{member, collect}
+use Rattle.sets.specs.Test.{all, any}
+use Rattle.model.specs.Empty.{noTables, noProgram, noAnswer, start}
+use Rattle.model.specs.View.{listOf, queueOf, put, withQueue, withConnections, withDone}
+use Rattle.forms.specs.Read.{key, digit, numberFrom, membersFrom, list, one, two, four, set, sets}
+use Rattle.forms.specs.Write.{digitsIn, numberText, membersBelow, moreText, listText, maskText, inTurn, oneText, twoText, threeText, fourText, setText, setsText}
+use Rattle.reading.specs.Fill.{headed, withType, withTransition, withPort, programOf, withInstruction, answerOf, withStep}
+use Rattle.reading.specs.Kinds.{dueLine, countLine, initialLine, tranLine, behaviorLine, group, portLine, doId, doNumber, doEnds, doLine, stepId, stepNumber, stepLine}
+use Rattle.reading.specs.Lines.{each}
+use Rattle.reading.specs.Place.{upToLf, lfs, lineNumber, lineStart}
+use Rattle.reading.specs.Texts.{tran, behavior, port, type, instruct, sheet, stepAt, answer}
+use Rattle.rules.specs.Action.{instruction, move, check, effect}
+use Rattle.rules.specs.Add.{addCheck, added}
+use Rattle.rules.specs.Closing.{down, closed, zeroed, renewed}
+use Rattle.rules.specs.Con.{isOf, isUsePort, isProvidePort, conCheck, connected}
+use Rattle.rules.specs.DCon.{sameConnection, first, dconCheck, disconnected}
+use Rattle.rules.specs.Del.{namedBy, delCheck, deleted}
+use Rattle.rules.specs.End.{endCheck, endTo}
+use Rattle.rules.specs.Enter.{enterRow, enterCheck, enterTo}
+use Rattle.rules.specs.Finish.{mayLeave, finishRow, finishCheck, finished}
+use Rattle.rules.specs.Fire.{fireRow, fireCheck, fireTo}
+use Rattle.rules.specs.Instance.{active, current, endsAt, leaving, entering, fired, endedBy, entered, withQueued}
+use Rattle.rules.specs.Ports.{someConnection, wouldLeave, refusing, serves, blocks, employs, failsUnserved, failsRefusing, failsInUse, portCheck}
+use Rattle.rules.specs.PushB.{pushbCheck, pushed}
+use Rattle.rules.specs.Step.{line, action, number, after, step}
+use Rattle.rules.specs.Wait.{waitCheck}
+use Rattle.rules.specs.Walk.{oneMore, walk, walkAnswer}
+use Rattle.report.specs.Faults.{textText, faultText}
+use Rattle.report.specs.Report.{tally, countText, instanceText, connectionText, instanceAt, connectionAt, instancesText, connectionsText, report}
+use Rattle.judged.specs.Course.{short, read, course}
+use Rattle.judged.specs.Judged.{Judgement, faultLine, faultPlace, afterFault, noRoom, stepPlace, afterWalk, inRoom, ending, judged, printing, printed}
+use Rattle.judged.specs.Cases.{P, nexts, steps, table, AllMet}
+use Rattle.judged.specs.Shams.{countOn, countingCourse}
+
+-- an answer of n times `next` and no more; the program P has five instructions
+abbrev pub only : ℕ → List ℕ
+only n = steps n n ""
+
+-- what comes of it: the two counts, and how many bytes the report and the print have
+pub record Told (n accepted refused size : ℕ) : Type 0 where
+  pub accepted-is : judged P (only n) 8192 .verdict .accepted ≡ accepted
+  pub refused-is : judged P (only n) 8192 .verdict .refused ≡ refused
+  pub written : length (judged P (only n) 8192 .bytes) ≡ size
+  pub prints : length (printed P (only n)) ≡ size
+
+-- what comes of it with the judge that walks the first step and then only counts
+abbrev pub counting : ℕ → Judgement
+counting n = ending P (only n) 8192 (countingCourse P (only n))
+
+pub record Computed : Type 0 where
+  pub marked : AllMet table
+  pub none : Told 0 0 0 54
+  pub six : Told 6 5 10 116
+  pub counted : (counting 6 .verdict .accepted ≡ 6) × (counting 6 .verdict .refused ≡ 0) × (length (counting 6 .bytes) ≡ 75)
+
+pub computed : Computed
+unfolding member collect all any noTables noProgram noAnswer start listOf queueOf put withQueue withConnections withDone key digit numberFrom membersFrom list one two four set sets digitsIn numberText membersBelow moreText listText maskText inTurn oneText twoText threeText fourText setText setsText headed withType withTransition withPort programOf withInstruction answerOf withStep dueLine countLine initialLine tranLine behaviorLine group portLine doId doNumber doEnds doLine stepId stepNumber stepLine each upToLf lfs lineNumber lineStart tran behavior port type instruct sheet stepAt answer instruction move check effect addCheck added down closed zeroed renewed isOf isUsePort isProvidePort conCheck connected sameConnection first dconCheck disconnected namedBy delCheck deleted endCheck endTo enterRow enterCheck enterTo mayLeave finishRow finishCheck finished fireRow fireCheck fireTo active current endsAt leaving entering fired endedBy entered withQueued someConnection wouldLeave refusing serves blocks employs failsUnserved failsRefusing failsInUse portCheck pushbCheck pushed line action number after step waitCheck oneMore walk walkAnswer textText faultText tally countText instanceText connectionText instanceAt connectionAt instancesText connectionsText report nexts short read course faultLine faultPlace afterFault noRoom stepPlace afterWalk inRoom ending judged printing printed countOn countingCourse
+computed = record {
+  marked = (refl, (refl, ((refl, refl), ((refl, refl), ((refl, refl), ((refl, refl), ((refl, refl), ((refl, refl), ((refl, refl), ((refl, refl), ((refl, refl), tt)))))))))));
+  none = record { accepted-is = refl; refused-is = refl; written = refl; prints = refl };
+  six = record { accepted-is = refl; refused-is = refl; written = refl; prints = refl };
+  counted = (refl, refl, refl);
+}
+
+pub marked-cases : AllMet table
+marked-cases = computed .marked

@@ -1,0 +1,5 @@
+-- The marked cases (Cases), room for every report (Room), the four shams told from the judge (Shams), no other outcome (Once).
+pub mod Cases
+pub mod Room
+pub mod Shams
+pub mod Once

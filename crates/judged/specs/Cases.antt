@@ -1,0 +1,72 @@
+-- The marked cases of 01, section 'The pair used in examples', as one table: the two texts and what they must come to.
+use Prim.Native.Nat.{ℕ, zero, suc}
+use Prim.Native.String.{String}
+use mathlib.Core.List.{List, [], _∷_, _++_}
+use mathlib.Core.Path.{_≡_}
+use Rattle.forms.specs.Reader.{bytes}
+use Rattle.forms.specs.Write.{oneText}
+use Rattle.judged.specs.Judged.{judged, printed}
+
+-- the pair used in examples, then the program
+abbrev pub pair : List ℕ
+pair = bytes "sheet=1\ndepth=0\ntypes=2\n"
+    ++ bytes "type=0\nplaces=2\ninitial=0\ntransitions=2\ntran=0,1\ntran=1,0\nbehaviors=2\nbehavior=0\nbehavior=1\nports=1\nport=provide,1,-\n"
+    ++ bytes "type=1\nplaces=2\ninitial=0\ntransitions=2\ntran=0,1\ntran=1,0\nbehaviors=2\nbehavior=0\nbehavior=1\nports=1\nport=use,1,0\n"
+
+abbrev pub five : List ℕ
+five = bytes "do=add,0,0\ndo=add,1,1\ndo=con,1,0,0,0\ndo=pushb,0,0\ndo=pushb,1,0\n"
+
+abbrev pub P : List ℕ
+P = pair ++ bytes "program=5\n" ++ five
+
+abbrev pub P+ : List ℕ
+P+ = pair ++ bytes "program=6\n" ++ five ++ bytes "do=pushb,0,1\n"
+
+-- n times `next`
+unfoldable pub nexts : ℕ → List ℕ
+nexts zero = []
+nexts (suc n) = bytes "step=next\n" ++ nexts n
+
+-- an answer of k steps: n times `next`, and further steps
+abbrev pub steps : ℕ → ℕ → String → List ℕ
+steps k n further = bytes "answer=1\nsteps=" ++ oneText k ++ nexts n ++ bytes further
+
+-- what a case must come to: the whole print, or the two counts
+pub data Expected : Type 0 where
+  prints : List ℕ → Expected
+  ends : ℕ → ℕ → Expected
+
+pub record Case : Type 0 where
+  pub sheet : List ℕ
+  pub answer : List ℕ
+  pub expected : Expected
+
+abbrev pub case : List ℕ → List ℕ → Expected → Case
+case s a e = record { sheet = s; answer = a; expected = e }
+
+abbrev pub wholeReport : List ℕ
+wholeReport = bytes "accepted=13\nrefused=0\nnext=5\ninstances=2\ninstance=0,0,1,-,-,-\ninstance=1,1,1,-,-,-\nconnections=1\nconnection=1,0,0,0\n"
+
+abbrev pub table : List Case
+table =
+    case P (steps 13 5 "step=fire,0,0\nstep=end,0,0\nstep=enter,0,1\nstep=fire,1,0\nstep=end,1,0\nstep=enter,1,1\nstep=finish,0\nstep=finish,1\n") (prints wholeReport)
+    ∷ case P (steps 13 5 "step=fire,0,0\nstep=end,0,0\nstep=enter,0,1\nstep=finish,0\nstep=fire,1,0\nstep=end,1,0\nstep=enter,1,1\nstep=finish,1\n") (prints wholeReport)
+    ∷ case P (steps 6 5 "step=fire,1,0\n") (ends 5 34)
+    ∷ case P+ (steps 11 6 "step=fire,0,0\nstep=end,0,0\nstep=enter,0,1\nstep=finish,0\nstep=fire,1,0\n") (ends 10 35)
+    ∷ case P+ (steps 12 6 "step=fire,0,0\nstep=end,0,0\nstep=enter,0,1\nstep=fire,1,0\nstep=finish,0\nstep=fire,0,1\n") (ends 11 36)
+    ∷ case P (steps 6 6 "") (ends 5 10)
+    ∷ case P (steps 6 5 "step=finish,1\n") (ends 5 37)
+    ∷ case P (steps 6 5 "step=fire,2,0\n") (ends 5 11)
+    ∷ case P (steps 6 5 "step=end,0,0\n") (ends 5 31)
+    ∷ case P (steps 6 5 "step=enter,0,1\n") (ends 5 31)
+    ∷ case P (steps 6 5 "step=enter,0,0\n") (ends 5 32)
+    ∷ []
+
+-- a case is met
+abbrev pub Met : List ℕ → List ℕ → Expected → Type 0
+Met s a (prints r) = printed s a ≡ r
+Met s a (ends n k) = (judged s a 8192 .verdict .accepted ≡ n) × (judged s a 8192 .verdict .refused ≡ k)
+
+abbrev pub AllMet : List Case → Type 0
+AllMet [] = Unit
+AllMet (k ∷ ks) = Met (k .sheet) (k .answer) (k .expected) × AllMet ks

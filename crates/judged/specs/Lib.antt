@@ -1,0 +1,7 @@
+-- Document 01 as one function (Course, Judged), its marked cases (Cases), and what the board asks of it (Room, Shams, Once).
+pub mod Course
+pub mod Judged
+pub mod Cases
+pub mod Room
+pub mod Shams
+pub mod Once

@@ -1,0 +1,20 @@
+// What the judge answers, as structs, and in specs/ document 01 as one function of the two texts and the room. No code.
+// Proved: the marked cases, that 6 never occurs with a room of 8,192, that the four shams are told apart, that no other outcome fits.
+use model::Text;
+
+// `refused` is the number or 0; `written` the bytes of the report; `text` and `line` are told for 1 to 5 alone.
+pub struct Verdict {
+    pub refused: u8,
+    pub accepted: usize,
+    pub next: usize,
+    pub written: usize,
+    pub text: Text,
+    pub line: usize,
+}
+
+// A part of the sheet or of the answer: where it starts, and how many bytes it has.
+pub struct Place {
+    pub text: Text,
+    pub start: usize,
+    pub size: usize,
+}
