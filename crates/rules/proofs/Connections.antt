@@ -217,6 +217,21 @@ joins-alike t c d k (up, uk) (pp, pk) j =
       provides = rw pk (j .provides);
     }
 
+-- an instance that a connection names stays present and of its type
+own-alike : (default : ℕ) (t : Tables) (c : Configuration) (a : Action) → check default t c a ≡ 0 → instance c (ownerOf a) .present ≡ true → someConnection c (namedBy (ownerOf a)) ≡ true
+    → changes a (ownerOf a) ≡ true → Alike (ownInstance t (instance c (ownerOf a)) (head c (ownerOf a)) a) (instance c (ownerOf a))
+unfolding check change touches owner self fired endedBy entered withQueued
+own-alike default t c (add i k) e here on q = absurd (false≢true (sym (add-facts c i e) ∙ here))
+own-alike default t c (del i) e here on q = absurd (false≢true (sym (del-facts c i e .unnamed) ∙ on))
+own-alike default t c (pushb i b) e here on q = (refl, refl)
+own-alike default t c (con k) e here on q = absurd (false≢true q)
+own-alike default t c (dcon k) e here on q = absurd (false≢true q)
+own-alike default t c (wait i) e here on q = absurd (false≢true q)
+own-alike default t c (fire i p) e here on q = (refl, refl)
+own-alike default t c (end i x) e here on q = (refl, refl)
+own-alike default t c (enter i p) e here on q = (refl, refl)
+own-alike default t c (finish i) e here on q = (refl, refl)
+
 -- the connections of c
 pub record Wired (t : Tables) (c : Configuration) : Type 0 where
   pub formed : WellFormed t c
@@ -274,27 +289,12 @@ module _ (default : ℕ) (t : Tables) (c : Configuration) (now : Wired t c) wher
   full-after (cut k) = length-closed noConnection (c .connections) (placeOf c k) (c .count) ∙ now .full
 
   module _ (a : Action) (ok : check default t c a ≡ 0) where
-    -- an instance that a connection names stays present and of its type
-    own-alike : (a : Action) → check default t c a ≡ 0 → instance c (ownerOf a) .present ≡ true → someConnection c (namedBy (ownerOf a)) ≡ true
-        → changes a (ownerOf a) ≡ true → Alike (ownInstance t (instance c (ownerOf a)) (head c (ownerOf a)) a) (instance c (ownerOf a))
-    unfolding check change touches owner self fired endedBy entered withQueued
-    own-alike (add i k) e here on q = absurd (false≢true (sym (add-facts c i e) ∙ here))
-    own-alike (del i) e here on q = absurd (false≢true (sym (del-facts c i e .unnamed) ∙ on))
-    own-alike (pushb i b) e here on q = (refl, refl)
-    own-alike (con k) e here on q = absurd (false≢true q)
-    own-alike (dcon k) e here on q = absurd (false≢true q)
-    own-alike (wait i) e here on q = absurd (false≢true q)
-    own-alike (fire i p) e here on q = (refl, refl)
-    own-alike (end i x) e here on q = (refl, refl)
-    own-alike (enter i p) e here on q = (refl, refl)
-    own-alike (finish i) e here on q = (refl, refl)
-
     alike-after : (j : ℕ) → instance c j .present ≡ true → (changes a j ≡ true → someConnection c (namedBy j) ≡ true) → Alike (instance (effect t c a) j) (instance c j)
     alike-after j here on =
         by-test (changes a j)
         (λ q. subst⁻¹ (λ (v : Instance). Alike v (instance c j)) (instance-own t c a j q (present-in c j here))
         (at-owner (λ (n : ℕ). instance c n .present ≡ true → someConnection c (namedBy n) ≡ true → Alike (ownInstance t (instance c n) (head c n) a) (instance c n)) a j q
-        (λ r h s. own-alike a ok h s r) here (on q)))
+        (λ r h s. own-alike default t c a ok h s r) here (on q)))
         (λ q. same-alike (instance-other t c a j q))
 
     named-before : (k : Connection) → Stands (rewired (wiringOf (change a)) (wires c)) k → (j : ℕ) → namedBy j k ≡ true → changes a j ≡ true → someConnection c (namedBy j) ≡ true

@@ -216,6 +216,15 @@ owner-is a j = go (change a)
 pub at-owner : (P : ℕ → Type 0) (a : Action) (j : ℕ) → changes a j ≡ true → (changes a (ownerOf a) ≡ true → P (ownerOf a)) → P j
 at-owner P a j e f = subst P (owner-is a j e) (f (subst⁻¹ (λ (n : ℕ). changes a n ≡ true) (owner-is a j e) e))
 
+-- the room of an instance that the action changes
+pub room-own : (c : Configuration) (a : Action) (j : ℕ) → changes a j ≡ true → Room c a → (j < 32) × Fits (turn (change a)) (instance c j .queued)
+unfolding touches turn Roomy
+room-own c a j = go (change a)
+  where
+    go : (x : Change) → touches x j ≡ true → Roomy c x → (j < 32) × Fits (turn x) (instance c j .queued)
+    go (part i u f) e r = subst (λ (n : ℕ). (n < 32) × Fits u (instance c n .queued)) (eqb-true i j e) r
+    go (wiring w) e r = absurd (false≢true e)
+
 -- an action changes one instance's part at most
 pub changes-one : (a : Action) (j n : ℕ) → changes a j ≡ true → n ≢ j → changes a n ≡ false
 unfolding touches
@@ -286,3 +295,8 @@ module _ (t : Tables) (c : Configuration) (a : Action) where
         go : (x : Change) → Roomy c x → touches x j ≡ false → slot (changed t c x) j r ≡ slot c j r
         go (part i u f) x e = turned-other c i (x .0) full u (instance c i .queued) (x .1) j r (λ q. eqb-false i j e (sym q)) h
         go (wiring w) x e = refl
+
+-- an action that changes an instance's part keeps the connections
+pub part-wires : (t : Tables) (c : Configuration) (a : Action) (j : ℕ) → changes a j ≡ true → wires (effect t c a) ≡ wires c
+unfolding rewired
+part-wires t c a j e = rest-after t c a .connections ∙ ap (λ (w : Wiring). rewired w (wires c)) (part-kept a j e)

@@ -32,7 +32,7 @@ use Rattle.rules.proofs.Actions.{not-add, move-no-add}
 use Rattle.rules.proofs.Tables.{Facts, facts}
 use Rattle.rules.proofs.Local.{shifted, appended, Change, part, wiring, change, touches, changes, owner, ownerOf, at-owner, self, ownInstance, turn, turnedSlot, ownSlot, Fits, Roomy, Room, instance-own, instance-other, slot-own, slot-other, rest-after}
 use Rattle.rules.proofs.Allowed.{pushb-facts, fire-facts, enter-facts, end-facts, finish-facts, owner-known, present-in}
-use Rattle.rules.proofs.Walks.{walk-keeps, number-facts}
+use Rattle.rules.proofs.Walks.{walk-keeps, number-facts, after-cases}
 use Rattle.rules.proofs.Connections.{joins-alike, wired-after}
 
 -- an `add` has an id below 32 and a type that exists
@@ -274,18 +274,10 @@ module _ (default : ℕ) (t : Tables) (p : Program) (law : Facts default t p) wh
       go false h q = absurd (not-add (move-no-add s) q)
 
   pub step-proper : (c : Configuration) (s : Step) → Proper default t p c → number default t p c s ≡ 0 → Proper default t p (after t p c s)
-  unfolding after
-  step-proper c s now e = go (isNext s) (facts-of .1)
-    where
-      facts-of : (check default t c (action p c s) ≡ 0) × (isNext s ≡ true → c .done < p .count)
-      facts-of = number-facts default t p c s e
-
-      there : Proper default t p (effect t c (action p c s))
-      there = action-proper default t p law c now (action p c s) (step-lawfully c s e) (facts-of .0)
-
-      go : (b : Bool) → (b ≡ true → c .done < p .count) → Proper default t p (cond b (withDone (effect t c (action p c s)) (suc (c .done))) (effect t c (action p c s)))
-      go true h = with-done default t p (effect t c (action p c s)) (suc (c .done)) (h refl) there
-      go false h = there
+  step-proper c s now e =
+      let (ok, left) = number-facts default t p c s e in
+      let there = action-proper default t p law c now (action p c s) (step-lawfully c s e) ok in
+      after-cases t p (Proper default t p) c s (λ n. with-done default t p (effect t c (action p c s)) (suc (c .done)) (left n) there) (λ n. there)
 
   -- from any proper configuration
   pub proper-from : (ss : List Step) (c : Configuration) → Proper default t p c → Proper default t p (walk default t p c ss .configuration)

@@ -2,7 +2,7 @@
 -- Assumes nothing.
 use mathlib.Core.Path.{_≡_, refl, ap, _∙_, subst⁻¹}
 use mathlib.Core.Logic.{_≢_, by-cases}
-use mathlib.Core.Bool.{Bool, true, false, _&&_, cond}
+use mathlib.Core.Bool.{true, false, _&&_, cond}
 use mathlib.Core.List.{List, [], _∷_}
 use Prim.Native.Nat.{ℕ, suc, _<_}
 use native.Mathlib.Decide.{ℕ-discrete}
@@ -16,6 +16,7 @@ use Rattle.model.specs.declared.Configuration.{Configuration}
 use Rattle.model.specs.declared.Stepped.{Stepped}
 use Rattle.model.specs.declared.Walked.{Walked}
 use Rattle.model.specs.View.{withDone}
+use Rattle.forms.proofs.Tests.{by-test}
 use Rattle.rules.specs.Action.{check, effect}
 use Rattle.rules.specs.Step.{isNext, action, number, after, step}
 use Rattle.rules.specs.Walk.{oneMore, walk}
@@ -92,14 +93,16 @@ module _ (default : ℕ) (t : Tables) (p : Program) where
       let (left, rest) = passes (isNext s && leb (p .count) (c .done)) _ e in
       (rest, λ n. leb-false (p .count) (c .done) (rw n at left))
 
-  -- the instructions done
-  pub after-done : (c : Configuration) (s : Step) → after t p c s .done ≡ cond (isNext s) (suc (c .done)) (c .done)
-  unfolding after withDone
-  after-done c s = go (isNext s)
-    where
-      go : (b : Bool) → cond b (withDone (effect t c (action p c s)) (suc (c .done))) (effect t c (action p c s)) .done ≡ cond b (suc (c .done)) (c .done)
-      go true = refl
-      go false = rest-after t c (action p c s) .done
+-- a claim on the configuration after an allowed step: `next` counts one more instruction
+pub after-cases : (t : Tables) (p : Program) (P : Configuration → Type 0) (c : Configuration) (s : Step)
+    → (isNext s ≡ true → P (withDone (effect t c (action p c s)) (suc (c .done)))) → (isNext s ≡ false → P (effect t c (action p c s))) → P (after t p c s)
+unfolding after
+after-cases t p P c s next move = by-test (isNext s) (λ e. rw e (next e)) (λ e. rw e (move e))
+
+-- the instructions done
+pub after-done : (t : Tables) (p : Program) (c : Configuration) (s : Step) → after t p c s .done ≡ cond (isNext s) (suc (c .done)) (c .done)
+unfolding withDone
+after-done t p c s = after-cases t p (λ d. d .done ≡ cond (isNext s) (suc (c .done)) (c .done)) c s (λ e. rw e) (λ e. rw e (rest-after t c (action p c s) .done))
 
 pub refused-changes-nothing : RefusedChangesNothing
 unfolding RefusedChangesNothing
