@@ -1,0 +1,101 @@
+-- Two lists of actions with the same projection for each component have the same actions, each as often: any test passes as many of them.
+-- Assumes nothing.
+use mathlib.Core.Path.{_≡_, refl, sym, ap, _∙_}
+use mathlib.Core.Bool.{Bool, true, false, false≢true}
+use mathlib.Core.List.{List, [], _∷_}
+use Prim.Native.Nat.{ℕ, suc}
+use native.Mathlib.Omega.{arith}
+use borrow.Author.Tests.{eq-eqb}
+use Rattle.forms.proofs.Tests.{by-test}
+use Rattle.rules.specs.Action.{Action, add, del, pushb, con, dcon, wait, fire, end, enter, finish}
+use Rattle.demands.specs.Agree.{names, naming}
+
+-- one more where the test passes
+unfoldable pub more : Bool → ℕ → ℕ
+more true n = suc n
+more false n = n
+
+more-swap : (a b : Bool) (n : ℕ) → more a (more b n) ≡ more b (more a n)
+unfolding more
+more-swap true true n = refl
+more-swap true false n = refl
+more-swap false b n = refl
+
+-- how many pass the test
+unfoldable pub count : (Action → Bool) → List Action → ℕ
+count f [] = 0
+count f (a ∷ ds) = more (f a) (count f ds)
+
+naming-has : (i : ℕ) (a : Action) (ds : List Action) → names a i ≡ true → naming i (a ∷ ds) ≡ a ∷ naming i ds
+unfolding naming
+naming-has i a ds e = rw (e, naming)
+
+naming-not : (i : ℕ) (a : Action) (ds : List Action) → names a i ≡ false → naming i (a ∷ ds) ≡ naming i ds
+unfolding naming
+naming-not i a ds e = rw (e, naming)
+
+-- each action names a component
+someone : (a : Action) → (i : ℕ) × (names a i ≡ true)
+unfolding names
+someone (add i k) = (i, eq-eqb i i refl)
+someone (del i) = (i, eq-eqb i i refl)
+someone (pushb i b) = (i, eq-eqb i i refl)
+someone (con k) = (k .user, rw (eq-eqb (k .user) (k .user) refl))
+someone (dcon k) = (k .user, rw (eq-eqb (k .user) (k .user) refl))
+someone (wait i) = (i, eq-eqb i i refl)
+someone (fire i p) = (i, eq-eqb i i refl)
+someone (end i x) = (i, eq-eqb i i refl)
+someone (enter i p) = (i, eq-eqb i i refl)
+someone (finish i) = (i, eq-eqb i i refl)
+
+-- a taken out of the actions ds, from before all that name one of its components
+record TakenOut (a : Action) (ds : List Action) : Type 0 where
+  rest : List Action
+  counted : (f : Action → Bool) → count f ds ≡ more (f a) (count f rest)
+  others : (j : ℕ) → names a j ≡ false → naming j ds ≡ naming j rest
+  named : (j : ℕ) → names a j ≡ true → (r : List Action) → naming j ds ≡ a ∷ r → naming j rest ≡ r
+
+take-out : (a : Action) (i : ℕ) → names a i ≡ true → (ds : List Action) (r : List Action) → naming i ds ≡ a ∷ r → TakenOut a ds
+unfolding naming count
+take-out a i e [] r q = absurd (let z : _≡_ {A = ℕ} 0 1 = cc in omega arith)
+take-out a i e (b ∷ ds) r q = by-test (names b i) here (λ n. later n (take-out a i e ds r (sym (naming-not i b ds n) ∙ q)))
+  where
+    first : (b : Action) (j : ℕ) (r : List Action) → names b j ≡ true → naming j (b ∷ ds) ≡ a ∷ r → b ≡ a
+    first b j r n q = let f = naming-has j b ds n in cc
+
+    here : names b i ≡ true → TakenOut a (b ∷ ds)
+    here n =
+        let same = first b i r n q in
+        record {
+          rest = ds;
+          counted = λ f. ap (λ (x : Action). more (f x) (count f ds)) same;
+          others = λ j m. naming-not j b ds (rw same m);
+          named = λ j m r q. let f = naming-has j b ds (rw same m) in cc;
+        }
+
+    later : names b i ≡ false → TakenOut a ds → TakenOut a (b ∷ ds)
+    later n x =
+        record {
+          rest = b ∷ x .rest;
+          counted = λ f. ap (more (f b)) (x .counted f) ∙ more-swap (f b) (f a) (count f (x .rest));
+          others = λ j m.
+              by-test (names b j) (λ y. naming-has j b ds y ∙ ap (λ (l : List Action). b ∷ l) (x .others j m) ∙ sym (naming-has j b (x .rest) y))
+              (λ y. naming-not j b ds y ∙ x .others j m ∙ sym (naming-not j b (x .rest) y));
+          named = λ j m r q.
+              by-test (names b j) (λ y. absurd (false≢true (sym n ∙ ap (λ (d : Action). names d i) (first b j r y q) ∙ e)))
+              (λ y. naming-not j b (x .rest) y ∙ x .named j m r (sym (naming-not j b ds y) ∙ q));
+        }
+
+pub same-count : (f : Action → Bool) (ds es : List Action) → ((i : ℕ) → naming i ds ≡ naming i es) → count f ds ≡ count f es
+unfolding naming count
+same-count f [] [] same = refl
+same-count f [] (b ∷ es) same = let (i, e) = someone b in absurd (let x = naming-has i b es e in let y = same i in let z : _≡_ {A = ℕ} 0 1 = cc in omega arith)
+same-count f (a ∷ ds) es same =
+    let (i, e) = someone a in
+    let x = take-out a i e es (naming i ds) (sym (same i) ∙ naming-has i a ds e) in
+    ap (more (f a)) (same-count f ds (x .rest) (λ j. alike x j)) ∙ sym (x .counted f)
+  where
+    alike : (x : TakenOut a es) (j : ℕ) → naming j ds ≡ naming j (x .rest)
+    alike x j =
+        by-test (names a j) (λ n. sym (x .named j n (naming j ds) (sym (same j) ∙ naming-has j a ds n)))
+        (λ n. sym (naming-not j a ds n) ∙ same j ∙ x .others j n)

@@ -1,0 +1,43 @@
+-- "And exchanging two neighbouring moves, of two components with no connection between them at that point, leaves such an answer allowed
+-- throughout."
+use mathlib.Core.Path.{_≡_}
+use mathlib.Core.Logic.{_≢_}
+use mathlib.Core.Bool.{Bool, false, _&&_, _||_}
+use mathlib.Core.List.{List, _∷_, _++_}
+use Prim.Native.Nat.{ℕ, _≤_}
+use lib.Dec.{eqb}
+use Rattle.model.specs.declared.Tables.{Tables}
+use Rattle.model.specs.declared.Program.{Program}
+use Rattle.model.specs.declared.Step.{Step}
+use Rattle.model.specs.declared.Connection.{Connection}
+use Rattle.model.specs.Empty.{start}
+use Rattle.reading.specs.Lawful.{Lawful}
+use Rattle.rules.specs.Ports.{someConnection}
+use Rattle.rules.specs.Step.{isNext}
+use Rattle.rules.specs.Walk.{walk}
+
+-- all steps are allowed
+abbrev pub Allowed : ℕ → Tables → Program → List Step → Type 0
+Allowed default t p ss = walk default t p start ss .refused ≡ 0
+
+-- the connection is one between i and j
+unfoldable pub between : ℕ → ℕ → Connection → Bool
+between i j k = (eqb (k .user) i && eqb (k .provider) j) || (eqb (k .user) j && eqb (k .provider) i)
+
+-- m and n are moves of two components, which have no connection between them where the steps `before` lead
+pub record Exchangeable (default : ℕ) (t : Tables) (p : Program) (before : List Step) (m n : Step) : Type 0 where
+  pub first : isNext m ≡ false
+  pub second : isNext n ≡ false
+  pub two : m .id ≢ n .id
+  pub unconnected : someConnection (walk default t p start before .configuration) (between (m .id) (n .id)) ≡ false
+
+-- allowed throughout, and with the same outcome: the steps accepted and every slot of the configuration reached
+unfoldable pub MovesExchange : Type 0
+MovesExchange =
+    (default : ℕ) (t : Tables) (p : Program) (before after : List Step) (m n : Step)
+    → default ≤ 8
+    → Lawful t p
+    → Exchangeable default t p before m n
+    → Allowed default t p (before ++ m ∷ n ∷ after)
+    → Allowed default t p (before ++ n ∷ m ∷ after)
+    × (walk default t p start (before ++ n ∷ m ∷ after) ≡ walk default t p start (before ++ m ∷ n ∷ after))

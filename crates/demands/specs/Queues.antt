@@ -1,0 +1,61 @@
+-- "the behaviors a component has finished since it was added, followed by those still queued, are those pushed to it since then, in that
+-- order."
+use mathlib.Core.Path.{_≡_}
+use mathlib.Core.Bool.{true, false, cond}
+use mathlib.Core.List.{List, [], _∷_, _++_}
+use Prim.Native.Nat.{ℕ, _≤_}
+use lib.Dec.{eqb}
+use Rattle.model.specs.declared.Tables.{Tables}
+use Rattle.model.specs.declared.Program.{Program}
+use Rattle.model.specs.declared.Step.{Step}
+use Rattle.model.specs.declared.Configuration.{Configuration}
+use Rattle.model.specs.Empty.{start}
+use Rattle.model.specs.View.{head, queueOf}
+use Rattle.reading.specs.Lawful.{Lawful}
+use Rattle.rules.specs.Action.{Action, add, del, pushb, con, dcon, wait, fire, end, enter, finish}
+use Rattle.rules.specs.Step.{action, number, after}
+use Rattle.rules.specs.Walk.{walk}
+
+-- what was pushed to a component and what it finished, since it was added
+pub record Story (A : Type 0) : Type 0 where
+  pub pushed : List A
+  pub finished : List A
+
+abbrev pub nothing : {A : Type 0} → Story A
+nothing = record { pushed = []; finished = [] }
+
+abbrev pub morePushed : {A : Type 0} → A → Story A → Story A
+morePushed b h = record { pushed = h .pushed ++ (b ∷ []); finished = h .finished }
+
+abbrev pub moreFinished : {A : Type 0} → A → Story A → Story A
+moreFinished b h = record { pushed = h .pushed; finished = h .finished ++ (b ∷ []) }
+
+-- the story of component i goes on with the action carried out at c: `finish` finishes the head there
+unfoldable pub tell : Configuration → ℕ → Action → Story ℕ → Story ℕ
+tell c i (add j k) h = cond (eqb j i) nothing h
+tell c i (pushb j b) h = cond (eqb j i) (morePushed b h) h
+tell c i (finish j) h = cond (eqb j i) (moreFinished (head c i) h) h
+tell c i (del j) h = h
+tell c i (con k) h = h
+tell c i (dcon k) h = h
+tell c i (wait j) h = h
+tell c i (fire j p) h = h
+tell c i (end j x) h = h
+tell c i (enter j p) h = h
+
+-- over the accepted steps
+unfoldable pub story : ℕ → Tables → Program → ℕ → Configuration → List Step → Story ℕ → Story ℕ
+story default t p i c [] h = h
+story default t p i c (s ∷ ss) h =
+    elim (eqb (number default t p c s) 0) [
+      | true ↦ story default t p i (after t p c s) ss (tell c i (action p c s) h)
+      | false ↦ h
+    ]
+
+unfoldable pub QueuesAreKept : Type 0
+QueuesAreKept =
+    (default : ℕ) (t : Tables) (p : Program) (ss : List Step) (i : ℕ)
+    → default ≤ 8
+    → Lawful t p
+    → story default t p i start ss nothing .finished ++ queueOf (walk default t p start ss .configuration) i
+    ≡ story default t p i start ss nothing .pushed
