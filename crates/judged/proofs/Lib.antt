@@ -1,5 +1,6 @@
 -- The marked cases (Cases), room for every report (Room), the four shams told from the judge (Shams), no other outcome (Once).
 pub mod Cases
+pub mod Read
 pub mod Room
 pub mod Shams
 pub mod Once
