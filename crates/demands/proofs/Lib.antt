@@ -5,3 +5,6 @@ pub mod Moves
 pub mod Exchange
 pub mod Traces
 pub mod Agree
+pub mod OnTexts
+pub mod Alone
+pub mod Needed

@@ -1,1 +1,2 @@
-// Statements only: the board's demands 2 and 3 of the rules, for every lawful sheet and every list of steps: Safe, Queues, Exchange, Agree. Proved in proofs/, and nothing here is run.
+// Statements only: the board's demands 2 and 3, of the rules (Safe, Queues, Exchange, Agree) and of the two texts themselves (OnTexts).
+// Proved in proofs/ for every sheet and every answer that are read; Needed and Alone say why they are worded so.

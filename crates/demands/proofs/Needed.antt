@@ -1,0 +1,166 @@
+-- Each variant of a rule fails a demand on its example, and with the rules' own notions the variant is the rule.
+-- Assumes nothing.
+use Prim.Native.Nat.{ℕ, _<_}
+use mathlib.Core.Bool.{true, false, not, _&&_, true≢false}
+use mathlib.Core.List.{List, [], _∷_}
+use mathlib.Core.Path.{_≡_, refl, ap, ap₂, _∙_}
+use native.Mathlib.Omega.{arith}
+use lib.Dec.{eqb, ltb}
+use lib.ListN.{getD}
+use borrow.Author.Tests.{ltb-true, not-true, eq-eqb}
+use Rattle.sets.proofs.Laws.{any-none}
+use Rattle.forms.proofs.Tests.{by-test, and-left, and-right}
+use Rattle.model.specs.declared.Tables.{Tables}
+use Rattle.model.specs.declared.Program.{Program}
+use Rattle.model.specs.declared.Step.{Step}
+use Rattle.model.specs.declared.Instance.{Instance}
+use Rattle.model.specs.declared.Configuration.{Configuration}
+use Rattle.model.specs.declared.Stepped.{Stepped}
+use Rattle.model.specs.declared.Walked.{Walked}
+use Rattle.sets.specs.Mask.{member, collect}
+use Rattle.sets.specs.Test.{all, any}
+use Rattle.model.specs.Empty.{noTables, noProgram, noAnswer, start}
+use Rattle.model.specs.View.{listOf, queueOf, put, withQueue, withConnections, withDone}
+use Rattle.forms.specs.Reader.{byte}
+use Rattle.forms.specs.Read.{key, digit, numberFrom, membersFrom, list, one, two, four, set, sets}
+use Rattle.forms.specs.Write.{digitsIn, numberText, membersBelow, moreText, listText, maskText, inTurn, oneText}
+use Rattle.reading.specs.Fill.{headed, withType, withTransition, withPort, programOf, withInstruction, answerOf, withStep}
+use Rattle.reading.specs.Kinds.{dueLine, countLine, initialLine, tranLine, behaviorLine, group, portLine, doId, doNumber, doEnds, doLine, stepId, stepNumber, stepLine}
+use Rattle.reading.specs.Lines.{each}
+use Rattle.reading.specs.Texts.{tran, behavior, port, type, instruct, sheet, stepAt, answer}
+use Rattle.rules.specs.Action.{instruction, move, check, effect}
+use Rattle.rules.specs.Add.{addCheck, added}
+use Rattle.rules.specs.Closing.{down, closed, zeroed, renewed}
+use Rattle.rules.specs.Con.{isOf, isUsePort, isProvidePort, conCheck, connected}
+use Rattle.rules.specs.End.{endCheck, endTo}
+use Rattle.rules.specs.Enter.{enterRow, enterCheck, enterTo}
+use Rattle.rules.specs.Finish.{mayLeave, finishRow, finishCheck, finished}
+use Rattle.rules.specs.Fire.{fireRow, fireCheck, fireTo}
+use Rattle.rules.specs.Instance.{active, current, endsAt, leaving, entering, fired, endedBy, entered, withQueued}
+use Rattle.rules.specs.Ports.{someConnection, wouldLeave, refusing, serves, blocks, employs, failsUnserved, failsRefusing, failsInUse, portCheck}
+use Rattle.rules.specs.PushB.{pushbCheck, pushed}
+use Rattle.rules.specs.Step.{line, action, number, after, step}
+use Rattle.rules.specs.Wait.{waitCheck}
+use Rattle.rules.specs.Walk.{oneMore, walk, walkAnswer}
+use Rattle.report.specs.Report.{tally, countText, instanceText, instanceAt, connectionAt, instancesText, connectionsText, report}
+use Rattle.judged.specs.Cases.{nexts}
+use Rattle.judged.specs.Course.{short, read, course}
+use Rattle.judged.specs.Judged.{afterWalk, inRoom, ending, judged, printing, printed}
+use Rattle.rules.specs.Refusal.{serviceInUse}
+use Rattle.rules.specs.Action.{Action, add, del, pushb, con, dcon, wait, fire, end, enter, finish}
+use Rattle.model.specs.View.{isUse, instance, connection}
+use Rattle.rules.specs.Instance.{portsOf}
+use Rattle.judged.specs.Cases.{P+}
+use Rattle.demands.specs.Agree.{names, deeds, naming}
+use Rattle.demands.specs.Exchange.{between}
+use Rattle.demands.specs.OnTexts.{tablesIn, programIn, stepsIn, AllAllowed}
+use Rattle.demands.specs.Safe.{Safe}
+use Rattle.demands.specs.Needed.{Variant, portCheckBy, checkBy, stepBy, walkBy, asRuled, AsRuledIsTheRule, walkedBy, withoutInUse, leftInUse, endedNotHeld, leftAfterEnd, isWait, withoutWaits, addWait, onward, Unsafe, InUseIsNeeded, EndedHeldIsNeeded, WaitIsNeeded, TokensAloneIsNeeded}
+
+-- ---- with the rules' own notions
+
+port-check-as-ruled : (t : Tables) (c : Configuration) (i : ℕ) (v w : Instance) → portCheckBy asRuled t c i v w ≡ portCheck t c i v w
+unfolding portCheckBy portCheck failsUnserved failsRefusing failsInUse serves blocks employs
+port-check-as-ruled t c i v w = refl
+
+check-as-ruled : (default : ℕ) (t : Tables) (c : Configuration) (a : Action) → checkBy asRuled default t c a ≡ check default t c a
+unfolding checkBy check fireCheck enterCheck
+check-as-ruled default t c (fire i p) = rw port-check-as-ruled
+check-as-ruled default t c (enter i p) = rw port-check-as-ruled
+check-as-ruled default t c (add i k) = refl
+check-as-ruled default t c (del i) = refl
+check-as-ruled default t c (pushb i b) = refl
+check-as-ruled default t c (con k) = refl
+check-as-ruled default t c (dcon k) = refl
+check-as-ruled default t c (wait i) = refl
+check-as-ruled default t c (end i x) = refl
+check-as-ruled default t c (finish i) = refl
+
+step-as-ruled : (default : ℕ) (t : Tables) (p : Program) (c : Configuration) (s : Step) → stepBy asRuled default t p c s ≡ step default t p c s
+unfolding stepBy step number
+step-as-ruled default t p c s = rw check-as-ruled
+
+walk-as-ruled : (default : ℕ) (t : Tables) (p : Program) (c : Configuration) (ss : List Step) → walkBy asRuled default t p c ss ≡ walk default t p c ss
+unfolding walkBy walk
+walk-as-ruled default t p c [] = refl
+walk-as-ruled default t p c (s ∷ ss) =
+    let e = step-as-ruled default t p c s in
+    ap₂ goesOn e (ap (λ (x : Stepped). walkBy asRuled default t p (x .configuration) ss) e ∙ walk-as-ruled default t p (step default t p c s .configuration) ss)
+  where
+    goesOn : Stepped → Walked → Walked
+    goesOn x w = elim (eqb (x .refused) 0) [ true ↦ oneMore w | false ↦ record { accepted = 0; refused = x .refused; configuration = x .configuration } ]
+
+pub as-ruled-is-the-rule : AsRuledIsTheRule
+unfolding AsRuledIsTheRule
+as-ruled-is-the-rule = (port-check-as-ruled, walk-as-ruled)
+
+-- ---- what the examples come to
+
+-- on the sheet P+ the variant x leaves the use port 0 of instance 1 active and unserved
+record Leaves (x : Variant) (a : List ℕ) : Type 0 where
+  ruled : walkedBy asRuled P+ a .refused ≡ serviceInUse
+  allows : walkedBy x P+ a .refused ≡ 0
+  present : instance (walkedBy x P+ a .configuration) 1 .present ≡ true
+  port : ltb 0 (portsOf (tablesIn P+) (instance (walkedBy x P+ a .configuration) 1)) ≡ true
+  fails : failsUnserved (tablesIn P+) (walkedBy x P+ a .configuration) 1 (instance (walkedBy x P+ a .configuration) 1) 0 ≡ true
+
+-- so many times `next` on the sheet addWait are allowed, carry this out, and print `accepted=` and this digit
+record Waits (n : ℕ) (did : List Action) (digit : ℕ) : Type 0 where
+  allows : AllAllowed addWait (onward n)
+  does : deeds (programIn addWait) 0 (stepsIn (onward n)) ≡ did
+  prints : getD (printed addWait (onward n)) 9 0 ≡ digit
+
+record Computed : Type 0 where
+  in-use : Leaves withoutInUse leftInUse
+  ended : Leaves endedNotHeld leftAfterEnd
+  once : Waits 1 (add 0 0 ∷ []) (byte "1")
+  twice : Waits 2 (add 0 0 ∷ wait 0 ∷ []) (byte "2")
+  tokens : TokensAloneIsNeeded
+
+computed : Computed
+unfolding member collect all any noTables noProgram noAnswer start listOf queueOf put withQueue withConnections withDone key digit numberFrom membersFrom list one two four set sets digitsIn numberText membersBelow moreText listText maskText inTurn oneText headed withType withTransition withPort programOf withInstruction answerOf withStep dueLine countLine initialLine tranLine behaviorLine group portLine doId doNumber doEnds doLine stepId stepNumber stepLine each tran behavior port type instruct sheet stepAt answer instruction move check effect addCheck added down closed zeroed renewed isOf isUsePort isProvidePort conCheck connected endCheck endTo enterRow enterTo mayLeave finishRow finishCheck finished fireRow fireTo active current endsAt leaving entering fired endedBy entered withQueued someConnection wouldLeave refusing serves blocks employs failsUnserved failsRefusing failsInUse portCheck pushbCheck pushed line action number after step waitCheck oneMore walk walkAnswer tally countText instanceText instanceAt connectionAt instancesText connectionsText report nexts short read course afterWalk inRoom ending judged printing printed deeds between portCheckBy checkBy stepBy walkBy tablesIn programIn stepsIn TokensAloneIsNeeded
+computed = record {
+  in-use = record { ruled = refl; allows = refl; present = refl; port = refl; fails = refl };
+  ended = record { ruled = refl; allows = refl; present = refl; port = refl; fails = refl };
+  once = record { allows = refl; does = refl; prints = refl };
+  twice = record { allows = refl; does = refl; prints = refl };
+  tokens = (refl, refl, refl);
+}
+
+-- ---- the demands that fail
+
+-- a use port that fails 34 as things stand
+unserved-not-safe : (t : Tables) (c : Configuration) (i q : ℕ) → instance c i .present ≡ true → q < portsOf t (instance c i) → failsUnserved t c i (instance c i) q ≡ true → ¬ Safe t c
+unfolding Safe failsUnserved someConnection serves
+unserved-not-safe t c i q here port fails safe =
+    let uses = isUse t (instance c i .kind) q in
+    let runs = active t (instance c i) q in
+    let idle = not (someConnection c (serves t c i q)) in
+    let rest = and-right uses (runs && idle) fails in
+    let s = safe i q here port (and-left uses (runs && idle) fails) (and-left runs idle rest) in
+    let served = any-none (c .count) (λ l. serves t c i q (connection c l)) (not-true _ (and-right runs idle rest)) (s .at) (s .stands) in
+    true≢false (rw (s .user, s .useport, s .provider, eq-eqb i i refl, eq-eqb q q refl) at served)
+
+left-unsafe : {x : Variant} {a : List ℕ} → Leaves x a → Unsafe x P+ a
+left-unsafe h = (h .ruled, h .allows, unserved-not-safe _ _ 1 0 (h .present) (ltb-true 0 _ (h .port)) (h .fails))
+
+pub in-use-is-needed : InUseIsNeeded
+unfolding InUseIsNeeded
+in-use-is-needed = left-unsafe (computed .in-use)
+
+pub ended-held-is-needed : EndedHeldIsNeeded
+unfolding EndedHeldIsNeeded
+ended-held-is-needed = left-unsafe (computed .ended)
+
+pub wait-is-needed : WaitIsNeeded
+unfolding WaitIsNeeded names naming withoutWaits isWait
+wait-is-needed =
+    let one = computed .once in
+    let two = computed .twice in
+    (one .allows, two .allows, λ i. rw (one .does, two .does) (same i), λ e. omega (arith, one .prints, two .prints, ap (λ xs. getD xs 9 0) e))
+  where
+    same : (i : ℕ) → withoutWaits (naming i (add 0 0 ∷ [])) ≡ withoutWaits (naming i (add 0 0 ∷ wait 0 ∷ []))
+    same i = by-test (eqb 0 i) (λ e. rw (e, naming, e)) (λ e. rw (e, naming, e))
+
+pub tokens-alone-is-needed : TokensAloneIsNeeded
+tokens-alone-is-needed = computed .tokens

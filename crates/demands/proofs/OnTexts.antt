@@ -1,0 +1,107 @@
+-- Demands 2 and 3 on the texts: what is read is the walk of lawful tables, so each follows from its theorem about walks.
+-- Assumes nothing.
+use Prim.Native.Nat.{ℕ}
+use mathlib.Core.List.{List}
+use mathlib.Core.Path.{_≡_, refl, sym, ap, _∙_}
+use native.Mathlib.Omega.{arith}
+use lib.Dec.{leb}
+use lib.ListN.{length}
+use borrow.Author.Tests.{le-leb}
+use Rattle.forms.proofs.Tests.{by-test}
+use Rattle.model.specs.declared.Walked.{Walked}
+use Rattle.model.specs.declared.Text.the-variants as text
+use Rattle.reading.specs.Lawful.{Lawful, SheetsAreLawful}
+use Rattle.reading.proofs.Lawful.{sheets-are-lawful}
+use Rattle.rules.specs.Walk.{walkAnswer}
+use Rattle.report.specs.Report.{report}
+use Rattle.judged.specs.Course.{Course, faulty, reached, default, course}
+use Rattle.judged.specs.Judged.{afterFault, afterWalk, inRoom, ending, judged, printing, printed}
+use Rattle.judged.specs.Room.{ReportsFit}
+use Rattle.judged.proofs.Read.{both-read, fault-numbered}
+use Rattle.judged.proofs.Room.{reports-fit}
+use Rattle.demands.specs.OnTexts.{tablesIn, programIn, stepsIn, Reads, AllAllowed, walkOn, upTo, ReachedIsTheWalk, SafeOnTexts, QueuesOnTexts, SameReports, ReportsAgreeOnTexts, MovesExchangeOnTexts}
+use Rattle.demands.specs.Safe.{WalksAreSafe}
+use Rattle.demands.specs.Queues.{QueuesAreKept}
+use Rattle.demands.specs.Exchange.{MovesExchange}
+use Rattle.demands.specs.Agree.{ReportsAgree}
+use Rattle.demands.proofs.Safe.{walks-are-safe}
+use Rattle.demands.proofs.Queues.{queues-are-kept}
+use Rattle.demands.proofs.Exchange.{moves-exchange}
+use Rattle.demands.proofs.Agree.{reports-agree}
+
+-- ---- what two texts come to
+
+pub reached-is-the-walk : ReachedIsTheWalk
+unfolding ReachedIsTheWalk walkAnswer tablesIn programIn stepsIn
+reached-is-the-walk s a w e = let b = both-read s a w e in b .walked ∙ rw (b .sheet-is, b .answer-is, tablesIn, programIn, stepsIn)
+
+-- the walk is reached, and the sheet is lawful
+record Goes (s a : List ℕ) : Type 0 where
+  is : course s a ≡ reached (walkOn s (stepsIn a))
+  lawful : Lawful (tablesIn s) (programIn s)
+
+read-goes : (s a : List ℕ) → Reads s a → Goes s a
+unfolding ReachedIsTheWalk tablesIn programIn SheetsAreLawful
+read-goes s a (w, e) =
+    let b = both-read s a w e in
+    record {
+      is = e ∙ ap reached (reached-is-the-walk s a w e);
+      lawful = rw (b .sheet-is, tablesIn, programIn) (sheets-are-lawful s _ _ _ (b .sheet-is));
+    }
+
+-- ---- what the judge makes of it
+
+-- the number is the walk's: there is room for the report
+number-is : (s a : List ℕ) (w : Walked) → course s a ≡ reached w → judged s a 8192 .verdict .refused ≡ w .refused
+unfolding judged ending inRoom afterWalk ReportsFit
+number-is s a w e = rw (e, ending, le-leb (length (report w)) 8192 (reports-fit s a w e), inRoom)
+
+allowed-reads : (s a : List ℕ) → AllAllowed s a → Reads s a
+unfolding judged ending afterFault
+allowed-reads s a = go (course s a) refl
+  where
+    go : (z : Course Walked) → course s a ≡ z → ending s a 8192 z .verdict .refused ≡ 0 → Reads s a
+    go (faulty x n at) e q = absurd (let l = fault-numbered s a x n at e in omega arith)
+    go (reached w) e q = (w, e)
+
+allowed-goes : (s a : List ℕ) → AllAllowed s a → Goes s a × (walkOn s (stepsIn a) .refused ≡ 0)
+allowed-goes s a q = let g = read-goes s a (allowed-reads s a q) in (g, sym (number-is s a _ (g .is)) ∙ q)
+
+-- in any room only the place of the offending line looks at the answer
+alike-in-room : (room : ℕ) (w : Walked) (a b r : List ℕ) → (inRoom room w r a .verdict ≡ inRoom room w r b .verdict) × (inRoom room w r a .bytes ≡ inRoom room w r b .bytes)
+unfolding inRoom afterWalk
+alike-in-room room w a b r = by-test (leb (length r) room) (λ e. rw (e, inRoom) (refl, refl)) (λ e. rw (e, inRoom) (refl, refl))
+
+alike-where-reached : (s a b : List ℕ) (w : Walked) → course s a ≡ reached w → course s b ≡ reached w → SameReports s a b
+unfolding judged ending printed printing
+alike-where-reached s a b w e f = record {
+  printed-alike = rw (e, f, printing) (alike-in-room 8192 w a b (report w) .1);
+  verdicts-alike = λ room. rw (e, f, ending) (alike-in-room room w a b (report w) .0);
+  bytes-alike = λ room. rw (e, f, ending) (alike-in-room room w a b (report w) .1);
+}
+
+-- ---- the demands
+
+pub safe-on-texts : SafeOnTexts
+unfolding SafeOnTexts WalksAreSafe
+safe-on-texts s a n r = walks-are-safe default (tablesIn s) (programIn s) (upTo n a) (omega arith) (read-goes s a r .lawful)
+
+pub queues-on-texts : QueuesOnTexts
+unfolding QueuesOnTexts QueuesAreKept
+queues-on-texts s a n i r = queues-are-kept default (tablesIn s) (programIn s) (upTo n a) i (omega arith) (read-goes s a r .lawful)
+
+pub reports-agree-on-texts : ReportsAgreeOnTexts
+unfolding ReportsAgreeOnTexts ReportsAgree
+reports-agree-on-texts s a b p q same =
+    let (g, x) = allowed-goes s a p in
+    let (h, y) = allowed-goes s b q in
+    let e = reports-agree default (tablesIn s) (programIn s) (stepsIn a) (stepsIn b) (omega arith) (g .lawful) x y same in
+    alike-where-reached s a b _ (g .is) (h .is ∙ ap reached (sym e))
+
+pub moves-exchange-on-texts : MovesExchangeOnTexts
+unfolding MovesExchangeOnTexts MovesExchange
+moves-exchange-on-texts s a b x p r =
+    let (g, y) = allowed-goes s a p in
+    let h = read-goes s b r in
+    let (still, e) = moves-exchange default (tablesIn s) (programIn s) (x .before) (x .after) (x .m) (x .n) (omega arith) (g .lawful) (x .exchangeable) (rw (x .these) at y) in
+    (number-is s b _ (h .is) ∙ rw (x .those) still, alike-where-reached s a b _ (g .is) (h .is ∙ ap reached (rw (x .those, x .these) e)))
