@@ -1,0 +1,65 @@
+-- The tests of places, connections and ports, as values. Each goes to its definition in rules/specs.
+use mathlib.Core.Bool.{Bool, not, _&&_}
+use Prim.Native.Nat.{ℕ}
+use lib.Dec.{eqb}
+use Rattle.model.specs.declared.Tables.{Tables}
+use Rattle.model.specs.declared.Instance.{Instance}
+use Rattle.model.specs.declared.Connection.{Connection}
+use Rattle.model.specs.declared.Configuration.{Configuration}
+use Rattle.model.specs.View.{instance}
+use Rattle.rules.specs.Instance.{active}
+use Rattle.rules.specs.Ports.{behavior, wouldLeave, refusing, serves, blocks, employs, failsUnserved, failsRefusing, failsInUse}
+use Rattle.rules.specs.Finish.{mayLeave}
+use Rattle.ports.specs.declared.instance.PlaceTest.{PlaceTest}
+use Rattle.ports.specs.declared.connections.ConnectionTest.{ConnectionTest}
+use Rattle.ports.specs.declared.connections.Ends.{Ends}
+use Rattle.ports.specs.declared.PortTest.{PortTest}
+
+-- of a place, where m is the current behavior
+unfoldable pub leaves : PlaceTest → Tables → Instance → ℕ → ℕ → Bool
+leaves PlaceTest.MayLeave t v m = mayLeave t v m
+leaves (PlaceTest.WouldLeave q) t v m = wouldLeave t v m q
+
+-- of a connection of port q of i
+unfoldable pub passes : ConnectionTest → Tables → Configuration → ℕ → ℕ → Connection → Bool
+passes ConnectionTest.Serves t c i q = serves t c i q
+passes ConnectionTest.Blocks t c i q = blocks t c i q
+passes ConnectionTest.Employs t c i q = employs t c i q
+
+-- the end of the connection that is to be port q of i, and the other
+abbrev pub endsOf : ConnectionTest → Connection → Ends
+endsOf ConnectionTest.Serves k = record { near = k .user; nearport = k .useport; far = k .provider; farport = k .provideport }
+endsOf ConnectionTest.Blocks k = record { near = k .user; nearport = k .useport; far = k .provider; farport = k .provideport }
+endsOf ConnectionTest.Employs k = record { near = k .provider; nearport = k .provideport; far = k .user; farport = k .useport }
+
+abbrev pub joins : Ends → ℕ → ℕ → Bool
+joins e i q = eqb (e .near) i && eqb (e .nearport) q
+
+-- what is asked of the other end
+unfoldable pub farPasses : ConnectionTest → Tables → Configuration → Ends → Bool
+farPasses ConnectionTest.Serves t c e = active t (instance c (e .far)) (e .farport)
+farPasses ConnectionTest.Blocks t c e = refusing t (instance c (e .far)) (behavior t c (e .far)) (e .farport)
+farPasses ConnectionTest.Employs t c e = active t (instance c (e .far)) (e .farport)
+
+-- of port q of i, which goes from v to w
+unfoldable pub fails : PortTest → Tables → Configuration → ℕ → Instance → Instance → ℕ → Bool
+fails PortTest.Unserved t c i v w = failsUnserved t c i w
+fails PortTest.Refusing t c i v w = failsRefusing t c i v w
+fails PortTest.InUse t c i v w = failsInUse t c i v w
+
+-- what it asks of the port: a use port, active before, active after
+abbrev pub wants : PortTest → Bool → Bool → Bool → Bool
+wants PortTest.Unserved useport before after = useport && after
+wants PortTest.Refusing useport before after = useport && (after && not before)
+wants PortTest.InUse useport before after = not useport && (before && not after)
+
+-- and of its connections: a test of them, and whether it is a fault that one passes
+abbrev pub askedBy : PortTest → ConnectionTest
+askedBy PortTest.Unserved = ConnectionTest.Serves
+askedBy PortTest.Refusing = ConnectionTest.Blocks
+askedBy PortTest.InUse = ConnectionTest.Employs
+
+abbrev pub isFault : PortTest → Bool → Bool
+isFault PortTest.Unserved found = not found
+isFault PortTest.Refusing found = found
+isFault PortTest.InUse found = found

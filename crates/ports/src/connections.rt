@@ -1,0 +1,110 @@
+// The tests over connections: a port of instance i is joined to an active port, to a refusing one, to one that uses it.
+use crate::instance::active;
+use crate::instance::behavior;
+use crate::instance::refusing;
+use model::Configuration;
+use model::Connection;
+use model::instance_of;
+use model::no_connection;
+ghost use mathlib.Core.Path.{_≡_};
+ghost use mathlib.Core.List.{[]};
+ghost use Rattle.rules.specs.Ports.{someConnection};
+ghost use Rattle.ports.specs.Rows.{rows};
+ghost use Rattle.ports.specs.Tests.{passes, endsOf, joins, farPasses};
+
+// Use port q of i has an active provider; it has a refusing one; provide port q of i has an active user.
+pub enum ConnectionTest {
+    Serves,
+    Blocks,
+    Employs,
+}
+
+// A connection as the test sees it: the end that is to be port q of i, and the other end.
+pub struct Ends {
+    pub near: u8,
+    pub nearport: u8,
+    pub far: u8,
+    pub farport: u8,
+}
+
+fn ends_of(test: ConnectionTest, k: Connection) -> Ends
+    ensures { λ r. ⌜ r ≡ endsOf test k ⌝ }
+{
+    let forth = Ends {
+        near: k.user,
+        nearport: k.useport,
+        far: k.provider,
+        farport: k.provideport,
+    };
+    let back = Ends {
+        near: k.provider,
+        nearport: k.provideport,
+        far: k.user,
+        farport: k.useport,
+    };
+    match test {
+        ConnectionTest::Serves => forth,
+        ConnectionTest::Blocks => forth,
+        ConnectionTest::Employs => back,
+    }
+}
+
+fn is_joined(e: Ends, i: u8, q: u8) -> bool
+    ensures { λ r. ⌜ r ≡ joins e i q ⌝ }
+{
+    (e.near == i) & (e.nearport == q)
+}
+
+fn far_passes<'a>(
+    test: ConnectionTest,
+    source: &'a [u8; 512],
+    behaviors: &'a [u32; 128],
+    places: &'a [u32; 256],
+    transitions: &'a [u32; 256],
+    c: Configuration,
+    e: Ends,
+) -> bool
+    ensures { λ r. ⌜ r ≡ farPasses test (rows (now (source .entry)) (now (behaviors .entry)) [] (now (places .entry)) (now (transitions .entry))) c e ⌝ }
+{
+    let v = instance_of(c, e.far as usize);
+    match test {
+        ConnectionTest::Serves => active(places, transitions, v, e.farport),
+        ConnectionTest::Blocks => {
+            let m = behavior(behaviors, c, e.far);
+            refusing(source, places, transitions, v, m, e.farport)
+        }
+        ConnectionTest::Employs => active(places, transitions, v, e.farport),
+    }
+}
+
+pub fn some_connection<'a>(
+    test: ConnectionTest,
+    source: &'a [u8; 512],
+    behaviors: &'a [u32; 128],
+    places: &'a [u32; 256],
+    transitions: &'a [u32; 256],
+    c: Configuration,
+    i: u8,
+    q: u8,
+) -> bool
+    ensures { λ r. ⌜ r ≡ someConnection c (passes test (rows (now (source .entry)) (now (behaviors .entry)) [] (now (places .entry)) (now (transitions .entry))) c i q) ⌝ }
+{
+    let n = c.count as usize;
+    let mut l: usize = 0;
+    while l < n {
+        // the array is read here: to pass the configuration on at each connection would be to copy it
+        let k = if l < 64 {
+            c.connections[l]
+        } else {
+            no_connection()
+        };
+        let e = ends_of(test, k);
+        if is_joined(e, i, q) {
+            if far_passes(test, source, behaviors, places, transitions, c, e) {
+                return true;
+            }
+        }
+        l += 1;
+    }
+    false
+}
