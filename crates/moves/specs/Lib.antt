@@ -1,0 +1,2 @@
+-- The checks that several moves share.
+pub mod Rows
