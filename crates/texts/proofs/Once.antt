@@ -1,0 +1,74 @@
+-- That no other case fits a reader's promise: the place and the reply fix what the enum says, and that fixes the enum.
+-- Assumes nothing.
+use Prim.Native.Nat.{ℕ, _≤_}
+use mathlib.Core.List.{List}
+use mathlib.Core.Path.{_≡_, refl, sym, ap, _∙_}
+use native.Mathlib.Omega.{arith}
+use lib.ListN.{length, drop, length-drop}
+use Rattle.forms.specs.Reader.{Reply, refused}
+use Rattle.forms.proofs.Laws.{not-got, got-value, got-rest}
+use Rattle.texts.specs.Reads.{Outcome, past, fault, Reads, NoOther}
+use Rattle.texts.specs.Says.{dueSays, numberSays, twoSays, threeSays, fourSays, listSays, listsSays}
+use Rattle.texts.specs.declared.Due.the-variants as due
+use Rattle.texts.specs.declared.Number.the-variants as number
+use Rattle.texts.specs.declared.TwoNumbers.the-variants as two
+use Rattle.texts.specs.declared.ThreeNumbers.the-variants as three
+use Rattle.texts.specs.declared.FourNumbers.the-variants as four
+use Rattle.texts.specs.declared.OneList.the-variants as list
+use Rattle.texts.specs.declared.TwoLists.the-variants as lists
+
+-- a place within the text is told by the text from it on
+pub place-once : (s : List ℕ) (a b : ℕ) → a ≤ length s → b ≤ length s → drop a s ≡ drop b s → a ≡ b
+place-once s a b h g e = omega (arith, simp length-drop at (ap length e))
+
+refused-number : {A : Type 0} {n k : ℕ} → _≡_ {A = Reply A} (refused n) (refused k) → n ≡ k
+refused-number {n = n} {k = k} e = cc
+
+module _ {A : Type 0} (s : List ℕ) where
+  same-outcome : (m : Reply A) (o p : Outcome A) → Reads s o m → Reads s p m → o ≡ p
+  same-outcome m (past a n) (past b k) h g =
+      let e = h .same ∙ sym (g .same) in
+      let v = got-value e in
+      let w = place-once s n k (h .within) (g .within) (got-rest e) in
+      cc
+  same-outcome m (past a n) (fault k) h g = absurd (not-got (g .same ∙ sym (h .same)))
+  same-outcome m (fault n) (past b k) h g = absurd (not-got (h .same ∙ sym (g .same)))
+  same-outcome m (fault n) (fault k) h g = ap fault (refused-number (h .same ∙ sym (g .same)))
+
+-- for any enum that what it says gives back
+pub no-other : {A R : Type 0} (says : R → Outcome A) (back : Outcome A → R) → ((r : R) → back (says r) ≡ r) → NoOther says
+unfolding NoOther
+no-other says back e s m r q h g = sym (e r) ∙ ap back (same-outcome s m (says r) (says q) h g) ∙ e q
+
+pub due-once : NoOther dueSays
+due-once = no-other dueSays (elim [ past a n ↦ due.Past n | fault k ↦ due.Other ]) (elim [ due.Past n ↦ refl | due.Other ↦ refl ])
+
+pub number-once : NoOther numberSays
+number-once = no-other numberSays (elim [ past a n ↦ number.Got a n | fault k ↦ number.Fault ]) (elim [ number.Got a n ↦ refl | number.Fault ↦ refl ])
+
+pub two-once : NoOther twoSays
+two-once = no-other twoSays (elim [ past a n ↦ two.Got (a .0) (a .1) n | fault k ↦ two.Fault ]) (elim [ two.Got a b n ↦ refl | two.Fault ↦ refl ])
+
+pub three-once : NoOther threeSays
+three-once =
+    no-other threeSays
+    (elim [ past a n ↦ three.Got (a .0) (a .1) (a .2) n | fault k ↦ three.Fault ])
+    (elim [ three.Got a b c n ↦ refl | three.Fault ↦ refl ])
+
+pub four-once : NoOther fourSays
+four-once =
+    no-other fourSays
+    (elim [ past a n ↦ four.Got (a .0) (a .1) (a .2) (a .3) n | fault k ↦ four.Fault ])
+    (elim [ four.Got a b c d n ↦ refl | four.Fault ↦ refl ])
+
+pub list-once : NoOther listSays
+list-once =
+    no-other listSays
+    (elim [ past a n ↦ list.Got (a .mask) (a .top) n | fault k ↦ list.Fault ])
+    (elim [ list.Got m t n ↦ refl | list.Fault ↦ refl ])
+
+pub lists-once : NoOther listsSays
+lists-once =
+    no-other listsSays
+    (elim [ past a n ↦ lists.Got (a .0 .mask) (a .0 .top) (a .1 .mask) (a .1 .top) n | fault k ↦ lists.Fault ])
+    (elim [ lists.Got m t o u n ↦ refl | lists.Fault ↦ refl ])

@@ -1,0 +1,53 @@
+-- What each case of each enum says. A fault of form is 01's number 2.
+use Prim.Native.Nat.{ℕ}
+use Rattle.forms.specs.Read.{Set}
+use Rattle.texts.specs.Reads.{Outcome, past, fault}
+use Rattle.texts.specs.declared.Digits.{Digits}
+use Rattle.texts.specs.declared.Digits.the-variants as digits
+use Rattle.texts.specs.declared.Due.{Due}
+use Rattle.texts.specs.declared.Due.the-variants as due
+use Rattle.texts.specs.declared.Number.{Number}
+use Rattle.texts.specs.declared.Number.the-variants as number
+use Rattle.texts.specs.declared.TwoNumbers.{TwoNumbers}
+use Rattle.texts.specs.declared.TwoNumbers.the-variants as two
+use Rattle.texts.specs.declared.ThreeNumbers.{ThreeNumbers}
+use Rattle.texts.specs.declared.ThreeNumbers.the-variants as three
+use Rattle.texts.specs.declared.FourNumbers.{FourNumbers}
+use Rattle.texts.specs.declared.FourNumbers.the-variants as four
+use Rattle.texts.specs.declared.OneList.{OneList}
+use Rattle.texts.specs.declared.OneList.the-variants as list
+use Rattle.texts.specs.declared.TwoLists.{TwoLists}
+use Rattle.texts.specs.declared.TwoLists.the-variants as lists
+
+-- how many digits a number may have
+abbrev pub most : Digits → ℕ
+most digits.Five = 5
+most digits.Seven = 7
+
+abbrev pub dueSays : Due → Outcome (Unit {0})
+dueSays (due.Past n) = past tt n
+dueSays due.Other = fault 2
+
+abbrev pub numberSays : Number → Outcome ℕ
+numberSays (number.Got a n) = past a n
+numberSays number.Fault = fault 2
+
+abbrev pub twoSays : TwoNumbers → Outcome (ℕ × ℕ)
+twoSays (two.Got a b n) = past (a, b) n
+twoSays two.Fault = fault 2
+
+abbrev pub threeSays : ThreeNumbers → Outcome (ℕ × ℕ × ℕ)
+threeSays (three.Got a b c n) = past (a, b, c) n
+threeSays three.Fault = fault 2
+
+abbrev pub fourSays : FourNumbers → Outcome (ℕ × ℕ × ℕ × ℕ)
+fourSays (four.Got a b c d n) = past (a, b, c, d) n
+fourSays four.Fault = fault 2
+
+abbrev pub listSays : OneList → Outcome Set
+listSays (list.Got m t n) = past (record { mask = m; top = t }) n
+listSays list.Fault = fault 2
+
+abbrev pub listsSays : TwoLists → Outcome (Set × Set)
+listsSays (lists.Got m t o u n) = past (record { mask = m; top = t }, record { mask = o; top = u }) n
+listsSays lists.Fault = fault 2
