@@ -1,0 +1,4 @@
+-- The laws of lines and of runs of lines.
+pub mod Lines
+pub mod Place
+pub mod Once

@@ -1,0 +1,55 @@
+-- A line of a count: its limit, and what each case of its enum says.
+use Prim.Native.Nat.{ℕ, _≤_}
+use mathlib.Core.List.{List}
+use mathlib.Core.Bool.{Bool}
+use Rattle.forms.specs.Reader.{Reply}
+use Rattle.reading.specs.Limits.{depthOk, typesOk, placesOk, transitionsOk, behaviorsOk, portsOk, programOk, stepsOk}
+use Rattle.texts.specs.Reads.{Outcome, past, fault, Reads}
+use Rattle.lines.specs.declared.Limit.{Limit}
+use Rattle.lines.specs.declared.Limit.the-variants as limit
+use Rattle.lines.specs.declared.Count.{Count}
+use Rattle.lines.specs.declared.Count.the-variants as count
+
+-- the limit's test, and the numbers that it lies between
+abbrev pub limitOk : Limit → ℕ → Bool
+limitOk limit.Depth = depthOk
+limitOk limit.Types = typesOk
+limitOk limit.Places = placesOk
+limitOk limit.Transitions = transitionsOk
+limitOk limit.Behaviors = behaviorsOk
+limitOk limit.Ports = portsOk
+limitOk limit.Program = programOk
+limitOk limit.Steps = stepsOk
+
+abbrev pub least : Limit → ℕ
+least limit.Depth = 0
+least limit.Types = 1
+least limit.Places = 1
+least limit.Transitions = 0
+least limit.Behaviors = 0
+least limit.Ports = 0
+least limit.Program = 0
+least limit.Steps = 0
+
+abbrev pub greatest : Limit → ℕ
+greatest limit.Depth = 8
+greatest limit.Types = 16
+greatest limit.Places = 16
+greatest limit.Transitions = 32
+greatest limit.Behaviors = 8
+greatest limit.Ports = 16
+greatest limit.Program = 256
+greatest limit.Steps = 1024
+
+abbrev pub countSays : Count → Outcome ℕ
+countSays (count.Got a n) = past a n
+countSays (count.Refused k) = fault k
+
+abbrev pub Limited : Limit → Count → Type 0
+Limited l (count.Got a n) = (least l ≤ a) × (a ≤ greatest l)
+Limited l (count.Refused k) = Unit
+
+-- the answer r is what a definition that replies m says of the text s, and a count that was read keeps to its limit
+pub record Counts (s : List ℕ) (l : Limit) (r : Count) (m : Reply ℕ) : Type 0 where
+  pub reads : Reads s (countSays r) m
+  pub limited : Limited l r

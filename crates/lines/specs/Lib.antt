@@ -1,0 +1,3 @@
+-- What the readers of runs of lines promise (Runs), and what a count line answers (Counts).
+pub mod Counts
+pub mod Runs

@@ -1,0 +1,32 @@
+-- What the reader of a run of lines promises.
+use Prim.Native.Nat.{ℕ, _≤_}
+use mathlib.Core.List.{List}
+use mathlib.Core.Path.{_≡_}
+use lib.ListN.{length, drop}
+use Rattle.reading.specs.Lines.{Run, on, stop}
+use Rattle.lines.specs.declared.Count.{Count}
+use Rattle.lines.specs.declared.Count.the-variants.{Got, Refused}
+use Rattle.lines.specs.declared.Went.{Went}
+use Rattle.lines.specs.declared.Went.the-variants.{On, Stop}
+
+-- what a reader says that went on or stopped, with the group a, at the text s
+abbrev pub run : {A : Type 0} → Went → A → List ℕ → Run A
+run On a s = on a s
+run (Stop n) a s = stop n s
+
+-- after a refusal the group is as it was
+abbrev pub Kept : {A : Type 0} → Went → A → A → Type 0
+Kept On old a = Unit
+Kept (Stop n) old a = a ≡ old
+
+-- on the text s, the answer (w, at, a) is what a definition says that runs to m: the same group or number, at the next line
+-- or the line at fault; after a refusal the group is the old one
+pub record ReadsTo {A : Type 0} (s : List ℕ) (old : A) (w : Went) (at : ℕ) (a : A) (m : Run A) : Type 0 where
+  pub within : at ≤ length s
+  pub same : run w a (drop at s) ≡ m
+  pub kept : Kept w old a
+
+-- a count line went on, or stopped with its number
+abbrev pub countWent : Count → Went
+countWent (Got a n) = On
+countWent (Refused k) = Stop k

@@ -1,0 +1,194 @@
+// Runs of lines: the lines that occur many times, each read from the part of the text that starts with it, and the place of a fault.
+// Promised: each answers what its definition in crate reading says of the text from there on: value, next place and refusal number.
+use texts::Digits;
+use texts::Due;
+use texts::Number;
+ghost use mathlib.Core.Path.{_≡_};
+ghost use lib.ListN.{length, drop};
+ghost use Rattle.texts.specs.Reads.{Reads};
+ghost use Rattle.texts.specs.Says.{dueSays};
+ghost use Rattle.reading.specs.Kinds.{dueLine, countLine};
+ghost use Rattle.reading.specs.Lines.{atEnd};
+ghost use Rattle.reading.specs.Place.{upToLf, lineNumber, lineStart};
+ghost use Rattle.lines.specs.Counts.{limitOk, least, greatest, Counts};
+ghost use Rattle.lines.specs.Runs.{run, countWent};
+
+// The limits of the counts, by the counts' names.
+pub enum Limit {
+    Depth,
+    Types,
+    Places,
+    Transitions,
+    Behaviors,
+    Ports,
+    Program,
+    Steps,
+}
+
+// A count and the place past its line, or the number of the refusal.
+pub enum Count {
+    Got(u32, usize),
+    Refused(u8),
+}
+
+// Whether the reading went on, or the number that it stopped with.
+pub enum Went {
+    On,
+    Stop(u8),
+}
+
+// The line of a key and the number due.
+pub fn due_line(s: &[u8], key: &[u8], number: u32) -> Due
+    ensures { λ r. ⌜ Reads (now (s .entry)) (dueSays r) (dueLine (now (key .entry)) number (now (s .entry))) ⌝ }
+{
+    let Number::Got(a, used) = texts::number_line(s, key, Digits::Five) else {
+        return Due::Other;
+    };
+    if a != number {
+        return Due::Other;
+    }
+    Due::Past(used)
+}
+
+fn least(limit: Limit) -> u32
+    ensures { λ r. ⌜ r ≡ least limit ⌝ }
+{
+    match limit {
+        Limit::Depth => 0,
+        Limit::Types => 1,
+        Limit::Places => 1,
+        Limit::Transitions => 0,
+        Limit::Behaviors => 0,
+        Limit::Ports => 0,
+        Limit::Program => 0,
+        Limit::Steps => 0,
+    }
+}
+
+fn greatest(limit: Limit) -> u32
+    ensures { λ r. ⌜ r ≡ greatest limit ⌝ }
+{
+    match limit {
+        Limit::Depth => 8,
+        Limit::Types => 16,
+        Limit::Places => 16,
+        Limit::Transitions => 32,
+        Limit::Behaviors => 8,
+        Limit::Ports => 16,
+        Limit::Program => 256,
+        Limit::Steps => 1024,
+    }
+}
+
+// The line of a key and a number within its limit.
+pub fn count_line(s: &[u8], key: &[u8], limit: Limit) -> Count
+    ensures { λ r. ⌜ Counts (now (s .entry)) limit r (countLine (now (key .entry)) (limitOk limit) (now (s .entry))) ⌝ }
+{
+    let Number::Got(a, used) = texts::number_line(s, key, Digits::Five) else {
+        return Count::Refused(2);
+    };
+    if a < least(limit) {
+        return Count::Refused(3);
+    }
+    if greatest(limit) < a {
+        return Count::Refused(3);
+    }
+    Count::Got(a, used)
+}
+
+// The same lines at a place of a text: the part from there on, and the next line's place.
+pub fn due_at(text: &[u8], at: usize, key: &[u8], number: u32) -> Due
+    ensures { λ r. ⌜ Reads (now (text .entry)) (dueSays r) (dueLine (now (key .entry)) number (drop at (now (text .entry)))) ⌝ }
+{
+    let start = texts::place_in(text, at);
+    let Due::Past(used) = due_line(&text[start..], key, number) else {
+        return Due::Other;
+    };
+    let next = start + used;
+    Due::Past(next)
+}
+
+pub fn count_at(text: &[u8], at: usize, key: &[u8], limit: Limit) -> Count
+    ensures { λ r. ⌜ Counts (now (text .entry)) limit r (countLine (now (key .entry)) (limitOk limit) (drop at (now (text .entry)))) ⌝ }
+{
+    let start = texts::place_in(text, at);
+    let count = count_line(&text[start..], key, limit);
+    let Count::Got(a, used) = count else {
+        return count;
+    };
+    let next = start + used;
+    Count::Got(a, next)
+}
+
+pub fn count_went(count: Count) -> Went
+    ensures { λ r. ⌜ r ≡ countWent count ⌝ }
+{
+    match count {
+        Count::Got(_, _) => Went::On,
+        Count::Refused(k) => Went::Stop(k),
+    }
+}
+
+// Nothing is left from the place at on.
+pub fn at_end(text: &[u8], at: usize) -> Went
+    ensures { λ r. ⌜ run r tt (drop at (now (text .entry))) ≡ atEnd (drop at (now (text .entry))) ⌝ }
+{
+    if at < text.len() {
+        return Went::Stop(5);
+    }
+    Went::On
+}
+
+// How long the line at a place is, without its LF.
+pub fn line_size(s: &[u8], at: usize) -> usize
+    ensures { λ r. ⌜ r ≡ length (upToLf (drop at (now (s .entry)))) ⌝ }
+{
+    let mut i = at;
+    let mut size: usize = 0;
+    while i < s.len() {
+        if s[i] == b'\n' {
+            return size;
+        }
+        size = size + 1;
+        i = i + 1;
+    }
+    size
+}
+
+// The number of the line at a place, from 1.
+pub fn line_number(s: &[u8], at: usize) -> usize
+    ensures { λ r. ⌜ r ≡ lineNumber (now (s .entry)) at ⌝ }
+{
+    let end = texts::place_in(s, at);
+    let mut number: usize = 1;
+    let mut i: usize = 0;
+    while i < end {
+        if s[i] == b'\n' {
+            number = number + 1;
+            i = i + 1;
+        } else {
+            i = i + 1;
+        }
+    }
+    number
+}
+
+// Where the line starts that has so many lines before it; the text's end where there are not so many.
+pub fn line_start(s: &[u8], lines: usize) -> usize
+    ensures { λ r. ⌜ r ≡ lineStart lines (now (s .entry)) ⌝ }
+{
+    let mut left = lines;
+    let mut i: usize = 0;
+    while i < s.len() {
+        if left == 0 {
+            return i;
+        }
+        if s[i] == b'\n' {
+            left = left - 1;
+            i = i + 1;
+        } else {
+            i = i + 1;
+        }
+    }
+    i
+}
