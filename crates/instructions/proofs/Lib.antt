@@ -1,0 +1,3 @@
+pub mod Places
+pub mod Arrays
+pub mod Ends

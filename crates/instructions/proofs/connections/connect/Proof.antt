@@ -1,0 +1,22 @@
+use native.Mathlib.Numerals.{add-one}
+use borrow.Author.Needs.{needs}
+use Rattle.model.specs.View.{withConnections}
+use Rattle.rules.specs.Con.{connected}
+use Rattle.instructions.proofs.connections.connect.Statement.{statement}
+use Rattle.instructions.proofs.connections.connect.Tie as tie
+
+wide-requires : tie.Need-wide-requires
+wide-requires c κs = search needs
+
+put-at-requires : tie.Need-put-at-requires
+put-at-requires c κs = search needs
+
+add-next : tie.Need-add-next
+add-next c = search needs
+
+returns : tie.Need-returns
+unfolding connected withConnections
+returns c = rw (c .before .put-at .ensures, c .before .before .wide .ensures .0, add-one)
+
+pub connect-spec : {M : Type 1} → statement M
+connect-spec = tie.close (tie.spec wide-requires put-at-requires add-next returns)

@@ -1,0 +1,71 @@
+use Prim.Native.Nat.{_≤_, _-_}
+use mathlib.Core.Bool.{false}
+use mathlib.Core.Path.{sym, _≡_, _∙_}
+use lib.ListN.{getD}
+use borrow.Author.Needs.{needs}
+use Rattle.sets.proofs.Laws.{any-end, any-hit, any-more, any-start}
+use Rattle.sets.specs.Test.{any}
+use Rattle.model.specs.Empty.{noConnection}
+use Rattle.rules.specs.Ports.{someConnection}
+use Rattle.instructions.specs.Passes.{passes}
+use Rattle.instructions.proofs.connections.some_connection.Statement.{statement}
+use Rattle.instructions.proofs.connections.some_connection.Tie as tie
+
+abbrev Inv-loop : tie.InvT-loop
+Inv-loop test ks n l₀ l = (l ≤ n) × (any l (λ x. passes test (getD ks x noConnection)) ≡ false)
+
+abbrev μ-loop : tie.MeasureT-loop
+μ-loop test ks n l₀ l = n - l
+
+wide-requires : tie.Need-wide-requires Inv-loop μ-loop
+wide-requires c κs = search needs
+
+loop-holds : tie.Need-loop-holds Inv-loop μ-loop
+loop-holds c = (search needs, any-start _)
+
+connection-at-requires : tie.Need-connection-at-requires Inv-loop μ-loop
+connection-at-requires c κs = search needs
+
+passes-requires : tie.Need-passes-requires Inv-loop μ-loop
+passes-requires c κs = search needs
+
+returns : tie.Need-returns Inv-loop μ-loop
+unfolding someConnection
+returns c =
+    let h = c .before .before .before in
+    let hit = rw (c .before .before .connection-at .ensures) at (c .before .passes .ensures) in
+    rw (← h .before .before .wide .ensures .0) (sym (any-hit _ _ (h .before .loop .l) (h .loop-test .taken) (sym hit ∙ c .if1 .taken)))
+
+add-l : tie.Need-add-l Inv-loop μ-loop
+add-l c = search needs
+
+loop-less : tie.Need-loop-less Inv-loop μ-loop
+loop-less c = search needs
+
+loop-again : tie.Need-loop-again Inv-loop μ-loop
+loop-again c =
+    let h = c .before .before .before .before .loop in
+    let miss = rw (c .before .before .connection-at .ensures) at (c .before .passes .ensures) in
+    (search needs, any-more _ _ (h .inv .1) (sym miss ∙ c .if1 .left))
+
+returns-2 : tie.Need-returns-2 Inv-loop μ-loop
+unfolding someConnection
+returns-2 c =
+    rw (← c .before .before .wide .ensures .0)
+    (sym (any-end _ (c .before .loop .l) _ (c .before .loop .inv .0) (c .loop-test .left) (c .before .loop .inv .1)))
+
+pub some-connection-spec : {M : Type 1} → statement M
+some-connection-spec =
+    tie.close
+    (tie.spec
+    Inv-loop
+    μ-loop
+    wide-requires
+    loop-holds
+    connection-at-requires
+    passes-requires
+    returns
+    add-l
+    loop-less
+    loop-again
+    returns-2)
