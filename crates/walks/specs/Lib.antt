@@ -1,0 +1,2 @@
+-- What an action answers, and what `next` answers.
+pub mod Taken
