@@ -1,18 +1,17 @@
-// The list of connections: the tests over it, the place of one, one put last, one taken out.
+// The list of connections: the tests over it, the place of one, one put in a slot, a gap closed.
 use model::Configuration;
 use model::Connection;
 use model::no_connection;
 use model::wide;
 use ports::gap::less;
 ghost use mathlib.Core.Path.{_≡_};
-ghost use Prim.Native.Nat.{_<_};
 ghost use lib.ListN.{getD, set};
 ghost use Rattle.model.specs.Empty.{noConnection};
 ghost use Rattle.rules.specs.Closing.{closed};
 ghost use Rattle.rules.specs.Ports.{someConnection};
 ghost use Rattle.rules.specs.Del.{namedBy};
-ghost use Rattle.rules.specs.Con.{isOf, connected};
-ghost use Rattle.rules.specs.DCon.{sameConnection, placeOf, disconnected};
+ghost use Rattle.rules.specs.Con.{isOf};
+ghost use Rattle.rules.specs.DCon.{sameConnection, placeOf};
 ghost use Rattle.instructions.specs.Passes.{passes};
 
 // What a connection is asked: whether it names an instance, is that of a use port, or is this very one.
@@ -59,7 +58,7 @@ fn connection_at(ks: [Connection; 64], l: usize) -> Connection
     if l < 64 { ks[l] } else { no_connection() }
 }
 
-fn put_at(ks: [Connection; 64], l: usize, k: Connection) -> [Connection; 64]
+pub fn put_at(ks: [Connection; 64], l: usize, k: Connection) -> [Connection; 64]
     ensures { λ r. ⌜ r ≡ set ks l k ⌝ }
 {
     let mut next = ks;
@@ -85,7 +84,7 @@ pub fn some_connection(test: ConnectionTest, c: Configuration) -> bool
 }
 
 // The first place at which k stands, and the last of the list where it stands at none.
-fn place_of(c: Configuration, k: Connection) -> usize
+pub fn place_of(c: Configuration, k: Connection) -> usize
     ensures { λ r. ⌜ r ≡ placeOf c k ⌝ }
 {
     let ks = c.connections;
@@ -101,7 +100,7 @@ fn place_of(c: Configuration, k: Connection) -> usize
 }
 
 // The connections after `at` and before `end` move down one, and the slot freed is zeroed.
-fn close_gap(ks: [Connection; 64], at: usize, end: usize) -> [Connection; 64]
+pub fn close_gap(ks: [Connection; 64], at: usize, end: usize) -> [Connection; 64]
     ensures { λ r. ⌜ r ≡ closed noConnection ks at end ⌝ }
 {
     let last = less(end, 1);
@@ -114,29 +113,4 @@ fn close_gap(ks: [Connection; 64], at: usize, end: usize) -> [Connection; 64]
         k += 1;
     }
     put_at(next, last, no_connection())
-}
-
-pub fn connect(c: Configuration, k: Connection) -> Configuration
-    requires { ⌜ c .count < 64 ⌝ }
-    ensures { λ r. ⌜ r ≡ connected c k ⌝ }
-{
-    let ks = c.connections;
-    let longer = put_at(ks, wide(c.count), k);
-    let mut next = c;
-    next.connections = longer;
-    next.count = c.count + 1;
-    next
-}
-
-pub fn disconnect(c: Configuration, k: Connection) -> Configuration
-    requires { ⌜ 0 < c .count ⌝ }
-    ensures { λ r. ⌜ r ≡ disconnected c k ⌝ }
-{
-    let at = place_of(c, k);
-    let ks = c.connections;
-    let shorter = close_gap(ks, at, wide(c.count));
-    let mut next = c;
-    next.connections = shorter;
-    next.count = c.count - 1;
-    next
 }

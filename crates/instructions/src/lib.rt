@@ -4,8 +4,9 @@ mod connections;
 mod slots;
 
 use connections::ConnectionTest;
-use connections::connect;
-use connections::disconnect;
+use connections::close_gap;
+use connections::place_of;
+use connections::put_at;
 use connections::some_connection;
 use model::Configuration;
 use model::Connection;
@@ -15,12 +16,14 @@ use model::Tables;
 use model::instance_of;
 use model::no_instance;
 use model::number_at;
+use model::put_instance;
 use model::type_of;
 use model::wide;
-use slots::push;
+use slots::put_slot;
 use slots::renew;
 ghost use mathlib.Core.Path.{_≡_};
-ghost use Rattle.model.specs.View.{isUse};
+ghost use Prim.Native.Nat.{_<_};
+ghost use Rattle.model.specs.View.{isUse, instance};
 ghost use Rattle.rules.specs.Refusal.{settle};
 ghost use Rattle.rules.specs.Add.{addCheck, added};
 ghost use Rattle.rules.specs.Del.{delCheck, deleted};
@@ -112,6 +115,17 @@ fn depth_of(default: u8, t: Tables) -> u8
     if t.depth == 0 { default } else { t.depth }
 }
 
+// Behavior b goes last into the queue of instance i, whose record is v.
+fn push(c: Configuration, i: usize, v: Instance, b: u8) -> Configuration
+    requires { ⌜ (i < 32) × ((v ≡ instance c i) × (v .queued < 255)) ⌝ }
+    ensures { λ r. ⌜ r ≡ pushed c i b ⌝ }
+{
+    let next = put_slot(c, i * 8 + wide(v.queued), b);
+    let mut w = v;
+    w.queued = v.queued + 1;
+    put_instance(next, i, w)
+}
+
 pub fn pushb(default: u8, t: Tables, c: Configuration, i: usize, b: u8) -> Stepped
     ensures { λ r. ⌜ r ≡ settle (pushbCheck default t c i b) c (pushed c i b) ⌝ }
 {
@@ -171,6 +185,19 @@ fn check_ends(t: Tables, user: Instance, provider: Instance, k: Connection) -> u
     0
 }
 
+// Only where there is room: the count is a byte.
+fn connect(c: Configuration, k: Connection) -> Configuration
+    requires { ⌜ c .count < 64 ⌝ }
+    ensures { λ r. ⌜ r ≡ connected c k ⌝ }
+{
+    let ks = c.connections;
+    let longer = put_at(ks, wide(c.count), k);
+    let mut next = c;
+    next.connections = longer;
+    next.count = c.count + 1;
+    next
+}
+
 pub fn con(t: Tables, c: Configuration, k: Connection) -> Stepped
     ensures { λ r. ⌜ r ≡ settle (conCheck t c k) c (connected c k) ⌝ }
 {
@@ -187,6 +214,19 @@ pub fn con(t: Tables, c: Configuration, k: Connection) -> Stepped
         return refuse(NO_MORE_CONNECTIONS, c);
     }
     allow(connect(c, k))
+}
+
+fn disconnect(c: Configuration, k: Connection) -> Configuration
+    requires { ⌜ 0 < c .count ⌝ }
+    ensures { λ r. ⌜ r ≡ disconnected c k ⌝ }
+{
+    let at = place_of(c, k);
+    let ks = c.connections;
+    let shorter = close_gap(ks, at, wide(c.count));
+    let mut next = c;
+    next.connections = shorter;
+    next.count = c.count - 1;
+    next
 }
 
 pub fn dcon(t: Tables, c: Configuration, k: Connection) -> Stepped

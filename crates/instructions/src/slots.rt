@@ -2,13 +2,11 @@
 use model::Configuration;
 use model::Instance;
 use model::put_instance;
-use model::wide;
 ghost use mathlib.Core.Path.{_≡_};
 ghost use Prim.Native.Nat.{_*_, _<_};
 ghost use lib.ListN.{set};
-ghost use Rattle.model.specs.View.{instance, withQueue};
+ghost use Rattle.model.specs.View.{withQueue};
 ghost use Rattle.rules.specs.Closing.{zeroed, renewed};
-ghost use Rattle.rules.specs.PushB.{pushed};
 
 fn zero_slots(c: Configuration, i: usize) -> Configuration
     requires { ⌜ i < 32 ⌝ }
@@ -35,7 +33,7 @@ pub fn renew(c: Configuration, i: usize, w: Instance) -> Configuration
 }
 
 // A lent queue may be longer than eight, and so past the array: what is put there is lost.
-fn put_slot(c: Configuration, at: usize, b: u8) -> Configuration
+pub fn put_slot(c: Configuration, at: usize, b: u8) -> Configuration
     ensures { λ r. ⌜ r ≡ withQueue c (set (c .queue) at b) ⌝ }
 {
     let mut next = c;
@@ -43,15 +41,4 @@ fn put_slot(c: Configuration, at: usize, b: u8) -> Configuration
         next.queue[at] = b;
     }
     next
-}
-
-// Behavior b goes last into the queue of instance i, whose record is v.
-pub fn push(c: Configuration, i: usize, v: Instance, b: u8) -> Configuration
-    requires { ⌜ (i < 32) × ((v ≡ instance c i) × (v .queued < 255)) ⌝ }
-    ensures { λ r. ⌜ r ≡ pushed c i b ⌝ }
-{
-    let next = put_slot(c, i * 8 + wide(v.queued), b);
-    let mut w = v;
-    w.queued = v.queued + 1;
-    put_instance(next, i, w)
 }

@@ -2,8 +2,8 @@ use native.Mathlib.Numerals.{add-one}
 use borrow.Author.Needs.{needs}
 use Rattle.rules.specs.Instance.{withQueued}
 use Rattle.rules.specs.PushB.{pushed}
-use Rattle.instructions.proofs.slots.push.Statement.{statement}
-use Rattle.instructions.proofs.slots.push.Tie as tie
+use Rattle.instructions.proofs.push.Statement.{statement}
+use Rattle.instructions.proofs.push.Tie as tie
 
 mul-put-slot : tie.Need-mul-put-slot
 mul-put-slot c = search needs

@@ -2,8 +2,8 @@ use native.Mathlib.Numerals.{add-one}
 use borrow.Author.Needs.{needs}
 use Rattle.model.specs.View.{withConnections}
 use Rattle.rules.specs.Con.{connected}
-use Rattle.instructions.proofs.connections.connect.Statement.{statement}
-use Rattle.instructions.proofs.connections.connect.Tie as tie
+use Rattle.instructions.proofs.connect.Statement.{statement}
+use Rattle.instructions.proofs.connect.Tie as tie
 
 wide-requires : tie.Need-wide-requires
 wide-requires c κs = search needs

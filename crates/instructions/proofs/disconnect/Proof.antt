@@ -1,8 +1,8 @@
 use borrow.Author.Needs.{needs}
 use Rattle.model.specs.View.{withConnections}
 use Rattle.rules.specs.DCon.{disconnected}
-use Rattle.instructions.proofs.connections.disconnect.Statement.{statement}
-use Rattle.instructions.proofs.connections.disconnect.Tie as tie
+use Rattle.instructions.proofs.disconnect.Statement.{statement}
+use Rattle.instructions.proofs.disconnect.Tie as tie
 
 place-of-requires : tie.Need-place-of-requires
 place-of-requires c κs = search needs
