@@ -1,0 +1,41 @@
+-- What reading a sheet answers, as one function of the text.
+use Prim.Native.Nat.{ℕ, _-_}
+use mathlib.Core.List.{List}
+use mathlib.Core.Bool.{true, false}
+use mathlib.Core.Path.{_≡_}
+use lib.ListN.{length}
+use Rattle.model.specs.declared.Tables.{Tables}
+use Rattle.model.specs.declared.Program.{Program}
+use Rattle.model.specs.Empty.{noTables, noProgram}
+use Rattle.reading.specs.Limits.{lengthOk}
+use Rattle.reading.specs.Lines.{Run, on, stop}
+use Rattle.reading.specs.Texts.{sheet}
+use Rattle.lines.specs.declared.Went.{Went}
+use Rattle.lines.specs.declared.Went.the-variants.{On, Stop}
+use Rattle.sheets.specs.declared.LinesRead.{LinesRead}
+use Rattle.sheets.specs.declared.Sheet.{Sheet}
+
+-- 01's number: 0 where the reading went on to the end
+abbrev pub refusalOf : Went → ℕ
+refusalOf On = 0
+refusalOf (Stop k) = k
+
+-- nothing is handed out beside a refusal
+abbrev pub unread : Went → ℕ → LinesRead
+unread w at = record { went = w; at = at; tables = noTables; program = noProgram }
+
+abbrev pub refusedSheet : ℕ → ℕ → Sheet
+refusedSheet k at = record { refused = k; place = at; tables = noTables; program = noProgram }
+
+-- the place is where the rest starts: the line at fault, or the text's end
+abbrev pub answered : List ℕ → Run (Tables × Program) → Sheet
+answered s (on x r) = record { refused = 0; place = length s - length r; tables = x .0; program = x .1 }
+answered s (stop k r) = refusedSheet k (length s - length r)
+
+-- "length of the sheet, .. then the sheet's lines"
+unfoldable pub sheetRead : List ℕ → Sheet
+sheetRead s = elim (lengthOk (length s)) [ true ↦ answered s (sheet s) | false ↦ refusedSheet 1 0 ]
+
+-- no other answer fits the promise
+unfoldable pub NoOtherSheet : Type 0
+NoOtherSheet = (s : List ℕ) (r q : Sheet) → r ≡ sheetRead s → q ≡ sheetRead s → r ≡ q
