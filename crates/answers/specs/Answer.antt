@@ -1,0 +1,40 @@
+-- What reading an answer answers, as one function of the text.
+use Prim.Native.Nat.{ℕ, _-_}
+use mathlib.Core.List.{List}
+use mathlib.Core.Bool.{true, false}
+use mathlib.Core.Path.{_≡_}
+use lib.ListN.{length}
+use Rattle.model.specs.declared.Answer.{Answer}
+use Rattle.model.specs.Empty.{noAnswer}
+use Rattle.reading.specs.Limits.{lengthOk}
+use Rattle.reading.specs.Lines.{Run, on, stop}
+use Rattle.reading.specs.Texts.{answer}
+use Rattle.lines.specs.declared.Went.{Went}
+use Rattle.lines.specs.declared.Went.the-variants.{On, Stop}
+use Rattle.answers.specs.declared.StepsRead.{StepsRead}
+use Rattle.answers.specs.declared.AnswerRead.{AnswerRead}
+
+-- 01's number: 0 where the reading went on to the end
+abbrev pub refusalOf : Went → ℕ
+refusalOf On = 0
+refusalOf (Stop k) = k
+
+-- nothing is handed out beside a refusal
+abbrev pub unread : Went → ℕ → StepsRead
+unread w at = record { went = w; at = at; answer = noAnswer }
+
+abbrev pub refusedAnswer : ℕ → ℕ → AnswerRead
+refusedAnswer k at = record { refused = k; place = at; answer = noAnswer }
+
+-- the place is where the rest starts: the line at fault, or the text's end
+abbrev pub answered : List ℕ → Run Answer → AnswerRead
+answered s (on a r) = record { refused = 0; place = length s - length r; answer = a }
+answered s (stop k r) = refusedAnswer k (length s - length r)
+
+-- "a text is too long": 1, at its start; then the lines
+unfoldable pub answerRead : List ℕ → AnswerRead
+answerRead s = elim (lengthOk (length s)) [ true ↦ answered s (answer s) | false ↦ refusedAnswer 1 0 ]
+
+-- no other answer fits the promise
+unfoldable pub NoOtherAnswer : Type 0
+NoOtherAnswer = (s : List ℕ) (r q : AnswerRead) → r ≡ answerRead s → q ≡ answerRead s → r ≡ q
