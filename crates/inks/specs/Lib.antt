@@ -1,0 +1,2 @@
+-- What a writer promises.
+pub mod Written
