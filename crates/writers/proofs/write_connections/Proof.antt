@@ -1,0 +1,25 @@
+use Rattle.writers.specs.Lines.{connectionsPart}
+use Rattle.inks.proofs.Laws.{next}
+use Rattle.writers.proofs.Parts.{connections-lines}
+use borrow.Author.Needs.{needs}
+use Rattle.writers.proofs.write_connections.Statement.{statement}
+use Rattle.writers.proofs.write_connections.Tie as tie
+
+returns : tie.Need-returns
+unfolding connectionsPart
+returns c = next (c .before .before .before .before .before .before .write-count .ensures) (rw (connections-lines _) at (c .before .before .write-lines .ensures))
+
+pub write-connections-spec : {M : Type 1} → statement M
+write-connections-spec =
+    tie.close
+    (tie.spec
+    (λ c. search needs)
+    (λ c. search needs)
+    (λ c κs. search needs)
+    (λ c. search needs)
+    (λ c. search needs)
+    (λ c. search needs)
+    (λ c κs. search needs)
+    (λ c. search needs)
+    (λ c. search needs)
+    returns)

@@ -1,0 +1,2 @@
+-- The lines that are written in turn.
+pub mod Lines

@@ -1,0 +1,196 @@
+// The report and the fault lines: each line is written into the part of the lent buffer that is still free, and its writer answers the bytes used.
+// Promised: every byte of the lent buffer and the bytes used, cut where there is no room, for every walk's answer, reachable or not.
+use inks::write_byte;
+use inks::write_key;
+use inks::write_list;
+use inks::write_mask;
+use inks::write_number;
+use model::Configuration;
+use model::Connection;
+use model::Instance;
+use model::Text;
+use model::Walked;
+use model::connection_of;
+use model::instance_of;
+ghost use mathlib.Core.Path.{_≡_};
+ghost use lib.ListN.{length, getD};
+ghost use Rattle.model.specs.View.{instance, listOf};
+ghost use Rattle.forms.specs.Write.{inTurn};
+ghost use Rattle.report.specs.Report.{tally, countText, instanceText, connectionText, instanceAt, connectionAt, report};
+ghost use Rattle.report.specs.Faults.{textText, faultText};
+ghost use Rattle.inks.specs.Written.{Written};
+ghost use Rattle.writers.specs.Lines.{lineOf, headPart, instancesPart, connectionsPart};
+
+// key=number
+fn write_count(t: &mut [u8], key: &[u8], v: usize) -> usize
+    ensures { λ r. ⌜ Written (now (t .entry)) (countText (now (key .entry)) v) (now (t .exit)) 0 r ⌝ }
+{
+    let a = write_key(t, 0, key);
+    let b = write_number(t, a, v);
+    write_byte(t, b, b'\n')
+}
+
+// instance=id,type,marked,running,ended,queue
+fn write_instance(t: &mut [u8], i: usize, w: Instance, slots: &[u8]) -> usize
+    ensures { λ r. ⌜ Written (now (t .entry)) (instanceText i w (listOf (w .queued) (λ s. getD (now (slots .entry)) s 0))) (now (t .exit)) 0 r ⌝ }
+{
+    let a = write_key(t, 0, b"instance=");
+    let b = write_number(t, a, i);
+    let d = write_byte(t, b, b',');
+    let e = write_number(t, d, w.kind as usize);
+    let f = write_byte(t, e, b',');
+    let g = write_mask(t, f, w.marked);
+    let h = write_byte(t, g, b',');
+    let j = write_mask(t, h, w.running);
+    let k = write_byte(t, j, b',');
+    let l = write_mask(t, k, w.ended);
+    let m = write_byte(t, l, b',');
+    let n = write_list(t, m, slots, w.queued as usize);
+    write_byte(t, n, b'\n')
+}
+
+// connection=user,useport,provider,provideport
+fn write_connection(t: &mut [u8], k: Connection) -> usize
+    ensures { λ r. ⌜ Written (now (t .entry)) (connectionText k) (now (t .exit)) 0 r ⌝ }
+{
+    let a = write_key(t, 0, b"connection=");
+    let b = write_number(t, a, k.user as usize);
+    let d = write_byte(t, b, b',');
+    let e = write_number(t, d, k.useport as usize);
+    let f = write_byte(t, e, b',');
+    let g = write_number(t, f, k.provider as usize);
+    let h = write_byte(t, g, b',');
+    let j = write_number(t, h, k.provideport as usize);
+    write_byte(t, j, b'\n')
+}
+
+// Instance i's line, nothing where it is absent.
+fn write_instance_at(t: &mut [u8], c: Configuration, i: usize) -> usize
+    ensures { λ r. ⌜ Written (now (t .entry)) (instanceAt c i) (now (t .exit)) 0 r ⌝ }
+{
+    let w = instance_of(c, i);
+    if !w.present {
+        return 0;
+    }
+    let queue = c.queue;
+    let start = i * 8;
+    write_instance(t, i, w, &queue[start..])
+}
+
+// The line of the last connection with this user and its port, nothing where there is none.
+fn write_connection_at(t: &mut [u8], c: Configuration, user: usize, port: usize) -> usize
+    ensures { λ r. ⌜ Written (now (t .entry)) (connectionAt c (c .count) user port) (now (t .exit)) 0 r ⌝ }
+{
+    let mut n = c.count as usize;
+    while 0 < n {
+        n -= 1;
+        let k = connection_of(c, n);
+        if k.user as usize == user && k.useport as usize == port {
+            return write_connection(t, k);
+        }
+    }
+    0
+}
+
+// The lines that are written in turn: of the instances by id, of the connections by user and then port, sixteen ports for each user.
+enum Lines {
+    Instances,
+    Connections,
+}
+
+fn write_line(t: &mut [u8], c: Configuration, lines: Lines, k: usize) -> usize
+    ensures { λ r. ⌜ Written (now (t .entry)) (lineOf c lines k) (now (t .exit)) 0 r ⌝ }
+{
+    match lines {
+        Lines::Instances => write_instance_at(t, c, k),
+        Lines::Connections => write_connection_at(t, c, k / 16, k % 16),
+    }
+}
+
+// The first `count` of them.
+fn write_lines(t: &mut [u8], c: Configuration, lines: Lines, count: usize) -> usize
+    ensures { λ r. ⌜ Written (now (t .entry)) (inTurn (lineOf c lines) count) (now (t .exit)) 0 r ⌝ }
+{
+    let mut used: usize = 0;
+    let mut k: usize = 0;
+    while k < count {
+        used += write_line(&mut t[used..], c, lines, k);
+        k += 1;
+    }
+    used
+}
+
+// How many instances are present.
+fn present(c: Configuration) -> usize
+    ensures { λ r. ⌜ r ≡ tally 32 (λ i. instance c i .present) ⌝ }
+{
+    let mut n: usize = 0;
+    let mut i: usize = 0;
+    while i < 32 {
+        if instance_of(c, i).present {
+            n += 1;
+        }
+        i += 1;
+    }
+    n
+}
+
+// accepted=, refused=, next=
+fn write_head(t: &mut [u8], w: Walked) -> usize
+    ensures { λ r. ⌜ Written (now (t .entry)) (headPart w) (now (t .exit)) 0 r ⌝ }
+{
+    let a = write_count(t, b"accepted=", w.accepted);
+    let b = a + write_count(&mut t[a..], b"refused=", w.refused as usize);
+    b + write_count(&mut t[b..], b"next=", w.configuration.done)
+}
+
+fn write_instances(t: &mut [u8], c: Configuration) -> usize
+    ensures { λ r. ⌜ Written (now (t .entry)) (instancesPart c) (now (t .exit)) 0 r ⌝ }
+{
+    let a = write_count(t, b"instances=", present(c));
+    a + write_lines(&mut t[a..], c, Lines::Instances, 32)
+}
+
+fn write_connections(t: &mut [u8], c: Configuration) -> usize
+    ensures { λ r. ⌜ Written (now (t .entry)) (connectionsPart c) (now (t .exit)) 0 r ⌝ }
+{
+    let a = write_count(t, b"connections=", c.count as usize);
+    a + write_lines(&mut t[a..], c, Lines::Connections, 512)
+}
+
+// The whole report.
+pub fn write_report(t: &mut [u8], w: Walked) -> usize
+    ensures { λ r. ⌜ Written (now (t .entry)) (report w) (now (t .exit)) 0 r ⌝ }
+{
+    let c = w.configuration;
+    let a = write_head(t, w);
+    let b = a + write_instances(&mut t[a..], c);
+    b + write_connections(&mut t[b..], c)
+}
+
+// How many bytes it has: no report has more than the scratch array.
+pub fn report_length(w: Walked) -> usize
+    ensures { λ r. ⌜ r ≡ length (report w) ⌝ }
+{
+    let mut scratch = [0u8; 131072];
+    write_report(&mut scratch, w)
+}
+
+fn write_text(t: &mut [u8], x: Text) -> usize
+    ensures { λ r. ⌜ Written (now (t .entry)) (textText x) (now (t .exit)) 0 r ⌝ }
+{
+    match x {
+        Text::Neither => 0,
+        Text::Sheet => write_key(t, 0, b"text=sheet\n"),
+        Text::Answer => write_key(t, 0, b"text=answer\n"),
+    }
+}
+
+// text=, line=, refused=
+pub fn write_fault(t: &mut [u8], x: Text, line: usize, refused: u8) -> usize
+    ensures { λ r. ⌜ Written (now (t .entry)) (faultText x line refused) (now (t .exit)) 0 r ⌝ }
+{
+    let a = write_text(t, x);
+    let b = a + write_count(&mut t[a..], b"line=", line);
+    b + write_count(&mut t[b..], b"refused=", refused as usize)
+}
