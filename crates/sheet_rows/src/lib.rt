@@ -1,6 +1,5 @@
-// The rows of a type (transitions, behaviors, ports) and the program, so many lines of one kind each.
-// Promised: each run answers what its definition in crate reading says: the group filled and the next line's place, or 01's number,
-// the place of the line at fault and the group as it was.
+// The rows of a type (transitions, behaviors, ports) and the program: so many lines of one kind, each read from the part that starts with it.
+// Promised: each run answers what its definition in crate reading says of the text from its place on; after a refusal its group is as it was.
 use lines::Went;
 use model::ComponentType;
 use model::Instruction;

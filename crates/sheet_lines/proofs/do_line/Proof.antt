@@ -1,12 +1,39 @@
 use borrow.Author.Needs.{needs}
-use Prim.Native.Nat.{zero-le}
+use Prim.Native.Nat.{ℕ, zero-le}
+use mathlib.Core.List.{List}
 use mathlib.Core.Path.{refl}
+use Rattle.forms.specs.Reader.{Reader, bytes, _or_, none}
+use Rattle.forms.specs.Read.{on}
+use Rattle.model.specs.declared.Instruction.{Instruction}
+use Rattle.model.specs.Verb.{delVerb, pushbVerb, conVerb, dconVerb, waitVerb}
+use Rattle.reading.specs.Limits.{behaviorOk}
+use Rattle.reading.specs.Kinds.{doId, doNumber, doEnds, doLine}
+use Rattle.texts.specs.Reads.{Outcome, Reads}
 use Rattle.texts.specs.Says.{dueSays}
 use Rattle.texts.proofs.Laws.{told}
-use Rattle.reading.specs.Kinds.{doLine}
 use Rattle.sheet_lines.proofs.Limits.{verb-here, verb-other, pushb-below}
 use Rattle.sheet_lines.proofs.do_line.Statement.{statement}
 use Rattle.sheet_lines.proofs.do_line.Tie as tie
+
+-- the line from a verb on
+abbrev fromWait : Reader Instruction
+fromWait = on (bytes "do=wait,") (doId waitVerb) or none
+
+abbrev fromDcon : Reader Instruction
+fromDcon = on (bytes "do=dcon,") (doEnds dconVerb) or fromWait
+
+abbrev fromCon : Reader Instruction
+fromCon = on (bytes "do=con,") (doEnds conVerb) or fromDcon
+
+abbrev fromPushb : Reader Instruction
+fromPushb = on (bytes "do=pushb,") (doNumber pushbVerb behaviorOk) or fromCon
+
+abbrev fromDel : Reader Instruction
+fromDel = on (bytes "do=del,") (doId delVerb) or fromPushb
+
+-- the other verbs have not been there: what is read of the rest is read of the line
+abbrev Onward : List ℕ → ℕ → Reader Instruction → Type 0
+Onward s n rest = (o : Outcome Instruction) → Reads s o (rest s) → Reads s o (doLine n s)
 
 slice-aggregate-past-key : tie.Need-slice-aggregate-past-key
 slice-aggregate-past-key c = search needs
@@ -39,11 +66,12 @@ enum-known-i-2 c = search needs
 do-id-requires : tie.Need-do-id-requires
 do-id-requires c κs = search needs
 
-returns-2 : tie.Need-returns-2
+not-add : (c : tie.After-enum-told) → Onward (c .before .before .before .before .before .args .s .now) (c .before .before .before .before .before .args .types) fromDel
 unfolding doLine
-returns-2 c =
-    verb-other _ _ _ (told dueSays _ (c .before .before .before .before .before .before .before .before .past-key .ensures) (c .before .before .before .before .before .before .enum-told .given .1)) (
-    verb-here _ _ _ (told dueSays _ (c .before .before .before .before .past-key2 .ensures) (c .before .before .i2 .given .1)) (c .do-id .ensures))
+not-add c o h = verb-other _ _ _ (told dueSays _ (c .before .before .past-key .ensures) (c .enum-told .given .1)) h
+
+returns-2 : tie.Need-returns-2
+returns-2 c = not-add (c .before .before .before .before .before .before) _ (verb-here _ _ _ (told dueSays _ (c .before .before .before .before .past-key2 .ensures) (c .before .before .i2 .given .1)) (c .do-id .ensures))
 
 enum-told-2 : tie.Need-enum-told-2
 enum-told-2 c = search needs
@@ -60,12 +88,11 @@ enum-known-i-3 c = search needs
 do-number-requires-2 : tie.Need-do-number-requires-2
 do-number-requires-2 c κs = search needs
 
+not-del : (c : tie.After-enum-told2) → Onward (c .before .before .before .before .before .before .before .before .before .args .s .now) (c .before .before .before .before .before .before .before .before .before .args .types) fromPushb
+not-del c o h = not-add (c .before .before .before .before) o (verb-other _ _ _ (told dueSays _ (c .before .before .past-key2 .ensures) (c .enum-told2 .given .1)) h)
+
 returns-3 : tie.Need-returns-3
-unfolding doLine
-returns-3 c =
-    verb-other _ _ _ (told dueSays _ (c .before .before .before .before .before .before .before .before .before .before .before .before .past-key .ensures) (c .before .before .before .before .before .before .before .before .before .before .enum-told .given .1)) (
-    verb-other _ _ _ (told dueSays _ (c .before .before .before .before .before .before .before .before .past-key2 .ensures) (c .before .before .before .before .before .before .enum-told2 .given .1)) (
-    verb-here _ _ _ (told dueSays _ (c .before .before .before .before .past-key3 .ensures) (c .before .before .i3 .given .1)) (rw pushb-below at (c .do-number2 .ensures))))
+returns-3 c = not-del (c .before .before .before .before .before .before) _ (verb-here _ _ _ (told dueSays _ (c .before .before .before .before .past-key3 .ensures) (c .before .before .i3 .given .1)) (rw pushb-below at (c .do-number2 .ensures)))
 
 enum-told-3 : tie.Need-enum-told-3
 enum-told-3 c = search needs
@@ -82,13 +109,11 @@ enum-known-i-4 c = search needs
 do-ends-requires : tie.Need-do-ends-requires
 do-ends-requires c κs = search needs
 
+not-pushb : (c : tie.After-enum-told3) → Onward (c .before .before .before .before .before .before .before .before .before .before .before .before .before .args .s .now) (c .before .before .before .before .before .before .before .before .before .before .before .before .before .args .types) fromCon
+not-pushb c o h = not-del (c .before .before .before .before) o (verb-other _ _ _ (told dueSays _ (c .before .before .past-key3 .ensures) (c .enum-told3 .given .1)) h)
+
 returns-4 : tie.Need-returns-4
-unfolding doLine
-returns-4 c =
-    verb-other _ _ _ (told dueSays _ (c .before .before .before .before .before .before .before .before .before .before .before .before .before .before .before .before .past-key .ensures) (c .before .before .before .before .before .before .before .before .before .before .before .before .before .before .enum-told .given .1)) (
-    verb-other _ _ _ (told dueSays _ (c .before .before .before .before .before .before .before .before .before .before .before .before .past-key2 .ensures) (c .before .before .before .before .before .before .before .before .before .before .enum-told2 .given .1)) (
-    verb-other _ _ _ (told dueSays _ (c .before .before .before .before .before .before .before .before .past-key3 .ensures) (c .before .before .before .before .before .before .enum-told3 .given .1)) (
-    verb-here _ _ _ (told dueSays _ (c .before .before .before .before .past-key4 .ensures) (c .before .before .i4 .given .1)) (c .do-ends .ensures))))
+returns-4 c = not-pushb (c .before .before .before .before .before .before) _ (verb-here _ _ _ (told dueSays _ (c .before .before .before .before .past-key4 .ensures) (c .before .before .i4 .given .1)) (c .do-ends .ensures))
 
 enum-told-4 : tie.Need-enum-told-4
 enum-told-4 c = search needs
@@ -105,14 +130,11 @@ enum-known-i-5 c = search needs
 do-ends-requires-2 : tie.Need-do-ends-requires-2
 do-ends-requires-2 c κs = search needs
 
+not-con : (c : tie.After-enum-told4) → Onward (c .before .before .before .before .before .before .before .before .before .before .before .before .before .before .before .before .before .args .s .now) (c .before .before .before .before .before .before .before .before .before .before .before .before .before .before .before .before .before .args .types) fromDcon
+not-con c o h = not-pushb (c .before .before .before .before) o (verb-other _ _ _ (told dueSays _ (c .before .before .past-key4 .ensures) (c .enum-told4 .given .1)) h)
+
 returns-5 : tie.Need-returns-5
-unfolding doLine
-returns-5 c =
-    verb-other _ _ _ (told dueSays _ (c .before .before .before .before .before .before .before .before .before .before .before .before .before .before .before .before .before .before .before .before .past-key .ensures) (c .before .before .before .before .before .before .before .before .before .before .before .before .before .before .before .before .before .before .enum-told .given .1)) (
-    verb-other _ _ _ (told dueSays _ (c .before .before .before .before .before .before .before .before .before .before .before .before .before .before .before .before .past-key2 .ensures) (c .before .before .before .before .before .before .before .before .before .before .before .before .before .before .enum-told2 .given .1)) (
-    verb-other _ _ _ (told dueSays _ (c .before .before .before .before .before .before .before .before .before .before .before .before .past-key3 .ensures) (c .before .before .before .before .before .before .before .before .before .before .enum-told3 .given .1)) (
-    verb-other _ _ _ (told dueSays _ (c .before .before .before .before .before .before .before .before .past-key4 .ensures) (c .before .before .before .before .before .before .enum-told4 .given .1)) (
-    verb-here _ _ _ (told dueSays _ (c .before .before .before .before .past-key5 .ensures) (c .before .before .i5 .given .1)) (c .do-ends2 .ensures)))))
+returns-5 c = not-con (c .before .before .before .before .before .before) _ (verb-here _ _ _ (told dueSays _ (c .before .before .before .before .past-key5 .ensures) (c .before .before .i5 .given .1)) (c .do-ends2 .ensures))
 
 enum-told-5 : tie.Need-enum-told-5
 enum-told-5 c = search needs
@@ -129,29 +151,20 @@ enum-known-i-6 c = search needs
 do-id-requires-2 : tie.Need-do-id-requires-2
 do-id-requires-2 c κs = search needs
 
+not-dcon : (c : tie.After-enum-told5) → Onward (c .before .before .before .before .before .before .before .before .before .before .before .before .before .before .before .before .before .before .before .before .before .args .s .now) (c .before .before .before .before .before .before .before .before .before .before .before .before .before .before .before .before .before .before .before .before .before .args .types) fromWait
+not-dcon c o h = not-con (c .before .before .before .before) o (verb-other _ _ _ (told dueSays _ (c .before .before .past-key5 .ensures) (c .enum-told5 .given .1)) h)
+
 returns-6 : tie.Need-returns-6
-unfolding doLine
-returns-6 c =
-    verb-other _ _ _ (told dueSays _ (c .before .before .before .before .before .before .before .before .before .before .before .before .before .before .before .before .before .before .before .before .before .before .before .before .past-key .ensures) (c .before .before .before .before .before .before .before .before .before .before .before .before .before .before .before .before .before .before .before .before .before .before .enum-told .given .1)) (
-    verb-other _ _ _ (told dueSays _ (c .before .before .before .before .before .before .before .before .before .before .before .before .before .before .before .before .before .before .before .before .past-key2 .ensures) (c .before .before .before .before .before .before .before .before .before .before .before .before .before .before .before .before .before .before .enum-told2 .given .1)) (
-    verb-other _ _ _ (told dueSays _ (c .before .before .before .before .before .before .before .before .before .before .before .before .before .before .before .before .past-key3 .ensures) (c .before .before .before .before .before .before .before .before .before .before .before .before .before .before .enum-told3 .given .1)) (
-    verb-other _ _ _ (told dueSays _ (c .before .before .before .before .before .before .before .before .before .before .before .before .past-key4 .ensures) (c .before .before .before .before .before .before .before .before .before .before .enum-told4 .given .1)) (
-    verb-other _ _ _ (told dueSays _ (c .before .before .before .before .before .before .before .before .past-key5 .ensures) (c .before .before .before .before .before .before .enum-told5 .given .1)) (
-    verb-here _ _ _ (told dueSays _ (c .before .before .before .before .past-key6 .ensures) (c .before .before .i6 .given .1)) (c .do-id2 .ensures))))))
+returns-6 c = not-dcon (c .before .before .before .before .before .before) _ (verb-here _ _ _ (told dueSays _ (c .before .before .before .before .past-key6 .ensures) (c .before .before .i6 .given .1)) (c .do-id2 .ensures))
 
 enum-told-6 : tie.Need-enum-told-6
 enum-told-6 c = search needs
 
+not-wait : (c : tie.After-enum-told6) → Onward (c .before .before .before .before .before .before .before .before .before .before .before .before .before .before .before .before .before .before .before .before .before .before .before .before .before .args .s .now) (c .before .before .before .before .before .before .before .before .before .before .before .before .before .before .before .before .before .before .before .before .before .before .before .before .before .args .types) none
+not-wait c o h = not-dcon (c .before .before .before .before) o (verb-other _ _ _ (told dueSays _ (c .before .before .past-key6 .ensures) (c .enum-told6 .given .1)) h)
+
 returns-7 : tie.Need-returns-7
-unfolding doLine
-returns-7 c =
-    verb-other _ _ _ (told dueSays _ (c .before .before .before .before .before .before .before .before .before .before .before .before .before .before .before .before .before .before .before .before .before .before .past-key .ensures) (c .before .before .before .before .before .before .before .before .before .before .before .before .before .before .before .before .before .before .before .before .enum-told .given .1)) (
-    verb-other _ _ _ (told dueSays _ (c .before .before .before .before .before .before .before .before .before .before .before .before .before .before .before .before .before .before .past-key2 .ensures) (c .before .before .before .before .before .before .before .before .before .before .before .before .before .before .before .before .enum-told2 .given .1)) (
-    verb-other _ _ _ (told dueSays _ (c .before .before .before .before .before .before .before .before .before .before .before .before .before .before .past-key3 .ensures) (c .before .before .before .before .before .before .before .before .before .before .before .before .enum-told3 .given .1)) (
-    verb-other _ _ _ (told dueSays _ (c .before .before .before .before .before .before .before .before .before .before .past-key4 .ensures) (c .before .before .before .before .before .before .before .before .enum-told4 .given .1)) (
-    verb-other _ _ _ (told dueSays _ (c .before .before .before .before .before .before .past-key5 .ensures) (c .before .before .before .before .enum-told5 .given .1)) (
-    verb-other _ _ _ (told dueSays _ (c .before .before .past-key6 .ensures) (c .enum-told6 .given .1)) (
-    record { within = zero-le; same = refl }))))))
+returns-7 c = not-wait c _ (record { within = zero-le; same = refl })
 
 pub do-line-spec : {M : Type 1} → statement M
 do-line-spec =

@@ -1,0 +1,76 @@
+// A test program: each argument names a text, by its end a sheet or an answer, and one line says what came of reading it:
+// `NAME refused=N line=L start=S size=Z`, with the line at fault by its number and as a part of the text. make.py writes the cases.
+use libc::STDOUT_FILENO;
+ghost use Rattle.io.specs.Counts.{Counts};
+
+// What stands in a file, or nothing.
+fn read_file(path: &[u8], buffer: &mut [u8]) -> usize
+    ensures { λ r. ⌜ Counts r (now (buffer .exit)) ⌝ }
+{
+    let file = os::open_read(path);
+    if file < 0 {
+        return 0;
+    }
+    let n = io::read_full(file, buffer);
+    libc::close(file);
+    n
+}
+
+fn ends_in(name: &[u8], end: &[u8]) -> bool {
+    if name.len() < end.len() {
+        return false;
+    }
+    let start = name.len() - end.len();
+    check::same(&name[start..], end)
+}
+
+fn write_number(key: &[u8], n: usize) {
+    io::write_all(STDOUT_FILENO, key);
+    io::print_decimal(STDOUT_FILENO, n as u64);
+}
+
+// Only after 2 to 5 is there a line at fault; else the part is empty.
+fn write_reading(name: &[u8], text: &[u8], refused: u8, place: usize) {
+    let mut line: usize = 0;
+    let mut size: usize = 0;
+    match refused {
+        2..=5 => {
+            line = lines::line_number(text, place);
+            size = lines::line_size(text, place);
+        }
+        _ => {}
+    }
+    io::write_all(STDOUT_FILENO, name);
+    write_number(b" refused=", model::wide(refused));
+    write_number(b" line=", line);
+    write_number(b" start=", place);
+    write_number(b" size=", size);
+    io::write_all(STDOUT_FILENO, b"\n");
+}
+
+fn read_text(name: &[u8], text: &[u8]) {
+    if ends_in(name, b".sheet") {
+        let read = sheets::read_sheet(text);
+        write_reading(name, text, read.refused, read.place);
+    }
+    if ends_in(name, b".answer") {
+        let read = answers::read_answer(text);
+        write_reading(name, text, read.refused, read.place);
+    }
+}
+
+// The buffer has one byte more than a text may have, so a text that is too long is seen as such.
+fn run_case(i: usize) {
+    let mut name = [0u8; 64];
+    let k = os::arg(i, &mut name);
+    let mut buffer = [0u8; 32769];
+    let n = read_file(&name[..k], &mut buffer);
+    read_text(&name[..k], &buffer[..n]);
+}
+
+fn main() {
+    let n = os::arg_count();
+    for i in 1..n {
+        run_case(i);
+    }
+}
