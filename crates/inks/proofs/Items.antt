@@ -3,16 +3,16 @@
 use Prim.Native.Nat.{ℕ, zero, suc, _+_, _-_, _/_, _%_, _≤_, _<_}
 use mathlib.Core.Path.{_≡_, refl, ap, sym, _∙_}
 use mathlib.Core.List.{List, [], _∷_, _++_, append-assoc, append-nil}
-use mathlib.Core.Bool.{Bool, true, false}
+use mathlib.Core.Bool.{true, false}
 use native.Mathlib.Omega.{arith}
 use native.Mathlib.Numerals.{add-one}
 use lib.ListN.{length, take, getD, set, length-set}
 use lib.Seq.{take-suc, take-suc-set}
-use lib.Dec.{ltb}
 use borrow.Author.Tests.{lt-ltb, le-ltb}
 use Rattle.model.specs.View.{listOf}
 use Rattle.model.proofs.View.{list-snoc, list-head}
 use Rattle.sets.specs.Mask.{member}
+use Rattle.forms.proofs.Bits.{below-has, below-not}
 use Rattle.forms.specs.Write.{digitsIn, numberText, membersBelow, moreText, listText}
 
 -- ---- digits
@@ -86,21 +86,15 @@ gathered-none m l e = record { few = omega arith; long = e; first = refl }
 
 module _ {m k n : ℕ} {l : List ℕ} (g : Gathered m k n l) where
   pub member-turn : member k m ≡ true → k < 32 → Gathered m (k + 1) (n + 1) (set l n k)
-  unfolding membersBelow
   member-turn is h = record {
     few = omega (arith, g .few);
     long = length-set l n k ∙ g .long;
-    first = rw (add-one n, add-one k, is)
+    first = rw (add-one n, add-one k, below-has k m is)
         (take-suc-set l n k (omega (arith, g .few, g .long)) ∙ ap (λ (xs : List ℕ). xs ++ (k ∷ [])) (g .first));
   }
 
   pub other-turn : member k m ≡ false → Gathered m (k + 1) n l
-  unfolding membersBelow
-  other-turn is = record {
-    few = omega (arith, g .few);
-    long = g .long;
-    first = rw (add-one k, is) (g .first ∙ sym (append-nil (membersBelow k m)));
-  }
+  other-turn is = record { few = omega (arith, g .few); long = g .long; first = rw (add-one k, below-not k m is) (g .first) }
 
 -- the first n of a table
 pub table : (n : ℕ) (l : List ℕ) → n ≤ length l → listOf n (λ i. getD l i 0) ≡ take n l

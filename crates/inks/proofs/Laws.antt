@@ -8,10 +8,10 @@ use native.Mathlib.Omega.{arith}
 use native.Mathlib.Numerals.{add-one}
 use native.Mathlib.Decide.{decLt}
 use lib.ListN.{length, take, drop, set, length-append, length-take, length-drop, take-append-drop, drop-of-length-le}
+use lib.Seq.{set-split, take-all, take-nil, take-at, drop-append-add, drop-drop, append-snoc}
 use mir.Syntax.{w64}
 use mir.Val.{Fits}
 use mir.Facts.{fits-le}
-use lib.Seq.{set-split, take-all, take-nil, take-at, drop-append-add, drop-drop, append-snoc}
 use Rattle.inks.specs.Written.{Written}
 
 -- ---- lists
@@ -43,7 +43,8 @@ module _ (old : List ℕ) (a b : ℕ) where
   pub byte-stored : a < length old → Written old (b ∷ []) (set old a b) a (a + 1)
   byte-stored h = record {
     to-is = omega arith;
-    new-is = set-split old a b h ∙ rw (take-all (length old - a) (b ∷ []) (omega arith), add-one a) (sym (append-snoc (take a old) b (drop (suc a) old)));
+    new-is = set-split old a b h
+        ∙ rw (take-all (length old - a) (b ∷ []) (omega arith), add-one a) (sym (append-snoc (take a old) b (drop (suc a) old)));
   }
 
 past : {old xs mid : List ℕ} {a b : ℕ} → Written old xs mid a b → length old ≤ a → mid ≡ old

@@ -64,8 +64,8 @@ pub fn write_list(t: &mut [u8], at: usize, a: &[u8], count: usize) -> usize
     let mut p = write_number(t, at, number_at(a, 0));
     let mut i: usize = 1;
     while i < count {
-        let q = write_byte(t, p, b'+');
-        p = write_number(t, q, number_at(a, i));
+        p = write_byte(t, p, b'+');
+        p = write_number(t, p, number_at(a, i));
         i += 1;
     }
     p

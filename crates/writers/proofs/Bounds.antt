@@ -1,4 +1,4 @@
--- No report has more than 131,072 bytes: a number has seven digits at most, a mask 32 members, a queue 255 behaviors.
+-- No report has more than 131,072 bytes: a number has seven digits at most, a mask 32 members, a queue 255 behaviors. Fault lines have 41 at most.
 -- Assumes nothing.
 use Prim.Native.Nat.{ℕ, zero, suc, _+_, _-_, _*_, _/_, _≤_, _<_}
 use mathlib.Core.Path.{_≡_, refl}
@@ -20,12 +20,15 @@ use Rattle.model.specs.declared.Instance.{Instance}
 use Rattle.model.specs.declared.Connection.{Connection}
 use Rattle.model.specs.declared.Configuration.{Configuration}
 use Rattle.model.specs.declared.Walked.{Walked}
+use Rattle.model.specs.declared.Text.{Text}
+use Rattle.model.specs.declared.Text.the-variants as text
 use Rattle.model.specs.Empty.{absent}
 use Rattle.model.specs.View.{instance, connection, slot, queueOf}
 use Rattle.model.proofs.View.{length-list}
 use Rattle.model.proofs.Instance.{the-field, the-type}
 use Rattle.inks.proofs.Items.{digits-none, digits-last, digits-more}
 use Rattle.report.specs.Report.{tally, countText, instanceText, connectionText, instanceAt, connectionAt, instancesText, connectionsText, report}
+use Rattle.report.specs.Faults.{textText, faultText}
 
 -- ---- what the types of an instance's fields say of its queue
 
@@ -103,7 +106,18 @@ lookup-short c (suc n) u q =
     (connection-short (connection c n))
     (lookup-short c n u q)
 
--- ---- the whole
+text-short : (x : Text) → length (textText x) ≤ 12
+unfolding textText
+text-short text.Neither = omega arith
+text-short text.Sheet = omega arith
+text-short text.Answer = omega arith
+
+pub fault-short : (x : Text) (at refused : ℕ) → length (faultText x at refused) ≤ 41
+unfolding faultText
+fault-short x at refused =
+    simp length-append (omega (arith, text-short x, count-short (bytes "line=") at, count-short (bytes "refused=") refused))
+
+-- ---- the whole report
 
 turn-short : (f : ℕ → List ℕ) (b : ℕ) → ((k : ℕ) → length (f k) ≤ b) → (n : ℕ) → length (inTurn f n) ≤ n * b
 unfolding inTurn

@@ -42,27 +42,31 @@ module _ (p : ℕ → Bool) (n : ℕ) where
 
 -- ---- an instance
 
-module _ (c : Configuration) (i : ℕ) where
-  pub absent-line : instance c i .present ≡ false → instanceAt c i ≡ []
+module _ (c : Configuration) (i : ℕ) (w : Instance) (is : w ≡ instance c i) where
+  pub absent-line : w .present ≡ false → instanceAt c i ≡ []
   unfolding instanceAt
-  absent-line h = rw h
+  absent-line h = rw (rw is at h)
 
-  pub present-line : instance c i .present ≡ true → instanceAt c i ≡ instanceText i (instance c i) (listOf (instance c i .queued) (slot c i))
+  pub present-line : w .present ≡ true → instanceAt c i ≡ instanceText i w (listOf (w .queued) (slot c i))
   unfolding instanceAt queueOf
-  present-line h = rw h
+  present-line h = rw (is, rw is at h)
 
-  pub present-below : length (c .instances) ≡ 32 → instance c i .present ≡ true → i < 32
+  pub present-below : length (c .instances) ≡ 32 → w .present ≡ true → i < 32
   present-below e h =
       by-cases (decLt i 32)
       (λ l. l)
-      (λ l. let d : false ≡ true = sym (ap (λ (v : Instance). v .present) (past-end (c .instances) absent e (omega arith))) ∙ h in
+      (λ l. let d : w ≡ absent = is ∙ past-end (c .instances) absent e (omega arith) in
+      let f : false ≡ true = rw d at h in
       let z : _≡_ {A = ℕ} 0 1 = cc in omega arith)
 
-  -- its slots in the part of the queue that starts with its head
-  pub slots-of : (n : ℕ) → length (c .queue) ≡ 256 → i < 32 → listOf n (λ r. getD (take (256 - i * 8) (drop (i * 8) (c .queue))) r 0) ≡ listOf n (slot c i)
-  slots-of n e h =
-      let all : take (256 - i * 8) (drop (i * 8) (c .queue)) ≡ drop (i * 8) (c .queue) = take-all (256 - i * 8) (drop (i * 8) (c .queue)) (simp length-drop (omega arith)) in
-      list-same n (λ r. getD (take (256 - i * 8) (drop (i * 8) (c .queue))) r 0) (slot c i) (λ r l. ap (λ (q : List ℕ). getD q r 0) all ∙ getD-drop (i * 8) (c .queue) r 0)
+-- its slots are the part of the queue that starts with its head
+pub slots-of : (c : Configuration) (i n : ℕ) → length (c .queue) ≡ 256 → i < 32
+    → listOf n (λ r. getD (take (256 - i * 8) (drop (i * 8) (c .queue))) r 0) ≡ listOf n (slot c i)
+slots-of c i n e h =
+    let part = drop (i * 8) (c .queue) in
+    let all : take (256 - i * 8) part ≡ part = take-all (256 - i * 8) part (simp length-drop (omega arith)) in
+    list-same n (λ r. getD (take (256 - i * 8) part) r 0) (slot c i)
+    (λ r l. ap (λ (q : List ℕ). getD q r 0) all ∙ getD-drop (i * 8) (c .queue) r 0)
 
 -- ---- a connection, looked up from the last one down
 

@@ -25,43 +25,43 @@ ghost use Rattle.writers.specs.Lines.{lineOf, headPart, instancesPart, c
 fn write_count(t: &mut [u8], key: &[u8], v: usize) -> usize
     ensures { λ r. ⌜ Written (now (t .entry)) (countText (now (key .entry)) v) (now (t .exit)) 0 r ⌝ }
 {
-    let a = write_key(t, 0, key);
-    let b = write_number(t, a, v);
-    write_byte(t, b, b'\n')
+    let mut at = write_key(t, 0, key);
+    at = write_number(t, at, v);
+    write_byte(t, at, b'\n')
 }
 
 // instance=id,type,marked,running,ended,queue
 fn write_instance(t: &mut [u8], i: usize, w: Instance, slots: &[u8]) -> usize
     ensures { λ r. ⌜ Written (now (t .entry)) (instanceText i w (listOf (w .queued) (λ s. getD (now (slots .entry)) s 0))) (now (t .exit)) 0 r ⌝ }
 {
-    let a = write_key(t, 0, b"instance=");
-    let b = write_number(t, a, i);
-    let d = write_byte(t, b, b',');
-    let e = write_number(t, d, w.kind as usize);
-    let f = write_byte(t, e, b',');
-    let g = write_mask(t, f, w.marked);
-    let h = write_byte(t, g, b',');
-    let j = write_mask(t, h, w.running);
-    let k = write_byte(t, j, b',');
-    let l = write_mask(t, k, w.ended);
-    let m = write_byte(t, l, b',');
-    let n = write_list(t, m, slots, w.queued as usize);
-    write_byte(t, n, b'\n')
+    let mut at = write_key(t, 0, b"instance=");
+    at = write_number(t, at, i);
+    at = write_byte(t, at, b',');
+    at = write_number(t, at, w.kind as usize);
+    at = write_byte(t, at, b',');
+    at = write_mask(t, at, w.marked);
+    at = write_byte(t, at, b',');
+    at = write_mask(t, at, w.running);
+    at = write_byte(t, at, b',');
+    at = write_mask(t, at, w.ended);
+    at = write_byte(t, at, b',');
+    at = write_list(t, at, slots, w.queued as usize);
+    write_byte(t, at, b'\n')
 }
 
 // connection=user,useport,provider,provideport
 fn write_connection(t: &mut [u8], k: Connection) -> usize
     ensures { λ r. ⌜ Written (now (t .entry)) (connectionText k) (now (t .exit)) 0 r ⌝ }
 {
-    let a = write_key(t, 0, b"connection=");
-    let b = write_number(t, a, k.user as usize);
-    let d = write_byte(t, b, b',');
-    let e = write_number(t, d, k.useport as usize);
-    let f = write_byte(t, e, b',');
-    let g = write_number(t, f, k.provider as usize);
-    let h = write_byte(t, g, b',');
-    let j = write_number(t, h, k.provideport as usize);
-    write_byte(t, j, b'\n')
+    let mut at = write_key(t, 0, b"connection=");
+    at = write_number(t, at, k.user as usize);
+    at = write_byte(t, at, b',');
+    at = write_number(t, at, k.useport as usize);
+    at = write_byte(t, at, b',');
+    at = write_number(t, at, k.provider as usize);
+    at = write_byte(t, at, b',');
+    at = write_number(t, at, k.provideport as usize);
+    write_byte(t, at, b'\n')
 }
 
 // Instance i's line, nothing where it is absent.
@@ -92,12 +92,13 @@ fn write_connection_at(t: &mut [u8], c: Configuration, user: usize, port: usize)
     0
 }
 
-// The lines that are written in turn: of the instances by id, of the connections by user and then port, sixteen ports for each user.
+// The lines that are written in turn, so that one loop writes both: of the instances by id, of the connections by user and then port.
 enum Lines {
     Instances,
     Connections,
 }
 
+// Line k of them; each user has sixteen ports.
 fn write_line(t: &mut [u8], c: Configuration, lines: Lines, k: usize) -> usize
     ensures { λ r. ⌜ Written (now (t .entry)) (lineOf c lines k) (now (t .exit)) 0 r ⌝ }
 {
@@ -139,23 +140,25 @@ fn present(c: Configuration) -> usize
 fn write_head(t: &mut [u8], w: Walked) -> usize
     ensures { λ r. ⌜ Written (now (t .entry)) (headPart w) (now (t .exit)) 0 r ⌝ }
 {
-    let a = write_count(t, b"accepted=", w.accepted);
-    let b = a + write_count(&mut t[a..], b"refused=", w.refused as usize);
-    b + write_count(&mut t[b..], b"next=", w.configuration.done)
+    let mut used = write_count(t, b"accepted=", w.accepted);
+    used += write_count(&mut t[used..], b"refused=", w.refused as usize);
+    used + write_count(&mut t[used..], b"next=", w.configuration.done)
 }
 
+// instances= and a line for each that is present
 fn write_instances(t: &mut [u8], c: Configuration) -> usize
     ensures { λ r. ⌜ Written (now (t .entry)) (instancesPart c) (now (t .exit)) 0 r ⌝ }
 {
-    let a = write_count(t, b"instances=", present(c));
-    a + write_lines(&mut t[a..], c, Lines::Instances, 32)
+    let used = write_count(t, b"instances=", present(c));
+    used + write_lines(&mut t[used..], c, Lines::Instances, 32)
 }
 
+// connections= and a line for each
 fn write_connections(t: &mut [u8], c: Configuration) -> usize
     ensures { λ r. ⌜ Written (now (t .entry)) (connectionsPart c) (now (t .exit)) 0 r ⌝ }
 {
-    let a = write_count(t, b"connections=", c.count as usize);
-    a + write_lines(&mut t[a..], c, Lines::Connections, 512)
+    let used = write_count(t, b"connections=", c.count as usize);
+    used + write_lines(&mut t[used..], c, Lines::Connections, 512)
 }
 
 // The whole report.
@@ -163,12 +166,12 @@ pub fn write_report(t: &mut [u8], w: Walked) -> usize
     ensures { λ r. ⌜ Written (now (t .entry)) (report w) (now (t .exit)) 0 r ⌝ }
 {
     let c = w.configuration;
-    let a = write_head(t, w);
-    let b = a + write_instances(&mut t[a..], c);
-    b + write_connections(&mut t[b..], c)
+    let mut used = write_head(t, w);
+    used += write_instances(&mut t[used..], c);
+    used + write_connections(&mut t[used..], c)
 }
 
-// How many bytes it has: no report has more than the scratch array.
+// How many bytes it has. None is cut: a number has seven digits at most, a set 32 members, a queue 255 behaviors.
 pub fn report_length(w: Walked) -> usize
     ensures { λ r. ⌜ r ≡ length (report w) ⌝ }
 {
@@ -176,6 +179,7 @@ pub fn report_length(w: Walked) -> usize
     write_report(&mut scratch, w)
 }
 
+// text=, nothing where neither text is at fault
 fn write_text(t: &mut [u8], x: Text) -> usize
     ensures { λ r. ⌜ Written (now (t .entry)) (textText x) (now (t .exit)) 0 r ⌝ }
 {
@@ -190,7 +194,7 @@ fn write_text(t: &mut [u8], x: Text) -> usize
 pub fn write_fault(t: &mut [u8], x: Text, line: usize, refused: u8) -> usize
     ensures { λ r. ⌜ Written (now (t .entry)) (faultText x line refused) (now (t .exit)) 0 r ⌝ }
 {
-    let a = write_text(t, x);
-    let b = a + write_count(&mut t[a..], b"line=", line);
-    b + write_count(&mut t[b..], b"refused=", refused as usize)
+    let mut used = write_text(t, x);
+    used += write_count(&mut t[used..], b"line=", line);
+    used + write_count(&mut t[used..], b"refused=", refused as usize)
 }

@@ -42,16 +42,5 @@ module _ (t : ℕ) where
 
 pub +write-digits-spec : {M : Type 1} → statement M
 +write-digits-spec = close μ λ t. lts.spec (claims t) (at t) write-digits.Post
-    (returns t)
-    (λ c. search needs)
-    (λ c. search needs)
-    (λ c κs. search needs)
-    (λ c. search needs)
-    (returns-2 t)
-    (λ c. search needs)
-    (write-digits-requires t)
-    (λ c. search needs)
-    (λ c. search needs)
-    (λ c κs. search needs)
-    (λ c. search needs)
-    (returns-3 t)
+    (returns t) (λ c. search needs) (λ c. search needs) (λ c κs. search needs) (λ c. search needs) (returns-2 t) (λ c. search needs)
+    (write-digits-requires t) (λ c. search needs) (λ c. search needs) (λ c κs. search needs) (λ c. search needs) (returns-3 t)

@@ -1,5 +1,4 @@
 -- The members below k are gathered; what is left of the 32 falls.
--- Assumes nothing.
 use Prim.Native.Nat.{_≤_, _-_}
 use mathlib.Core.Path.{_≡_, refl, sym, _∙_}
 use mathlib.Core.Logic.{⊎-elim}
@@ -8,9 +7,6 @@ use borrow.Author.Needs.{needs}
 use Rattle.inks.proofs.Items.{Gathered, gathered-none, member-turn, other-turn, table}
 use Rattle.inks.proofs.members_of.Statement.{statement}
 use Rattle.inks.proofs.members_of.Tie as tie
-use Rattle.inks.proofs.members_of.Reads as reads
-use Rattle.inks.proofs.members_of.Lts as lts
-use Rattle.sets.proofs.member.Reads as member-reads
 
 abbrev Inv-loop : tie.InvT-loop
 Inv-loop m list₀ count₀ k₀ list count k = (k ≤ 32) × Gathered m k count list
@@ -20,9 +16,6 @@ abbrev μ-loop : tie.MeasureT-loop
 
 loop-holds : tie.Need-loop-holds Inv-loop μ-loop
 loop-holds c = (omega arith, gathered-none _ _ refl)
-
-loop-less : tie.Need-loop-less Inv-loop μ-loop
-loop-less c = omega arith
 
 loop-again : tie.Need-loop-again Inv-loop μ-loop
 loop-again c =
@@ -43,14 +36,5 @@ pub members-of-spec : {M : Type 1} → statement M
 members-of-spec =
     tie.close
     (tie.spec
-    Inv-loop
-    μ-loop
-    loop-holds
-    (λ c. search needs)
-    (λ c κs. search needs)
-    (λ c. search needs)
-    (λ c. search needs)
-    (λ c. search needs)
-    loop-less
-    loop-again
-    returns)
+    Inv-loop μ-loop loop-holds (λ c. search needs) (λ c κs. search needs) (λ c. search needs) (λ c. search needs) (λ c. search needs)
+    (λ c. omega arith) loop-again returns)

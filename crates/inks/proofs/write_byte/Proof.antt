@@ -10,4 +10,7 @@ returns-2 : tie.Need-returns-2
 returns-2 c = byte-stored _ _ _ (c .if1 .left)
 
 pub write-byte-spec : {M : Type 1} → statement M
-write-byte-spec = tie.close (tie.spec returns (λ c. search needs) (λ c. search needs) (λ c. search needs) returns-2)
+write-byte-spec =
+    tie.close
+    (tie.spec
+    returns (λ c. search needs) (λ c. search needs) (λ c. search needs) returns-2)

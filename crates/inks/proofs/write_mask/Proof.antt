@@ -1,12 +1,7 @@
--- Assumes nothing.
 use Rattle.forms.specs.Write.{maskText}
 use borrow.Author.Needs.{needs}
 use Rattle.inks.proofs.write_mask.Statement.{statement}
 use Rattle.inks.proofs.write_mask.Tie as tie
-use Rattle.inks.proofs.write_mask.Reads as reads
-use Rattle.inks.proofs.write_mask.Lts as lts
-use Rattle.inks.proofs.members_of.Reads as members-of-reads
-use Rattle.inks.proofs.write_list.Reads as write-list-reads
 
 returns : tie.Need-returns
 unfolding maskText
@@ -16,8 +11,4 @@ pub write-mask-spec : {M : Type 1} → statement M
 write-mask-spec =
     tie.close
     (tie.spec
-    (λ c κs. search needs)
-    (λ c. search needs)
-    (λ c κs. search needs)
-    (λ c. search needs)
-    returns)
+    (λ c κs. search needs) (λ c. search needs) (λ c κs. search needs) (λ c. search needs) returns)

@@ -15,5 +15,4 @@ returns : tie.Need-returns
 returns c = omega (arith, short (c .before .before .before), c .before .write-report .ensures .to-is)
 
 pub report-length-spec : {M : Type 1} → statement M
-report-length-spec =
-    tie.close (tie.spec (λ c. search needs) (λ c κs. search needs) returns)
+report-length-spec = tie.close (tie.spec (λ c. search needs) (λ c κs. search needs) returns)

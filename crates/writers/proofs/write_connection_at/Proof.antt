@@ -1,12 +1,11 @@
 -- None of the connections from n on is the one looked for; n falls.
-use mathlib.Core.Path.{_≡_, refl, ap, _∙_}
+use mathlib.Core.Path.{_≡_, refl, _∙_}
 use mathlib.Core.Logic.{⊎-elim}
 use native.Mathlib.Omega.{arith}
-use lib.ListN.{length}
+use borrow.Author.Needs.{needs}
 use Rattle.report.specs.Report.{connectionAt}
 use Rattle.inks.proofs.Laws.{none, length-written}
 use Rattle.writers.proofs.Parts.{found, other-user, other-port, none-found}
-use borrow.Author.Needs.{needs}
 use Rattle.writers.proofs.write_connection_at.Statement.{statement}
 use Rattle.writers.proofs.write_connection_at.Tie as tie
 
@@ -21,27 +20,23 @@ loop-holds c = (refl, refl)
 
 returns : tie.Need-returns Inv-loop μ-loop
 returns c =
-    let l = c .before .before .before .before .before .before .before .before .before .before .loop in
-    let k = c .before .before .before .before .before .before .before .before .connection-of in
-    rw (l .inv .1 ∙ found _ _ _ (l .n) _ (c .before .before .before .before .before .before .before .before .before .loop-test .taken) (k .ensures) (c .before .before .before .before .before .before .if1 .taken) (c .before .before .before .before .if2 .taken)) (rw (l .inv .0) at (c .before .before .write-connection .ensures))
-
-same-length : tie.Need-same-length Inv-loop μ-loop
-same-length c = length-written (returns c)
-
-loop-less : tie.Need-loop-less Inv-loop μ-loop
-loop-less c = omega arith
+    let line = c .before .before in
+    let port = line .before .before in
+    let user = port .before .before in
+    let k = user .before .before in
+    let l = k .before .before .loop in
+    let is = found _ _ _ (l .n) _ (k .before .loop-test .taken) (k .connection-of .ensures) (user .if1 .taken) (port .if2 .taken) in
+    rw (l .inv .1 ∙ is) (rw (l .inv .0) at (line .write-connection .ensures))
 
 loop-again : tie.Need-loop-again Inv-loop μ-loop
 loop-again c =
-    let l = c .before .before .before .before .loop in
-    let k = c .before .before .connection-of in
+    let k = c .before .before in
+    let l = k .before .before .loop in
+    let more = k .before .loop-test .taken in
     ⊎-elim
-    (λ w. (l .inv .0, l .inv .1 ∙ other-port _ _ _ (l .n) _ (c .before .before .before .loop-test .taken) (k .ensures) (w .0 .taken) (w .2 .left)))
-    (λ w. (l .inv .0, l .inv .1 ∙ other-user _ _ _ (l .n) _ (c .before .before .before .loop-test .taken) (k .ensures) (w .left)))
+    (λ w. (l .inv .0, l .inv .1 ∙ other-port _ _ _ (l .n) _ more (k .connection-of .ensures) (w .0 .taken) (w .2 .left)))
+    (λ w. (l .inv .0, l .inv .1 ∙ other-user _ _ _ (l .n) _ more (k .connection-of .ensures) (w .left)))
     (c .if1 .came)
-
-same-length-2 : tie.Need-same-length-2 Inv-loop μ-loop
-same-length-2 c = ap length (c .before .loop .inv .0)
 
 returns-2 : tie.Need-returns-2 Inv-loop μ-loop
 returns-2 c = let l = c .before .loop in rw (l .inv .1 ∙ none-found _ _ _ (l .n) (c .loop-test .left)) (rw (l .inv .0) (none _ _))
@@ -50,18 +45,6 @@ pub write-connection-at-spec : {M : Type 1} → statement M
 write-connection-at-spec =
     tie.close
     (tie.spec
-    Inv-loop
-    μ-loop
-    (λ c. search needs)
-    loop-holds
-    (λ c. search needs)
-    (λ c κs. search needs)
-    (λ c. search needs)
-    (λ c. search needs)
-    (λ c κs. search needs)
-    same-length
-    returns
-    loop-less
-    loop-again
-    same-length-2
+    Inv-loop μ-loop (λ c. search needs) loop-holds (λ c. search needs) (λ c κs. search needs) (λ c. search needs) (λ c. search needs)
+    (λ c κs. search needs) (λ c. length-written (returns c)) returns (λ c. omega arith) loop-again (λ c. length-written (returns-2 c))
     returns-2)

@@ -1,25 +1,20 @@
-use Rattle.writers.specs.Lines.{connectionsPart}
-use Rattle.inks.proofs.Laws.{next}
-use Rattle.writers.proofs.Parts.{connections-lines}
 use borrow.Author.Needs.{needs}
+use Rattle.inks.proofs.Laws.{next}
+use Rattle.writers.specs.Lines.{connectionsPart}
+use Rattle.writers.proofs.Parts.{connections-lines}
 use Rattle.writers.proofs.write_connections.Statement.{statement}
 use Rattle.writers.proofs.write_connections.Tie as tie
 
 returns : tie.Need-returns
 unfolding connectionsPart
-returns c = next (c .before .before .before .before .before .before .write-count .ensures) (rw (connections-lines _) at (c .before .before .write-lines .ensures))
+returns c =
+    let lines = c .before .before in
+    let count = lines .before .before .before .before in
+    next (count .write-count .ensures) (rw (connections-lines _) at (lines .write-lines .ensures))
 
 pub write-connections-spec : {M : Type 1} → statement M
 write-connections-spec =
     tie.close
     (tie.spec
-    (λ c. search needs)
-    (λ c. search needs)
-    (λ c κs. search needs)
-    (λ c. search needs)
-    (λ c. search needs)
-    (λ c. search needs)
-    (λ c κs. search needs)
-    (λ c. search needs)
-    (λ c. search needs)
-    returns)
+    (λ c. search needs) (λ c. search needs) (λ c κs. search needs) (λ c. search needs) (λ c. search needs) (λ c. search needs)
+    (λ c κs. search needs) (λ c. search needs) (λ c. search needs) returns)

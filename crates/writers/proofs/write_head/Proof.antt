@@ -1,38 +1,21 @@
-use Rattle.writers.specs.Lines.{headPart}
-use Rattle.inks.proofs.Laws.{next, used-fits}
 use borrow.Author.Needs.{needs}
+use Rattle.inks.proofs.Laws.{next, used-fits}
+use Rattle.writers.specs.Lines.{headPart}
 use Rattle.writers.proofs.write_head.Statement.{statement}
 use Rattle.writers.proofs.write_head.Tie as tie
 
 returns : tie.Need-returns
 unfolding headPart
 returns c =
-    let d = c .before .before in
-    let b = d .before .before .before .before .before in
-    let a = b .before .before .before .before .before .before in
-    next (next (a .write-count .ensures) (b .write-count2 .ensures)) (d .write-count3 .ensures)
-
-add-result : tie.Need-add-result
-add-result c = used-fits (returns c) (search needs)
+    let done = c .before .before in
+    let refused = done .before .before .before .before .before in
+    let accepted = refused .before .before .before .before .before .before in
+    next (next (accepted .write-count .ensures) (refused .write-count2 .ensures)) (done .write-count3 .ensures)
 
 pub write-head-spec : {M : Type 1} → statement M
 write-head-spec =
     tie.close
     (tie.spec
-    (λ c. search needs)
-    (λ c κs. search needs)
-    (λ c. search needs)
-    (λ c. search needs)
-    (λ c. search needs)
-    (λ c. search needs)
-    (λ c. search needs)
-    (λ c κs. search needs)
-    (λ c. search needs)
-    (λ c. search needs)
-    (λ c. search needs)
-    (λ c. search needs)
-    (λ c. search needs)
-    (λ c κs. search needs)
-    add-result
-    (λ c. search needs)
-    returns)
+    (λ c. search needs) (λ c κs. search needs) (λ c. search needs) (λ c. search needs) (λ c. search needs) (λ c. search needs)
+    (λ c. search needs) (λ c κs. search needs) (λ c. search needs) (λ c. search needs) (λ c. search needs) (λ c. search needs)
+    (λ c. search needs) (λ c κs. search needs) (λ c. used-fits (returns c) (search needs)) (λ c. search needs) returns)

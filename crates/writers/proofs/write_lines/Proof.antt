@@ -3,12 +3,12 @@ use Prim.Native.Nat.{_≤_, _-_}
 use mathlib.Core.Path.{_≡_, refl}
 use native.Mathlib.Omega.{arith}
 use lib.ListN.{length}
+use borrow.Author.Needs.{needs}
 use Rattle.forms.specs.Write.{inTurn}
 use Rattle.inks.specs.Written.{Written}
 use Rattle.inks.proofs.Laws.{none, next, length-written}
 use Rattle.writers.specs.Lines.{lineOf}
 use Rattle.writers.proofs.Parts.{turn-none, turn-more}
-use borrow.Author.Needs.{needs}
 use Rattle.writers.proofs.write_lines.Statement.{statement}
 use Rattle.writers.proofs.write_lines.Tie as tie
 
@@ -21,16 +21,11 @@ abbrev μ-loop : tie.MeasureT-loop
 loop-holds : tie.Need-loop-holds Inv-loop μ-loop
 loop-holds c = (omega arith, refl, rw (turn-none _) (none _ _))
 
-loop-less : tie.Need-loop-less Inv-loop μ-loop
-loop-less c = omega arith
-
 loop-again : tie.Need-loop-again Inv-loop μ-loop
 loop-again c =
-    let w = next (c .before .before .before .before .before .loop .inv .2) (c .before .before .write-line .ensures) in
+    let line = c .before .before in
+    let w = next (line .before .before .before .loop .inv .2) (line .write-line .ensures) in
     (omega arith, length-written w, rw (turn-more _ _) w)
-
-same-length : tie.Need-same-length Inv-loop μ-loop
-same-length c = c .before .loop .inv .1
 
 returns : tie.Need-returns Inv-loop μ-loop
 returns c = let e : c .before .loop .k ≡ c .before .before .before .args .count = omega arith in rw e at (c .before .loop .inv .2)
@@ -39,16 +34,5 @@ pub write-lines-spec : {M : Type 1} → statement M
 write-lines-spec =
     tie.close
     (tie.spec
-    Inv-loop
-    μ-loop
-    loop-holds
-    (λ c. search needs)
-    (λ c. search needs)
-    (λ c. search needs)
-    (λ c κs. search needs)
-    (λ c. search needs)
-    (λ c. search needs)
-    loop-less
-    loop-again
-    same-length
-    returns)
+    Inv-loop μ-loop loop-holds (λ c. search needs) (λ c. search needs) (λ c. search needs) (λ c κs. search needs) (λ c. search needs)
+    (λ c. search needs) (λ c. omega arith) loop-again (λ c. length-written (returns c)) returns)
