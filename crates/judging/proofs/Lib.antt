@@ -1,0 +1,6 @@
+-- The course by its order (Order), the judgement (Judgement), places within their texts (Places), the print (Printed), no other outcome (Once).
+pub mod Order
+pub mod Judgement
+pub mod Places
+pub mod Printed
+pub mod Once

@@ -1,0 +1,151 @@
+-- The course by the order of 01: a text too long, a text refused at a line, both texts read and the answer walked.
+-- Assumes nothing.
+use Prim.Native.Nat.{ℕ, _-_, _<_, _≤_}
+use mathlib.Core.List.{List}
+use mathlib.Core.Path.{_≡_, refl}
+use mathlib.Core.Logic.{by-cases}
+use native.Mathlib.Omega.{arith}
+use native.Mathlib.Decide.{ℕ-discrete, decLt}
+use borrow.Author.Tests.{le-leb, lt-leb, leb-true}
+use lib.Dec.{eqb}
+use lib.ListN.{length, take, length-take}
+use Rattle.forms.proofs.Tests.{by-test, and-left}
+use Rattle.model.specs.declared.Tables.{Tables}
+use Rattle.model.specs.declared.Program.{Program}
+use Rattle.model.specs.declared.Answer.{Answer}
+use Rattle.model.specs.declared.Walked.{Walked}
+use Rattle.model.specs.declared.Text.{Text}
+use Rattle.model.specs.declared.Text.the-variants as text
+use Rattle.model.specs.Empty.{start}
+use Rattle.model.specs.View.{stepsOf}
+use Rattle.reading.specs.Limits.{stepsOk}
+use Rattle.reading.specs.Lawful.{answerLawful, AnswersAreLawful}
+use Rattle.reading.specs.Lines.{Run, Lines, on, stop}
+use Rattle.reading.specs.Place.{lineNumber}
+use Rattle.reading.specs.Texts.{sheet, answer}
+use Rattle.reading.proofs.Rests.{StopsAt}
+use Rattle.reading.proofs.Lawful.{sheet-stops, answer-stops, answers-are-lawful}
+use Rattle.rules.specs.Walk.{walkAnswer}
+use Rattle.rules.proofs.Numbers.{WalkNumbers, walk-numbers}
+use Rattle.lines.proofs.Place.{lfs-few}
+use Rattle.sheets.specs.declared.Sheet.{Sheet}
+use Rattle.sheets.specs.Sheet.{answered as sheetAnswered, sheetRead}
+use Rattle.answers.specs.declared.AnswerRead.{AnswerRead}
+use Rattle.answers.specs.Answer.{answered as answerAnswered, answerRead}
+use Rattle.judged.specs.Course.{Course, faulty, reached, short, read, default, course}
+use Rattle.judged.specs.Judged.{faultLine}
+use Rattle.judged.proofs.Read.{both-read}
+
+-- ---- the length of a text
+
+long : (x : Text) (s : List ℕ) → 32768 < length s → short x s ≡ faulty x 1 0
+unfolding short
+long x s h = rw (lt-leb (length s) 32768 h, short)
+
+not-long : (x : Text) (s : List ℕ) → length s ≤ 32768 → short x s ≡ reached tt
+unfolding short
+not-long x s h = rw (le-leb (length s) 32768 h, short)
+
+-- ---- the lines of a text
+
+-- what reading them came to: the number and the place of a fault, or 0 and what the text says
+record TextRead {A : Type 0} (x : Text) (m : Lines A) (s : List ℕ) (refused place : ℕ) (value : A) : Type 0 where
+  within : place ≤ length s
+  faults : (refused ≡ 0 → ⊥) → read x m s ≡ faulty x refused place
+  reaches : refused ≡ 0 → read x m s ≡ reached value
+
+module _ {A : Type 0} (x : Text) (m : Lines A) (s : List ℕ) where
+  went : {v : A} {r : List ℕ} → m s ≡ on v r → TextRead x m s 0 (length s - length r) v
+  unfolding read
+  went e = record { within = omega arith; faults = λ n. absurd (n refl); reaches = λ _. rw (e, read) }
+
+  stopped : {n : ℕ} {r : List ℕ} {v : A} → m s ≡ stop n r → StopsAt s n r → TextRead x m s n (length s - length r) v
+  unfolding read
+  stopped e l = record { within = omega arith; faults = λ _. rw (e, read); reaches = λ z. absurd (omega (arith, z, l .1)) }
+
+module _ (s : List ℕ) (h : length s ≤ 32768) where
+  sheet-read : {r : Sheet} → r ≡ sheetRead s → TextRead text.Sheet sheet s (r .refused) (r .place) (r .tables, r .program)
+  unfolding sheetRead
+  sheet-read is = rw (is, le-leb (length s) 32768 h, sheetRead) (go (sheet s) refl)
+    where
+      go : (z : Run (Tables × Program)) → sheet s ≡ z → (let r = sheetAnswered s z in TextRead text.Sheet sheet s (r .refused) (r .place) (r .tables, r .program))
+      go (on v r) e = went text.Sheet sheet s e
+      go (stop n r) e = stopped text.Sheet sheet s e (sheet-stops s n r e)
+
+  answer-read : {r : AnswerRead} → r ≡ answerRead s → TextRead text.Answer answer s (r .refused) (r .place) (r .answer)
+  unfolding answerRead
+  answer-read is = rw (is, le-leb (length s) 32768 h, answerRead) (go (answer s) refl)
+    where
+      go : (z : Run Answer) → answer s ≡ z → (let r = answerAnswered s z in TextRead text.Answer answer s (r .refused) (r .place) (r .answer))
+      go (on v r) e = went text.Answer answer s e
+      go (stop n r) e = stopped text.Answer answer s e (answer-stops s n r e)
+
+-- ---- the course
+
+module _ (s a : List ℕ) where
+  pub sheet-long : 32768 < length s → faulty text.Sheet 1 0 ≡ course s a
+  unfolding course
+  sheet-long h = rw (long text.Sheet s h)
+
+  pub answer-long : length s ≤ 32768 → 32768 < length a → faulty text.Answer 1 0 ≡ course s a
+  unfolding course
+  answer-long p h = rw (not-long text.Sheet s p, long text.Answer a h)
+
+  module _ (p : length s ≤ 32768) (q : length a ≤ 32768) {r : Sheet} (is : r ≡ sheetRead s) where
+    pub sheet-refused : (r .refused ≡ 0 → ⊥) → faulty text.Sheet (r .refused) (r .place) ≡ course s a
+    unfolding course
+    sheet-refused h = rw (not-long text.Sheet s p, not-long text.Answer a q, sheet-read s p is .faults h)
+
+    module _ (e : r .refused ≡ 0) {y : AnswerRead} (also : y ≡ answerRead a) where
+      pub answer-refused : (y .refused ≡ 0 → ⊥) → faulty text.Answer (y .refused) (y .place) ≡ course s a
+      unfolding course
+      answer-refused h = rw (not-long text.Sheet s p, not-long text.Answer a q, sheet-read s p is .reaches e, answer-read a q also .faults h)
+
+      pub both-walked : y .refused ≡ 0 → reached (walkAnswer default (r .tables) (r .program) (y .answer)) ≡ course s a
+      unfolding course
+      both-walked f = rw (not-long text.Sheet s p, not-long text.Answer a q, sheet-read s p is .reaches e, answer-read a q also .reaches f)
+
+-- ---- what is known of a walk, and of a fault
+
+-- a walk's number is 0 or from 10 to 37, and no more than 1,024 steps are accepted
+pub walked-numbers : (s a : List ℕ) (w : Walked) → course s a ≡ reached w → WalkNumbers 1024 w
+unfolding walkAnswer answerLawful AnswersAreLawful
+walked-numbers s a w e =
+    let b = both-read s a w e in
+    let y = b .steps in
+    let n = walk-numbers default (b .tables) (b .program) (stepsOf y) start in
+    let few = leb-true (y .count) 1024 (and-left (stepsOk (y .count)) _ (answers-are-lawful a _ _ (b .answer-is))) in
+    rw (b .walked) (record { refused = n .refused; accepted = omega (arith, n .accepted, few, length-take (y .count) (y .steps)) })
+
+-- a place of the text, and no line number past the last one that a text can have
+pub record FaultAt (s : List ℕ) (n at : ℕ) : Type 0 where
+  pub within : at ≤ length s
+  pub few : faultLine n at s ≤ 32769
+
+at-start : (s : List ℕ) → FaultAt s 1 0
+unfolding faultLine
+at-start s = record { within = omega arith; few = omega arith }
+
+at-line : (s : List ℕ) (n at : ℕ) → length s ≤ 32768 → at ≤ length s → FaultAt s n at
+unfolding faultLine lineNumber
+at-line s n at h l = record {
+  within = l;
+  few = by-test (eqb n 1) (λ e. rw (e, faultLine) (omega arith)) (λ e. rw (e, faultLine) (omega (arith, lfs-few (take at s), length-take at s)));
+}
+
+pub data Told (s a : List ℕ) : Course Walked → Type 0 where
+  in-sheet : {n at : ℕ} → FaultAt s n at → Told s a (faulty text.Sheet n at)
+  in-answer : {n at : ℕ} → FaultAt a n at → Told s a (faulty text.Answer n at)
+  walks : {w : Walked} → Told s a (reached w)
+
+pub course-told : (s a : List ℕ) → Told s a (course s a)
+course-told s a =
+    by-cases (decLt 32768 (length s)) (λ h. rw (← sheet-long s a h) (in-sheet (at-start s))) (λ h.
+    by-cases (decLt 32768 (length a)) (λ g. rw (← answer-long s a (omega arith) g) (in-answer (at-start a))) (λ g.
+    let p : length s ≤ 32768 = omega arith in
+    let q : length a ≤ 32768 = omega arith in
+    by-cases (ℕ-discrete (sheetRead s .refused) 0) (λ e.
+    by-cases (ℕ-discrete (answerRead a .refused) 0)
+    (λ f. rw (← both-walked s a p q refl e refl f) walks)
+    (λ f. rw (← answer-refused s a p q refl e refl f) (in-answer (at-line a _ _ q (answer-read a q refl .within)))))
+    (λ e. rw (← sheet-refused s a p q refl e) (in-sheet (at-line s _ _ p (sheet-read s p refl .within))))))

@@ -1,0 +1,5 @@
+-- The definition's course for each case of the code's outcome (Came), a line as a part of its text (Part), a count of bytes (Counts), no other outcome (Once).
+pub mod Came
+pub mod Part
+pub mod Counts
+pub mod Once
