@@ -1,0 +1,66 @@
+// Runs each pair of texts that an argument names, NAME.sheet and NAME.answer beside it: its name, what `judge` prints, and the place of the line at fault.
+// Promised by `judging`: every byte between the name and the place, and the place. A pair is a line of pairs.py, and make.py writes the rest.
+use judged::Place;
+use libc::STDOUT_FILENO;
+use model::Text;
+ghost use Rattle.io.specs.Counts.{Counts};
+
+// NAME and what its file's name ends in, cut where the path has no room.
+fn path_of(path: &mut [u8], name: &[u8], ending: &[u8]) -> usize
+    ensures { λ r. ⌜ Counts r (now (path .exit)) ⌝ }
+{
+    let at = inks::write_key(path, 0, name);
+    inks::write_key(path, at, ending)
+}
+
+// What stands in a file; a missing one has no descriptor, and a read from none gives no bytes.
+fn read_text(name: &[u8], ending: &[u8], text: &mut [u8]) -> usize
+    ensures { λ r. ⌜ Counts r (now (text .exit)) ⌝ }
+{
+    let mut path = [0u8; 80];
+    let size = path_of(&mut path, name, ending);
+    let file = os::open_read(&path[..size]);
+    let n = io::read_full(file, text);
+    libc::close(file);
+    n
+}
+
+fn print_at(key: &[u8], start: usize, size: usize) {
+    io::write_all(STDOUT_FILENO, key);
+    io::print_decimal(STDOUT_FILENO, start as u64);
+    io::write_all(STDOUT_FILENO, b",");
+    io::print_decimal(STDOUT_FILENO, size as u64);
+    io::write_all(STDOUT_FILENO, b"\n");
+}
+
+// place=TEXT,START,SIZE
+fn print_place(place: Place) {
+    let text = place.text;
+    match text {
+        Text::Sheet => print_at(b"place=sheet,", place.start, place.size),
+        _ => print_at(b"place=answer,", place.start, place.size),
+    }
+}
+
+fn run_case(i: usize) {
+    let mut name = [0u8; 64];
+    let k = os::arg(i, &mut name);
+    let mut sheet = [0u8; 32769];
+    let n = read_text(&name[..k], b".sheet", &mut sheet);
+    let mut answer = [0u8; 32769];
+    let m = read_text(&name[..k], b".answer", &mut answer);
+    let mut out = [0u8; 8192];
+    let used = judging::print(&sheet[..n], &answer[..m], &mut out);
+    io::write_all(STDOUT_FILENO, b"case=");
+    io::write_all(STDOUT_FILENO, &name[..k]);
+    io::write_all(STDOUT_FILENO, b"\n");
+    io::write_all(STDOUT_FILENO, &out[..used]);
+    print_place(judging::place(&sheet[..n], &answer[..m], 8192));
+}
+
+fn main() {
+    let count = os::arg_count();
+    for i in 1..count {
+        run_case(i);
+    }
+}
