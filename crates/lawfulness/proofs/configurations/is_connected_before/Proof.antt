@@ -1,0 +1,67 @@
+use mathlib.Core.Path.{_≡_, sym}
+use mathlib.Core.Bool.{false}
+use Prim.Native.Nat.{_≤_, _-_}
+use Rattle.sets.specs.Test.{any}
+use Rattle.sets.proofs.Laws.{any-start, any-more, any-hit, any-end}
+use Rattle.model.specs.View.{connection}
+use Rattle.rules.specs.Con.{isOf}
+use Rattle.lawfulness.specs.Lawful.{connectedBefore}
+use borrow.Author.Needs.{needs}
+use Rattle.lawfulness.proofs.configurations.is_connected_before.Statement.{statement}
+use Rattle.lawfulness.proofs.configurations.is_connected_before.Tie as tie
+
+abbrev Inv-loop : tie.InvT-loop
+Inv-loop c k l m₀ m = (m ≤ l) × (any m (λ x. isOf (k .user) (k .useport) (connection c x)) ≡ false)
+
+abbrev μ-loop : tie.MeasureT-loop
+μ-loop c k l m₀ m = l - m
+
+loop-holds : tie.Need-loop-holds Inv-loop μ-loop
+loop-holds c = (search needs, any-start _)
+
+wide-requires : tie.Need-wide-requires Inv-loop μ-loop
+wide-requires c κs = search needs
+
+connection-of-requires : tie.Need-connection-of-requires Inv-loop μ-loop
+connection-of-requires c κs = search needs
+
+returns : tie.Need-returns Inv-loop μ-loop
+unfolding connectedBefore isOf
+returns c =
+    let b = c .before .before .before .before .before in
+    let h = b .before .before .before in
+    let found = rw (b .before .wide .ensures .0) at (b .connection-of .ensures) in
+    sym (any-hit _ _ (h .loop .m) (b .before .before .loop-test .taken) (rw (← found) (c .if1 .taken)))
+
+add-m : tie.Need-add-m Inv-loop μ-loop
+add-m c = search needs
+
+loop-less : tie.Need-loop-less Inv-loop μ-loop
+loop-less c = search needs
+
+loop-again : tie.Need-loop-again Inv-loop μ-loop
+unfolding isOf
+loop-again c =
+    let b = c .before .before .before .before .before in
+    let h = b .before .before .before in
+    let found = rw (b .before .wide .ensures .0) at (b .connection-of .ensures) in
+    (search needs, any-more _ _ (h .loop .inv .1) (rw (← found) (c .if1 .left)))
+
+returns-2 : tie.Need-returns-2 Inv-loop μ-loop
+unfolding connectedBefore
+returns-2 c = sym (any-end _ (c .before .loop .m) _ (c .before .loop .inv .0) (c .loop-test .left) (c .before .loop .inv .1))
+
+pub is-connected-before-spec : {M : Type 1} → statement M
+is-connected-before-spec =
+    tie.close
+    (tie.spec
+    Inv-loop
+    μ-loop
+    loop-holds
+    wide-requires
+    connection-of-requires
+    returns
+    add-m
+    loop-less
+    loop-again
+    returns-2)

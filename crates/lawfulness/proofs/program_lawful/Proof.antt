@@ -1,0 +1,69 @@
+use Prim.Native.Nat.{_-_}
+use borrow.Author.Needs.{needs}
+use lib.ListN.{getD}
+use borrow.Author.Tests.{lt-leb, le-leb}
+use Rattle.model.specs.Empty.{noInstruction}
+use Rattle.reading.specs.Lawful.{instructionLawful, programLawful}
+use Rattle.lawfulness.proofs.Loops.{Passed, none-yet, one-fails, one-more, all-passed}
+use Rattle.lawfulness.proofs.program_lawful.Statement.{statement}
+use Rattle.lawfulness.proofs.program_lawful.Tie as tie
+
+abbrev Inv-loop : tie.InvT-loop
+Inv-loop n p count j₀ j = Passed count (λ x. instructionLawful n (getD (p .instructions) x noInstruction)) j
+
+abbrev μ-loop : tie.MeasureT-loop
+μ-loop n p count j₀ j = count - j
+
+returns : tie.Need-returns Inv-loop μ-loop
+unfolding programLawful
+returns c = rw (lt-leb _ _ (c .if1 .taken))
+
+loop-holds : tie.Need-loop-holds Inv-loop μ-loop
+loop-holds c = none-yet _ _
+
+mul-instruction-lawful : tie.Need-mul-instruction-lawful Inv-loop μ-loop
+mul-instruction-lawful c = search needs
+
+element-copy-out-instruction-lawful : tie.Need-element-copy-out-instruction-lawful Inv-loop μ-loop
+element-copy-out-instruction-lawful c = search needs
+
+instruction-lawful-requires : tie.Need-instruction-lawful-requires Inv-loop μ-loop
+instruction-lawful-requires c κs = search needs
+
+returns-2 : tie.Need-returns-2 Inv-loop μ-loop
+unfolding programLawful
+returns-2 c =
+    rw (le-leb _ _ (c .before .before .before .before .before .if1 .left))
+    (one-fails _ _ (c .before .before .before .before .loop .j) _ (c .before .before .before .loop-test .taken) (c .before .instruction-lawful .ensures) (c .if2 .taken))
+
+add-j : tie.Need-add-j Inv-loop μ-loop
+add-j c = search needs
+
+loop-less : tie.Need-loop-less Inv-loop μ-loop
+loop-less c = search needs
+
+loop-again : tie.Need-loop-again Inv-loop μ-loop
+loop-again c = one-more _ _ (c .before .before .before .before .loop .j) _ (c .before .before .before .loop-test .taken) (c .before .instruction-lawful .ensures) (c .before .before .before .before .loop .inv) (c .if2 .left)
+
+returns-3 : tie.Need-returns-3 Inv-loop μ-loop
+unfolding programLawful
+returns-3 c =
+    rw (le-leb _ _ (c .before .before .if1 .left))
+    (all-passed _ _ (c .before .loop .j) (c .before .loop .inv) (c .loop-test .left))
+
+pub program-lawful-spec : {M : Type 1} → statement M
+program-lawful-spec =
+    tie.close
+    (tie.spec
+    Inv-loop
+    μ-loop
+    returns
+    loop-holds
+    mul-instruction-lawful
+    element-copy-out-instruction-lawful
+    instruction-lawful-requires
+    returns-2
+    add-j
+    loop-less
+    loop-again
+    returns-3)

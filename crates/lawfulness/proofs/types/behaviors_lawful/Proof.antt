@@ -1,0 +1,47 @@
+use Prim.Native.Nat.{_-_}
+use borrow.Author.Needs.{needs}
+use Rattle.lawfulness.specs.Lent.{behaviorLent}
+use Rattle.lawfulness.proofs.Loops.{Passed, none-yet, one-fails, one-more, all-passed}
+use Rattle.lawfulness.proofs.types.behaviors_lawful.Statement.{statement}
+use Rattle.lawfulness.proofs.types.behaviors_lawful.Tie as tie
+
+abbrev Inv-loop : tie.InvT-loop
+Inv-loop behaviors v i n b₀ b = Passed n (behaviorLent behaviors v i) b
+
+abbrev μ-loop : tie.MeasureT-loop
+μ-loop behaviors v i n b₀ b = n - b
+
+loop-holds : tie.Need-loop-holds Inv-loop μ-loop
+loop-holds c = none-yet _ _
+
+behavior-lawful-requires : tie.Need-behavior-lawful-requires Inv-loop μ-loop
+behavior-lawful-requires c κs = search needs
+
+returns : tie.Need-returns Inv-loop μ-loop
+returns c = one-fails _ _ (c .before .before .before .loop .b) _ (c .before .before .loop-test .taken) (c .before .behavior-lawful .ensures) (c .if1 .taken)
+
+add-b : tie.Need-add-b Inv-loop μ-loop
+add-b c = search needs
+
+loop-less : tie.Need-loop-less Inv-loop μ-loop
+loop-less c = search needs
+
+loop-again : tie.Need-loop-again Inv-loop μ-loop
+loop-again c = one-more _ _ (c .before .before .before .loop .b) _ (c .before .before .loop-test .taken) (c .before .behavior-lawful .ensures) (c .before .before .before .loop .inv) (c .if1 .left)
+
+returns-2 : tie.Need-returns-2 Inv-loop μ-loop
+returns-2 c = all-passed _ _ (c .before .loop .b) (c .before .loop .inv) (c .loop-test .left)
+
+pub behaviors-lawful-spec : {M : Type 1} → statement M
+behaviors-lawful-spec =
+    tie.close
+    (tie.spec
+    Inv-loop
+    μ-loop
+    loop-holds
+    behavior-lawful-requires
+    returns
+    add-b
+    loop-less
+    loop-again
+    returns-2)

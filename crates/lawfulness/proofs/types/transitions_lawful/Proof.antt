@@ -1,0 +1,47 @@
+use Prim.Native.Nat.{_-_}
+use borrow.Author.Needs.{needs}
+use Rattle.lawfulness.specs.Lent.{transitionLent}
+use Rattle.lawfulness.proofs.Loops.{Passed, none-yet, one-fails, one-more, all-passed}
+use Rattle.lawfulness.proofs.types.transitions_lawful.Statement.{statement}
+use Rattle.lawfulness.proofs.types.transitions_lawful.Tie as tie
+
+abbrev Inv-loop : tie.InvT-loop
+Inv-loop source destination v i n x₀ x = Passed n (transitionLent source destination v i) x
+
+abbrev μ-loop : tie.MeasureT-loop
+μ-loop source destination v i n x₀ x = n - x
+
+loop-holds : tie.Need-loop-holds Inv-loop μ-loop
+loop-holds c = none-yet _ _
+
+transition-lawful-requires : tie.Need-transition-lawful-requires Inv-loop μ-loop
+transition-lawful-requires c κs = search needs
+
+returns : tie.Need-returns Inv-loop μ-loop
+returns c = one-fails _ _ (c .before .before .before .loop .x) _ (c .before .before .loop-test .taken) (c .before .transition-lawful .ensures) (c .if1 .taken)
+
+add-x : tie.Need-add-x Inv-loop μ-loop
+add-x c = search needs
+
+loop-less : tie.Need-loop-less Inv-loop μ-loop
+loop-less c = search needs
+
+loop-again : tie.Need-loop-again Inv-loop μ-loop
+loop-again c = one-more _ _ (c .before .before .before .loop .x) _ (c .before .before .loop-test .taken) (c .before .transition-lawful .ensures) (c .before .before .before .loop .inv) (c .if1 .left)
+
+returns-2 : tie.Need-returns-2 Inv-loop μ-loop
+returns-2 c = all-passed _ _ (c .before .loop .x) (c .before .loop .inv) (c .loop-test .left)
+
+pub transitions-lawful-spec : {M : Type 1} → statement M
+transitions-lawful-spec =
+    tie.close
+    (tie.spec
+    Inv-loop
+    μ-loop
+    loop-holds
+    transition-lawful-requires
+    returns
+    add-x
+    loop-less
+    loop-again
+    returns-2)

@@ -1,0 +1,55 @@
+use Rattle.reading.specs.Lawful.{typeLawful}
+use Rattle.lawfulness.proofs.Lent.{transitions-lent, behaviors-lent, ports-lent}
+use borrow.Author.Needs.{needs}
+use Rattle.lawfulness.proofs.types.type_lawful.Statement.{statement}
+use Rattle.lawfulness.proofs.types.type_lawful.Tie as tie
+
+wide-requires : tie.Need-wide-requires
+wide-requires c κs = search needs
+
+type-of-requires : tie.Need-type-of-requires
+type-of-requires c κs = search needs
+
+transitions-lawful-requires : tie.Need-transitions-lawful-requires
+transitions-lawful-requires c κs = search needs
+
+behaviors-lawful-requires : tie.Need-behaviors-lawful-requires
+behaviors-lawful-requires c κs = search needs
+
+ports-lawful-requires : tie.Need-ports-lawful-requires
+ports-lawful-requires c κs = search needs
+
+mask-ok-requires : tie.Need-mask-ok-requires
+mask-ok-requires c κs = search needs
+
+returns : tie.Need-returns
+unfolding typeLawful
+returns c =
+    let m = c .before .before .before .before .before .before in
+    let p = m .before in
+    let b = p .before .before .before .before .before in
+    let x = b .before .before .before in
+    let k = x .before .before .before .before in
+    let kind = rw (k .before .wide .ensures .0) at (k .type-of .ensures) in
+    rw (
+      transitions-lent _ _ _,
+      behaviors-lent _ _ _,
+      ports-lent _ _ _,
+      ← kind,
+      x .transitions-lawful .ensures,
+      b .behaviors-lawful .ensures,
+      p .ports-lawful .ensures,
+      m .mask-ok .ensures,
+    )
+
+pub type-lawful-spec : {M : Type 1} → statement M
+type-lawful-spec =
+    tie.close
+    (tie.spec
+    wide-requires
+    type-of-requires
+    transitions-lawful-requires
+    behaviors-lawful-requires
+    ports-lawful-requires
+    mask-ok-requires
+    returns)

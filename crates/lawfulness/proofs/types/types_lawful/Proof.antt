@@ -1,0 +1,47 @@
+use Prim.Native.Nat.{_-_}
+use borrow.Author.Needs.{needs}
+use Rattle.reading.specs.Lawful.{typeLawful}
+use Rattle.lawfulness.proofs.Loops.{Passed, none-yet, one-fails, one-more, all-passed}
+use Rattle.lawfulness.proofs.types.types_lawful.Statement.{statement}
+use Rattle.lawfulness.proofs.types.types_lawful.Tie as tie
+
+abbrev Inv-loop : tie.InvT-loop
+Inv-loop t n i₀ i = Passed n (typeLawful t) i
+
+abbrev μ-loop : tie.MeasureT-loop
+μ-loop t n i₀ i = n - i
+
+loop-holds : tie.Need-loop-holds Inv-loop μ-loop
+loop-holds c = none-yet _ _
+
+type-lawful-requires : tie.Need-type-lawful-requires Inv-loop μ-loop
+type-lawful-requires c κs = search needs
+
+returns : tie.Need-returns Inv-loop μ-loop
+returns c = one-fails _ _ (c .before .before .before .loop .i) _ (c .before .before .loop-test .taken) (c .before .type-lawful .ensures) (c .if1 .taken)
+
+add-i : tie.Need-add-i Inv-loop μ-loop
+add-i c = search needs
+
+loop-less : tie.Need-loop-less Inv-loop μ-loop
+loop-less c = search needs
+
+loop-again : tie.Need-loop-again Inv-loop μ-loop
+loop-again c = one-more _ _ (c .before .before .before .loop .i) _ (c .before .before .loop-test .taken) (c .before .type-lawful .ensures) (c .before .before .before .loop .inv) (c .if1 .left)
+
+returns-2 : tie.Need-returns-2 Inv-loop μ-loop
+returns-2 c = all-passed _ _ (c .before .loop .i) (c .before .loop .inv) (c .loop-test .left)
+
+pub types-lawful-spec : {M : Type 1} → statement M
+types-lawful-spec =
+    tie.close
+    (tie.spec
+    Inv-loop
+    μ-loop
+    loop-holds
+    type-lawful-requires
+    returns
+    add-i
+    loop-less
+    loop-again
+    returns-2)
