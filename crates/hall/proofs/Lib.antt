@@ -1,0 +1,3 @@
+pub mod Screen
+pub mod Proper
+pub mod Alike

@@ -1,0 +1,84 @@
+-- What every point of a walk keeps (rules/specs/Proper) is lawful to the screen.
+-- Assumes nothing.
+use mathlib.Core.Path.{_≡_, sym, ap, ap₂, _∙_}
+use mathlib.Core.Bool.{true, false, not, _&&_, and-eq-true-iff}
+use Prim.Native.Nat.{ℕ, zero, suc, _+_, _^_, _≤_, _<_}
+use native.Mathlib.Nat.{pow-suc, lt-of-lt-of-le}
+use native.Mathlib.Omega.{arith}
+use lib.Dec.{eqb, leb}
+use lib.Pow.{pow-mono}
+use borrow.Author.Tests.{lt-ltb, le-leb, leb-true, leb-false, ne-eqb, eqb-true}
+use Rattle.forms.proofs.Tests.{by-test}
+use Rattle.sets.specs.Mask.{member, collect}
+use Rattle.sets.proofs.Laws.{all-of, none-any, member-collect, member-past, collect-lt, same-members}
+use Rattle.model.specs.declared.Tables.{Tables}
+use Rattle.model.specs.declared.Program.{Program}
+use Rattle.model.specs.declared.Connection.{Connection}
+use Rattle.model.specs.declared.Configuration.{Configuration}
+use Rattle.model.specs.View.{instance, connection, slot}
+use Rattle.reading.specs.Limits.{maskOk}
+use Rattle.rules.specs.Con.{isOf, isUsePort, isProvidePort}
+use Rattle.rules.specs.Proper.{ProperInstance, Joins, Proper}
+use Rattle.lawfulness.specs.Lawful.{queuedLawful, numbersLawful, instanceLawful, connectedBefore, endsLawful, connectionLawful, connectionsLawful, configurationLawful}
+use Rattle.hall.specs.Agree.{ProperIsLawful}
+
+-- a set whose members lie below n, as a mask
+below-power : (m : ℕ) → m < 2 ^ m
+below-power zero = omega arith
+below-power (suc m) = omega (arith, below-power m, pow-suc 2 m)
+
+masked : (n m : ℕ) → ((x : ℕ) → member x m ≡ true → x < n) → maskOk n m ≡ true
+masked n m f = lt-ltb m (2 ^ n) (rw same (collect-lt n (λ x. member x m)))
+  where
+    past : (x : ℕ) → n ≤ x → member x m ≡ false
+    past x l = by-test (member x m) (λ e. absurd (omega (arith, f x e))) (λ e. e)
+
+    each : (x : ℕ) → x < m + n → member x m ≡ member x (collect n (λ y. member y m))
+    each x l =
+        by-test (leb n x)
+        (λ e. let h = leb-true n x e in past x h ∙ sym (member-past n x _ h (collect-lt n (λ y. member y m))))
+        (λ e. sym (member-collect n (λ y. member y m) x (leb-false n x e)))
+
+    same : m ≡ collect n (λ x. member x m)
+    same =
+        same-members (m + n) m (collect n (λ x. member x m)) (lt-of-lt-of-le (below-power m) (pow-mono {j = m + n} (omega arith)))
+        (lt-of-lt-of-le (collect-lt n (λ x. member x m)) (pow-mono {j = m + n} (omega arith))) each
+
+module _ (default : ℕ) (t : Tables) (p : Program) (c : Configuration) (h : Proper default t p c) where
+  instance-lawful : (i : ℕ) → instanceLawful default t c i ≡ true
+  unfolding instanceLawful numbersLawful queuedLawful
+  instance-lawful i = by-test (instance c i .present) (λ e. rw e (numbers (h .each i e))) (λ e. rw e)
+    where
+      numbers : ProperInstance default t (instance c i) (slot c i) → numbersLawful default t c i ≡ true
+      numbers v =
+          ap₂ _&&_ (lt-ltb _ _ (v .kind)) (ap₂ _&&_ (masked _ _ (v .marked)) (ap₂ _&&_ (masked _ _ (v .running)) (ap₂ _&&_ (masked _ _ (v .ended))
+          (ap₂ _&&_ (le-leb _ _ (v .short)) (all-of _ _ (λ r l. lt-ltb _ _ (v .queue r l)))))))
+
+  ends-lawful : (k : Connection) → Joins t c k → endsLawful t c k ≡ true
+  unfolding endsLawful isUsePort isProvidePort
+  ends-lawful k j =
+      ap₂ _&&_ (j .user) (ap₂ _&&_ (j .provider) (ap₂ _&&_ (ap₂ _&&_ (lt-ltb _ _ (j .useport)) (j .uses))
+      (ap₂ _&&_ (ap₂ _&&_ (lt-ltb _ _ (j .provideport)) (ap not (j .provides))) (ap not (ne-eqb _ _ (j .apart))))))
+
+  not-before : (l : ℕ) → l < c .count → connectedBefore c (connection c l) l ≡ false
+  unfolding connectedBefore isOf
+  not-before l b = none-any l _ (λ m a. by-test (isOf (connection c l .user) (connection c l .useport) (connection c m)) (λ e. absurd (twice m a e)) (λ e. e))
+    where
+      twice : (m : ℕ) → m < l → isOf (connection c l .user) (connection c l .useport) (connection c m) ≡ true → ⊥
+      twice m a e =
+          let (u, q) = and-eq-true-iff (eqb (connection c m .user) (connection c l .user)) _ .0 e in
+          let same : m ≡ l = h .connections .once m l (omega arith) b (eqb-true _ _ u) (eqb-true _ _ q) in
+          omega arith
+
+  connection-lawful : (l : ℕ) → l < c .count → connectionLawful t c l ≡ true
+  unfolding connectionLawful
+  connection-lawful l b = ap₂ _&&_ (ends-lawful (connection c l) (h .connections .joins l b)) (ap not (not-before l b))
+
+  lawful : configurationLawful default t p c ≡ true
+  unfolding configurationLawful connectionsLawful
+  lawful =
+      ap₂ _&&_ (all-of 32 _ (λ i _. instance-lawful i)) (ap₂ _&&_ (le-leb _ _ (h .done)) (ap₂ _&&_ (le-leb _ _ (h .few)) (all-of _ _ connection-lawful)))
+
+pub proper-is-lawful : ProperIsLawful
+unfolding ProperIsLawful
+proper-is-lawful = lawful
