@@ -1,0 +1,2 @@
+-- The report lies within its room (Room).
+pub mod Room

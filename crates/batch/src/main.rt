@@ -1,0 +1,333 @@
+// For tests: standard input holds cases until it ends, each a line `case SHEETLEN ANSWERLEN ROOM` and the bytes of the two texts. Out goes for each a line
+// `REFUSED ACCEPTED NEXT TEXT LINE WHICH START LEN REPORTLEN` and the report. Promised by `judging`: what each line says, and the report's bytes.
+use judged::Place;
+use judged::Verdict;
+use libc::STDIN_FILENO;
+use libc::STDOUT_FILENO;
+use model::Text;
+use texts::Digits;
+use texts::Due;
+use texts::Number;
+ghost use Prim.Native.Nat.{_+_, _≤_};
+ghost use mathlib.Core.Path.{_≡_};
+ghost use lib.ListN.{length};
+ghost use Rattle.io.specs.Counts.{Counts};
+ghost use Rattle.batch.specs.Within.{Small, Inside};
+
+// A text is at most LONGEST, a room at most WIDEST; a header line has at most HEADER bytes.
+const LONGEST: u32 = 40000;
+
+const WIDEST: u32 = 16384;
+
+const HEADER: usize = 23;
+
+// Past this place of the output a line and the widest report might lack room.
+const ENOUGH: usize = 49000;
+
+// What a header says, and how many bytes it has itself; 0 where no header stands there.
+struct Header {
+    sheet: usize,
+    answer: usize,
+    room: usize,
+    size: usize,
+}
+
+// The bytes of the input from `at` to `to` are still to be read, and the first `used` of the output still to be written.
+struct Flow {
+    at: usize,
+    to: usize,
+    used: usize,
+    ended: bool,
+}
+
+fn no_header() -> Header
+    ensures { λ r. ⌜ Small r ⌝ }
+{
+    Header {
+        sheet: 0,
+        answer: 0,
+        room: 0,
+        size: 0,
+    }
+}
+
+fn header_of(sheet: u32, answer: u32, room: u32, size: usize) -> Header
+    ensures { λ r. ⌜ Small r ⌝ }
+{
+    if LONGEST < sheet {
+        return no_header();
+    }
+    if LONGEST < answer {
+        return no_header();
+    }
+    if WIDEST < room {
+        return no_header();
+    }
+    if HEADER < size {
+        return no_header();
+    }
+    Header {
+        sheet: sheet as usize,
+        answer: answer as usize,
+        room: room as usize,
+        size,
+    }
+}
+
+fn read_header(s: &[u8]) -> Header
+    ensures { λ r. ⌜ Small r ⌝ }
+{
+    let Due::Past(a) = texts::past_key(s, 0, b"case ") else {
+        return no_header();
+    };
+    let Number::Got(sheet, b) = texts::number_then(s, a, b' ', Digits::Five) else {
+        return no_header();
+    };
+    let Number::Got(answer, c) = texts::number_then(s, b, b' ', Digits::Five) else {
+        return no_header();
+    };
+    let Number::Got(room, size) = texts::number_then(s, c, b'\n', Digits::Five) else {
+        return no_header();
+    };
+    header_of(sheet, answer, room, size)
+}
+
+// The bytes from `at` to `to` move to the start.
+fn move_down(input: &mut [u8], at: usize, to: usize)
+    requires { ⌜ (at ≤ to) × (to ≤ length (now input)) ⌝ }
+{
+    let mut from = at;
+    let mut i: usize = 0;
+    while from < to {
+        input[i] = input[from];
+        i += 1;
+        from += 1;
+    }
+}
+
+fn flush(out: &[u8], used: usize) {
+    if used <= out.len() {
+        io::write_all(STDOUT_FILENO, &out[..used]);
+    }
+}
+
+fn read_some(free: &mut [u8]) -> usize
+    ensures { λ r. ⌜ Counts r (now (free .exit)) ⌝ }
+{
+    let got = libc::read(STDIN_FILENO, free);
+    io::count(got, free)
+}
+
+// One read, after what stands in the output is written: whoever feeds the input may wait for it.
+fn refill(input: &mut [u8], out: &[u8], flow: Flow) -> Flow
+    requires { ⌜ Inside flow (now input) ⌝ }
+    ensures { λ r. ⌜ Inside r (now (input .exit)) ⌝ }
+{
+    flush(out, flow.used);
+    let at = flow.at;
+    let to = flow.to;
+    move_down(input, at, to);
+    let kept = to - at;
+    let more = read_some(&mut input[kept..]);
+    Flow {
+        at: 0,
+        to: kept + more,
+        used: 0,
+        ended: false,
+    }
+}
+
+// At least `need` unread bytes, or all that are left where the input ends before that.
+fn gather(input: &mut [u8], out: &[u8], flow: Flow, need: usize) -> Flow
+    requires { ⌜ Inside flow (now input) ⌝ }
+    ensures { λ r. ⌜ Inside r (now (input .exit)) ⌝ }
+{
+    let mut unread = flow;
+    while unread.to - unread.at < need {
+        let next = refill(input, out, unread);
+        if next.to - next.at <= unread.to - unread.at {
+            return next;
+        }
+        unread = next;
+    }
+    unread
+}
+
+fn write_text(out: &mut [u8], at: usize, text: Text) -> usize {
+    match text {
+        Text::Sheet => inks::write_key(out, at, b" sheet "),
+        Text::Answer => inks::write_key(out, at, b" answer "),
+        Text::Neither => inks::write_key(out, at, b" - "),
+    }
+}
+
+fn write_next(out: &mut [u8], at: usize, n: usize) -> usize {
+    let after = inks::write_number(out, at, n);
+    inks::write_byte(out, after, b' ')
+}
+
+// REFUSED ACCEPTED NEXT TEXT LINE
+fn write_verdict(out: &mut [u8], at: usize, verdict: Verdict) -> usize {
+    let a = write_next(out, at, model::wide(verdict.refused));
+    let b = write_next(out, a, verdict.accepted);
+    let c = inks::write_number(out, b, verdict.next);
+    let text = verdict.text;
+    let d = write_text(out, c, text);
+    inks::write_number(out, d, verdict.line)
+}
+
+// WHICH START LEN REPORTLEN
+fn write_place(out: &mut [u8], at: usize, place: Place, written: usize) -> usize {
+    let which = place.text;
+    let a = write_text(out, at, which);
+    let b = write_next(out, a, place.start);
+    let c = write_next(out, b, place.size);
+    let d = inks::write_number(out, c, written);
+    inks::write_byte(out, d, b'\n')
+}
+
+fn judge(sheet: &[u8], answer: &[u8], report: &mut [u8]) -> Verdict
+    ensures { λ r. ⌜ Counts (r .written) (now (report .exit)) ⌝ }
+{
+    judging::judge(sheet, answer, report)
+}
+
+// The line and the report of one pair, with as much room as `report` has.
+fn judge_pair(
+    sheet: &[u8],
+    answer: &[u8],
+    report: &mut [u8],
+    out: &mut [u8],
+    used: usize,
+) -> usize {
+    let verdict = judge(sheet, answer, report);
+    let written = verdict.written;
+    let place = judging::place(sheet, answer, report.len());
+    let a = write_verdict(out, used, verdict);
+    let b = write_place(out, a, place, written);
+    inks::write_key(out, b, &report[..written])
+}
+
+fn judge_within(
+    sheet: &[u8],
+    answer: &[u8],
+    report: &mut [u8],
+    room: usize,
+    out: &mut [u8],
+    used: usize,
+) -> usize
+    requires { ⌜ room ≤ length (now report) ⌝ }
+{
+    judge_pair(sheet, answer, &mut report[..room], out, used)
+}
+
+// The place in the output from which a line and a report have room.
+fn place_for(out: &[u8], used: usize) -> usize {
+    if used <= ENOUGH {
+        return used;
+    }
+    flush(out, used);
+    0
+}
+
+fn judge_case(
+    case: &[u8],
+    header: Header,
+    report: &mut [u8; 16384],
+    out: &mut [u8],
+    used: usize,
+) -> usize
+    requires { ⌜ Small header ⌝ }
+    requires { ⌜ header .size + header .sheet + header .answer ≤ length (now case) ⌝ }
+{
+    let a = header.size;
+    let b = a + header.sheet;
+    let c = b + header.answer;
+    let at = place_for(out, used);
+    judge_within(&case[a..b], &case[b..c], report, header.room, out, at)
+}
+
+fn bad_header(out: &mut [u8], flow: Flow) -> Flow
+    ensures { λ r. ⌜ (r .at ≡ flow .at) × (r .to ≡ flow .to) ⌝ }
+{
+    let used = place_for(out, flow.used);
+    Flow {
+        at: flow.at,
+        to: flow.to,
+        used: inks::write_key(out, used, b"bad header\n"),
+        ended: true,
+    }
+}
+
+// The case that begins with this header, if its texts are whole.
+fn run_texts(
+    input: &mut [u8],
+    header: Header,
+    report: &mut [u8; 16384],
+    out: &mut [u8],
+    flow: Flow,
+) -> Flow
+    requires { ⌜ Inside flow (now input) ⌝ }
+    requires { ⌜ Small header ⌝ }
+    ensures { λ r. ⌜ Inside r (now (input .exit)) ⌝ }
+{
+    let need = header.size + header.sheet + header.answer;
+    let whole = gather(input, out, flow, need);
+    let at = whole.at;
+    let to = whole.to;
+    if to - at < need {
+        return bad_header(out, whole);
+    }
+    let used = judge_case(&input[at..to], header, report, out, whole.used);
+    Flow {
+        at: at + need,
+        to,
+        used,
+        ended: false,
+    }
+}
+
+fn run_case(input: &mut [u8], report: &mut [u8; 16384], out: &mut [u8], flow: Flow) -> Flow
+    requires { ⌜ Inside flow (now input) ⌝ }
+    ensures { λ r. ⌜ Inside r (now (input .exit)) ⌝ }
+{
+    let start = gather(input, out, flow, HEADER);
+    let at = start.at;
+    let to = start.to;
+    if at == to {
+        return Flow {
+            at,
+            to,
+            used: start.used,
+            ended: true,
+        };
+    }
+    let header = read_header(&input[at..to]);
+    if header.size == 0 {
+        return bad_header(out, start);
+    }
+    run_texts(input, header, report, out, start)
+}
+
+fn run(input: &mut [u8], report: &mut [u8; 16384], out: &mut [u8]) {
+    let mut flow = Flow {
+        at: 0,
+        to: 0,
+        used: 0,
+        ended: false,
+    };
+    // A loop that is proved ends, so it counts its turns down.
+    let mut turns = u64::MAX;
+    while 0 < turns && !flow.ended {
+        flow = run_case(input, report, out, flow);
+        turns -= 1;
+    }
+    flush(out, flow.used);
+}
+
+fn main() {
+    let mut input = [0u8; 131072];
+    let mut report = [0u8; 16384];
+    let mut out = [0u8; 65536];
+    run(&mut input, &mut report, &mut out);
+}
