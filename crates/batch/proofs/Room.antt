@@ -2,14 +2,14 @@
 -- Assumes nothing.
 use Prim.Native.Nat.{ℕ, _≤_, zero-le}
 use mathlib.Core.List.{List}
-use mathlib.Core.Path.{_≡_, refl, sym}
+use mathlib.Core.Path.{_≡_, refl}
 use native.Mathlib.Omega.{arith}
 use lib.Dec.{leb}
 use lib.ListN.{length, length-append, length-drop}
-use lib.Seq.{length-take-le}
 use borrow.Author.Tests.{leb-true}
 use Rattle.forms.proofs.Tests.{by-test}
 use Rattle.io.specs.Counts.{Counts}
+use Rattle.io.proofs.Counting.{counts}
 use Rattle.model.specs.declared.Walked.{Walked}
 use Rattle.report.specs.Report.{report}
 use Rattle.judged.specs.declared.Verdict.{Verdict}
@@ -33,9 +33,8 @@ module _ (s a : List ℕ) (room : ℕ) where
   unfolding judged
   fits = fits-ending (course s a)
 
-pub counts : (s a old : List ℕ) {v : Verdict} {new : List ℕ} → v ≡ judged s a (length old) .verdict → new ≡ buffer s a old → Counts (v .written) new
+pub written-counts : (s a old : List ℕ) {v : Verdict} {new : List ℕ} → v ≡ judged s a (length old) .verdict → new ≡ buffer s a old → Counts (v .written) new
 unfolding over
-counts s a old {v} {new} e is =
+written-counts s a old {v} {new} e is =
     let f = fits s a (length old) in
-    let h : v .written ≤ length new = rw (e, is) (simp (length-append, length-drop) (omega (arith, f))) in
-    (h, sym (length-take-le (v .written) new h))
+    counts (v .written) new (rw (e, is) (simp (length-append, length-drop) (omega (arith, f))))

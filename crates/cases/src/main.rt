@@ -2,7 +2,6 @@
 // Promised by `judging`: every byte between the name and the place, and the place. A pair is a line of pairs.py, and make.py writes the rest.
 use judged::Place;
 use libc::STDOUT_FILENO;
-use model::Text;
 ghost use Rattle.io.specs.Counts.{Counts};
 
 // NAME and what its file's name ends in, cut where the path has no room.
@@ -25,21 +24,10 @@ fn read_text(name: &[u8], ending: &[u8], text: &mut [u8]) -> usize
     n
 }
 
-fn print_at(key: &[u8], start: usize, size: usize) {
-    io::write_all(STDOUT_FILENO, key);
-    io::print_decimal(STDOUT_FILENO, start as u64);
-    io::write_all(STDOUT_FILENO, b",");
-    io::print_decimal(STDOUT_FILENO, size as u64);
-    io::write_all(STDOUT_FILENO, b"\n");
-}
-
-// place=TEXT,START,SIZE
 fn print_place(place: Place) {
-    let text = place.text;
-    match text {
-        Text::Sheet => print_at(b"place=sheet,", place.start, place.size),
-        _ => print_at(b"place=answer,", place.start, place.size),
-    }
+    let mut line = [0u8; 32];
+    let used = shown::show_place(place, &mut line);
+    io::write_all(STDOUT_FILENO, &line[..used]);
 }
 
 fn run_case(i: usize) {

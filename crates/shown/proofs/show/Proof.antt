@@ -1,0 +1,38 @@
+-- The first i bytes of the text are shown; what is left of the text falls.
+use Prim.Native.Nat.{_≤_, _-_}
+use native.Mathlib.Omega.{arith}
+use lib.ListN.{length, take}
+use lib.Seq.{take-all}
+use borrow.Author.Needs.{needs}
+use Rattle.inks.specs.Written.{Written}
+use Rattle.inks.proofs.Laws.{none, then, length-written}
+use Rattle.shown.specs.Shown.{shown}
+use Rattle.shown.proofs.Pieces.{shown-more}
+use Rattle.shown.proofs.show.Statement.{statement}
+use Rattle.shown.proofs.show.Tie as tie
+
+abbrev Inv-loop : tie.InvT-loop
+Inv-loop t₀ at text p₀ i₀ t p i = (i ≤ length text) × Written t₀ (shown (take i text)) t at p
+
+abbrev μ-loop : tie.MeasureT-loop
+μ-loop t₀ at text p₀ i₀ t p i = length text - i
+
+loop-holds : tie.Need-loop-holds Inv-loop μ-loop
+unfolding shown
+loop-holds c = (omega arith, none _ _)
+
+loop-again : tie.Need-loop-again Inv-loop μ-loop
+loop-again c =
+    let k = c .before .before .before .before .before in
+    let w = then (k .before .loop .inv .1) (c .before .before .show-byte .ensures) in
+    (omega arith, rw (shown-more _ _ (k .loop-test .taken)) w)
+
+returns : tie.Need-returns Inv-loop μ-loop
+returns c = rw (take-all _ _ (c .loop-test .left)) at (c .before .loop .inv .1)
+
+pub show-spec : {M : Type 1} → statement M
+show-spec =
+    tie.close
+    (tie.spec
+    Inv-loop μ-loop loop-holds (λ c. search needs) (λ c κs. search needs) (λ c. search needs) (λ c. omega arith) loop-again
+    (λ c. length-written (c .before .loop .inv .1)) returns)

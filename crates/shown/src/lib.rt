@@ -1,0 +1,117 @@
+// What a marker is shown: a candidate's bytes as printable ASCII, every other byte and the backslash as `\xNN` in lower case; and the place of a line.
+// Promised: every byte of the lent buffer, by `shown` and `placeText`. What is shown is always printable, and no two texts look alike (specs/Readable).
+use judged::Place;
+use model::Text;
+ghost use mathlib.Core.Path.{_≡_};
+ghost use Prim.Native.Nat.{_+_, _<_, min};
+ghost use lib.ListN.{length};
+ghost use Rattle.judged.specs.Judged.{over};
+ghost use Rattle.inks.specs.Written.{Written};
+ghost use Rattle.shown.specs.Shown.{plain, hexDigit, shownByte, shown, pieceAt};
+ghost use Rattle.io.specs.Counts.{Counts};
+ghost use Rattle.shown.specs.Place.{whichText, placeText};
+
+// A byte that stands for itself: from the blank to the tilde, the backslash aside.
+fn is_plain(b: u8) -> bool
+    ensures { λ r. ⌜ r ≡ plain b ⌝ }
+{
+    if b < b' ' {
+        return false;
+    }
+    if b'~' < b {
+        return false;
+    }
+    b != b'\\'
+}
+
+fn hex_digit(d: u8) -> u8
+    requires { ⌜ d < 16 ⌝ }
+    ensures { λ r. ⌜ r ≡ hexDigit d ⌝ }
+{
+    if d < 10 {
+        return b'0' + d;
+    }
+    b'a' + (d - 10)
+}
+
+fn show_byte(t: &mut [u8], at: usize, b: u8) -> usize
+    ensures { λ r. ⌜ Written (now (t .entry)) (shownByte b) (now (t .exit)) at r ⌝ }
+{
+    if is_plain(b) {
+        return inks::write_byte(t, at, b);
+    }
+    let p = inks::write_key(t, at, b"\\x");
+    let q = inks::write_byte(t, p, hex_digit(b / 16 % 16));
+    inks::write_byte(t, q, hex_digit(b % 16))
+}
+
+// A candidate's bytes, at a position of a lent buffer; what has no room is cut.
+pub fn show(t: &mut [u8], at: usize, text: &[u8]) -> usize
+    ensures { λ r. ⌜ Written (now (t .entry)) (shown (now (text .entry))) (now (t .exit)) at r ⌝ }
+{
+    let mut p = at;
+    let mut i: usize = 0;
+    while i < text.len() {
+        p = show_byte(t, p, text[i]);
+        i += 1;
+    }
+    p
+}
+
+// How much of a text has been shown, and how many bytes that took.
+pub struct Piece {
+    pub next: usize,
+    pub used: usize,
+}
+
+fn piece_end(length: usize, at: usize) -> usize
+    ensures { λ r. ⌜ r ≡ min (at + 1024) length ⌝ }
+{
+    if length <= at {
+        return length;
+    }
+    if length - at <= 1024 {
+        return length;
+    }
+    at + 1024
+}
+
+// The next 1,024 bytes of a text, or all that are left: four times as much has room, so none is cut.
+pub fn show_piece(text: &[u8], at: usize, out: &mut [u8; 4096]) -> Piece
+    ensures next { λ r. ⌜ r .next ≡ min (at + 1024) (length (now (text .entry))) ⌝ }
+    ensures used { λ r. ⌜ r .used ≡ length (shown (pieceAt at (now (text .entry)))) ⌝ }
+    ensures out { λ r. ⌜ now (out .exit) ≡ over (shown (pieceAt at (now (text .entry)))) (now (out .entry)) ⌝ }
+    ensures counts { λ r. ⌜ Counts (r .used) (now (out .exit)) ⌝ }
+{
+    let next = piece_end(text.len(), at);
+    if next <= at {
+        return Piece { next, used: 0 };
+    }
+    let used = show(out, 0, &text[at..next]);
+    Piece { next, used }
+}
+
+fn write_which(t: &mut [u8], at: usize, text: Text) -> usize
+    ensures { λ r. ⌜ Written (now (t .entry)) (whichText text) (now (t .exit)) at r ⌝ }
+{
+    match text {
+        Text::Sheet => inks::write_key(t, at, b"sheet"),
+        Text::Answer => inks::write_key(t, at, b"answer"),
+        Text::Neither => inks::write_key(t, at, b"-"),
+    }
+}
+
+// `place=TEXT,START,SIZE` and its LF, which 32 bytes have room for.
+pub fn show_place(place: Place, out: &mut [u8; 32]) -> usize
+    ensures written { λ r. ⌜ Written (now (out .entry)) (placeText place) (now (out .exit)) 0 r ⌝ }
+    ensures counts { λ r. ⌜ Counts r (now (out .exit)) ⌝ }
+{
+    let text = place.text;
+    let a = inks::write_key(out, 0, b"place=");
+    let b = write_which(out, a, text);
+    let c = inks::write_byte(out, b, b',');
+    let d = inks::write_number(out, c, place.start);
+    let e = inks::write_byte(out, d, b',');
+    let f = inks::write_number(out, e, place.size);
+    inks::write_byte(out, f, b'\n')
+}
