@@ -1,5 +1,5 @@
 // A marker's aid: the sheet from sheet.txt in the current folder, and for each answer file that an argument names, in order, `candidate=` and its name,
-// what `judge` prints, `place=` and `offending=` with the line at fault; or `unreadable=1`. A candidate's bytes are shown by `shown::show`, lower case.
+// what `judge` prints, `place=` and `offending=` with the line at fault; or `unreadable=1`. A candidate's bytes are shown as `shown` promises: `\xNN`, lower case.
 use judged::Place;
 use libc::STDOUT_FILENO;
 use texts::Due;
