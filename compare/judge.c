@@ -1,0 +1,424 @@
+/* "The two texts", "Refusal numbers" and "The report and its program": reader, walk, report, place. */
+#include "judge.h"
+
+#include <string.h>
+
+#include "ink.h"
+
+/* The longest report has 32 instances with all sets full and 64 connections: below 10,000 bytes whatever they hold. */
+enum { LONGEST_REPORT = 16384 };
+
+enum { TOO_LONG = 1, FORM = 2, LIMIT = 3, BREACH = 4, LEFT_OVER = 5, NO_ROOM = 6 };
+
+/* A text on the way: `line` is where the line being read starts, `at` the cursor in it. */
+struct reader { const uint8_t *start, *line, *at, *end; unsigned lines; unsigned fault; };
+
+static struct reader reader_of(const uint8_t *text, size_t length)
+{
+    return (struct reader){ text, text, text, text + length, 0, 0 };
+}
+
+/* ---- items: each answers whether the form is kept ---- */
+
+static bool take_word(struct reader *r, const char *word)
+{
+    size_t length = strlen(word);
+    if ((size_t)(r->end - r->at) < length || memcmp(r->at, word, length) != 0) return false;
+    r->at += length;
+    return true;
+}
+
+static bool take_byte(struct reader *r, char byte)
+{
+    if (r->at == r->end || *r->at != (uint8_t)byte) return false;
+    r->at++;
+    return true;
+}
+
+static bool at_digit(const struct reader *r)
+{
+    return r->at != r->end && *r->at >= '0' && *r->at <= '9';
+}
+
+/* "Numbers are decimal, one to five digits, no leading zero." */
+static bool take_number(struct reader *r, unsigned *number)
+{
+    const uint8_t *first = r->at;
+    unsigned value = 0;
+    while (at_digit(r) && r->at - first < 5) value = value * 10 + (unsigned)(*r->at++ - '0');
+    *number = value;
+    return r->at != first && !(*first == '0' && r->at - first > 1);
+}
+
+/* A set and the least count that its members lie below. */
+struct list { uint32_t set; unsigned past; };
+
+/* "A list is numbers joined by `+`, strictly ascending; `-` is the empty list." */
+static bool take_list(struct reader *r, struct list *list)
+{
+    *list = (struct list){ 0, 0 };
+    if (take_byte(r, '-')) return true;
+    do {
+        unsigned member;
+        if (!take_number(r, &member) || member < list->past) return false;
+        if (member < 32) list->set |= bit(member);
+        list->past = member + 1;
+    } while (take_byte(r, '+'));
+    return true;
+}
+
+static bool take_numbers(struct reader *r, unsigned count, unsigned *numbers)
+{
+    for (unsigned k = 0; k < count; k++)
+        if ((k > 0 && !take_byte(r, ',')) || !take_number(r, &numbers[k])) return false;
+    return true;
+}
+
+/* ---- lines: "In one line 2 comes before 3 before 4"; each answers whether the line is good ---- */
+
+static bool at_fault(struct reader *r, unsigned fault)
+{
+    r->fault = fault;
+    return false;
+}
+
+static bool line_done(struct reader *r)
+{
+    r->line = r->at;
+    r->lines++;
+    return true;
+}
+
+static bool end_line(struct reader *r)
+{
+    return take_byte(r, '\n');
+}
+
+/* `sheet=1`, `answer=1` and `type=`: another number than the one due is a form fault. */
+static bool due_line(struct reader *r, const char *key, unsigned due)
+{
+    unsigned number;
+    if (!take_word(r, key) || !take_number(r, &number) || !end_line(r) || number != due) return at_fault(r, FORM);
+    return line_done(r);
+}
+
+static bool count_line(struct reader *r, const char *key, unsigned least, unsigned most, unsigned *count)
+{
+    if (!take_word(r, key) || !take_number(r, count) || !end_line(r)) return at_fault(r, FORM);
+    if (*count < least || *count > most) return at_fault(r, LIMIT);
+    return line_done(r);
+}
+
+static bool initial_line(struct reader *r, struct type *type)
+{
+    struct list list;
+    if (!take_word(r, "initial=") || !take_list(r, &list) || !end_line(r)) return at_fault(r, FORM);
+    if (list.past > type->places) return at_fault(r, LIMIT);
+    if (list.set == 0) return at_fault(r, BREACH);
+    type->initial = list.set;
+    return line_done(r);
+}
+
+/* "`tran` with source equal to destination" is 4. */
+static bool tran_line(struct reader *r, struct type *type, unsigned t)
+{
+    unsigned ends[2];
+    if (!take_word(r, "tran=") || !take_numbers(r, 2, ends) || !end_line(r)) return at_fault(r, FORM);
+    if (ends[0] >= type->places || ends[1] >= type->places) return at_fault(r, LIMIT);
+    if (ends[0] == ends[1]) return at_fault(r, BREACH);
+    type->source[t] = (uint8_t)ends[0];
+    type->destination[t] = (uint8_t)ends[1];
+    return line_done(r);
+}
+
+static bool behavior_line(struct reader *r, struct type *type, unsigned b)
+{
+    struct list list;
+    if (!take_word(r, "behavior=") || !take_list(r, &list) || !end_line(r)) return at_fault(r, FORM);
+    if (list.past > type->transitions) return at_fault(r, LIMIT);
+    type->behavior[b] = list.set;
+    return line_done(r);
+}
+
+static bool take_kind(struct reader *r, uint8_t *use)
+{
+    *use = take_word(r, "port=use,");
+    return *use || take_word(r, "port=provide,");
+}
+
+/* "a use port whose group has an initial place" is 4. */
+static bool port_line(struct reader *r, struct type *type, unsigned p)
+{
+    struct list places, transitions;
+    struct port *port = &type->port[p];
+    if (!take_kind(r, &port->use) || !take_list(r, &places) || !take_byte(r, ',') || !take_list(r, &transitions)
+        || !end_line(r)) return at_fault(r, FORM);
+    if (places.past > type->places || transitions.past > type->transitions) return at_fault(r, LIMIT);
+    if (port->use && (places.set & type->initial) != 0) return at_fault(r, BREACH);
+    port->places = places.set;
+    port->transitions = transitions.set;
+    return line_done(r);
+}
+
+/* A verb's word, how many numbers follow it and how great each may be; a type's limit is the sheet's own. */
+struct form { const char *word; unsigned count; unsigned most[4]; };
+
+static const struct form instruction_forms[INSTRUCTION_VERBS] = {
+    [ADD] = { "add,", 2, { 31, 0 } },
+    [DEL] = { "del,", 1, { 31 } },
+    [PUSHB] = { "pushb,", 2, { 31, 7 } },
+    [CON] = { "con,", 4, { 31, 15, 31, 15 } },
+    [DCON] = { "dcon,", 4, { 31, 15, 31, 15 } },
+    [WAIT] = { "wait,", 1, { 31 } },
+};
+
+static const struct form step_forms[STEP_VERBS] = {
+    [NEXT] = { "next", 0, { 0 } },
+    [FIRE] = { "fire,", 2, { 31, 15 } },
+    [END] = { "end,", 2, { 31, 31 } },
+    [ENTER] = { "enter,", 2, { 31, 15 } },
+    [FINISH] = { "finish,", 1, { 31 } },
+};
+
+static bool take_verb(struct reader *r, const struct form *forms, unsigned verbs, unsigned *verb)
+{
+    for (*verb = 0; *verb < verbs; ++*verb)
+        if (take_word(r, forms[*verb].word)) return true;
+    return false;
+}
+
+static bool within(const struct form *form, const unsigned *numbers)
+{
+    for (unsigned k = 0; k < form->count; k++)
+        if (numbers[k] > form->most[k]) return false;
+    return true;
+}
+
+static bool do_line(struct reader *r, unsigned types, struct instruction *i)
+{
+    unsigned verb, n[4] = { 0, 0, 0, 0 };
+    if (!take_word(r, "do=") || !take_verb(r, instruction_forms, INSTRUCTION_VERBS, &verb)
+        || !take_numbers(r, instruction_forms[verb].count, n) || !end_line(r)) return at_fault(r, FORM);
+    if (verb == ADD ? n[0] >= INSTANCES || n[1] >= types : !within(&instruction_forms[verb], n)) return at_fault(r, LIMIT);
+    *i = (struct instruction){ (uint8_t)verb, (uint8_t)n[0], (uint8_t)n[1], (uint8_t)n[2], (uint8_t)n[3] };
+    return line_done(r);
+}
+
+static bool step_line(struct reader *r, struct step *step)
+{
+    unsigned verb, n[2] = { 0, 0 };
+    if (!take_word(r, "step=") || !take_verb(r, step_forms, STEP_VERBS, &verb)
+        || !take_numbers(r, step_forms[verb].count, n) || !end_line(r)) return at_fault(r, FORM);
+    if (!within(&step_forms[verb], n)) return at_fault(r, LIMIT);
+    *step = (struct step){ (uint8_t)verb, (uint8_t)n[0], (uint8_t)n[1] };
+    return line_done(r);
+}
+
+/* ---- the two texts, in their fixed order ---- */
+
+static bool read_transitions(struct reader *r, struct type *type)
+{
+    unsigned count;
+    if (!count_line(r, "transitions=", 0, TRANSITIONS, &count)) return false;
+    type->transitions = (uint8_t)count;
+    for (unsigned t = 0; t < count; t++)
+        if (!tran_line(r, type, t)) return false;
+    return true;
+}
+
+static bool read_behaviors(struct reader *r, struct type *type)
+{
+    unsigned count;
+    if (!count_line(r, "behaviors=", 0, BEHAVIORS, &count)) return false;
+    type->behaviors = (uint8_t)count;
+    for (unsigned b = 0; b < count; b++)
+        if (!behavior_line(r, type, b)) return false;
+    return true;
+}
+
+static bool read_ports(struct reader *r, struct type *type)
+{
+    unsigned count;
+    if (!count_line(r, "ports=", 0, PORTS, &count)) return false;
+    type->ports = (uint8_t)count;
+    for (unsigned p = 0; p < count; p++)
+        if (!port_line(r, type, p)) return false;
+    return true;
+}
+
+static bool read_type(struct reader *r, struct type *type, unsigned due)
+{
+    unsigned places;
+    if (!due_line(r, "type=", due) || !count_line(r, "places=", 1, PLACES, &places)) return false;
+    type->places = (uint8_t)places;
+    return initial_line(r, type) && read_transitions(r, type) && read_behaviors(r, type) && read_ports(r, type);
+}
+
+static bool read_program(struct reader *r, unsigned types, struct program *program)
+{
+    unsigned count;
+    if (!count_line(r, "program=", 0, INSTRUCTIONS, &count)) return false;
+    program->count = count;
+    for (unsigned k = 0; k < count; k++)
+        if (!do_line(r, types, &program->line[k])) return false;
+    return true;
+}
+
+/* "bytes after the last line due" */
+static bool at_end(struct reader *r)
+{
+    return r->at == r->end ? true : at_fault(r, LEFT_OVER);
+}
+
+static bool read_sheet(struct reader *r, struct tables *tables, struct program *program)
+{
+    unsigned depth, types;
+    if (!due_line(r, "sheet=", 1) || !count_line(r, "depth=", 0, DEPTH, &depth)
+        || !count_line(r, "types=", 1, TYPES, &types)) return false;
+    tables->depth = (uint8_t)depth;
+    tables->count = (uint8_t)types;
+    for (unsigned k = 0; k < types; k++)
+        if (!read_type(r, &tables->type[k], k)) return false;
+    return read_program(r, types, program) && at_end(r);
+}
+
+static bool read_answer(struct reader *r, struct step *steps, unsigned *count)
+{
+    if (!due_line(r, "answer=", 1) || !count_line(r, "steps=", 0, STEPS, count)) return false;
+    for (unsigned k = 0; k < *count; k++)
+        if (!step_line(r, &steps[k])) return false;
+    return at_end(r);
+}
+
+/* ---- the report ---- */
+
+static uint8_t *ink_queue(uint8_t *at, const struct instance *i)
+{
+    if (i->queued == 0) return ink_byte(at, '-');
+    at = ink_number(at, i->queue[0]);
+    for (unsigned k = 1; k < i->queued; k++) at = ink_number(ink_byte(at, '+'), i->queue[k]);
+    return at;
+}
+
+/* "`instance=id,type,marked,running,ended,queue`" */
+static uint8_t *ink_instance(uint8_t *at, unsigned id, const struct instance *i)
+{
+    at = ink_byte(ink_number(ink_word(at, "instance="), id), ',');
+    at = ink_byte(ink_number(at, i->kind), ',');
+    at = ink_byte(ink_list(at, i->marked), ',');
+    at = ink_byte(ink_list(at, i->running), ',');
+    at = ink_byte(ink_list(at, i->ended), ',');
+    return ink_byte(ink_queue(at, i), '\n');
+}
+
+static uint8_t *ink_instances(uint8_t *at, const struct configuration *c)
+{
+    unsigned count = 0;
+    for (unsigned id = 0; id < INSTANCES; id++) count += c->instance[id].present;
+    at = ink_line(at, "instances=", count);
+    for (unsigned id = 0; id < INSTANCES; id++)
+        if (c->instance[id].present) at = ink_instance(at, id, &c->instance[id]);
+    return at;
+}
+
+/* "`connection=user,useport,provider,provideport`" */
+static uint8_t *ink_connection(uint8_t *at, const struct connection *n)
+{
+    at = ink_byte(ink_number(ink_word(at, "connection="), n->user), ',');
+    at = ink_byte(ink_number(at, n->useport), ',');
+    at = ink_byte(ink_number(at, n->provider), ',');
+    return ink_byte(ink_number(at, n->provideport), '\n');
+}
+
+static unsigned rank(const struct connection *n) { return n->user * 16u + n->useport; }
+
+/* "per connection by user then port": sorted by insertion into `sorted`. */
+static void sort_connections(const struct configuration *c, const struct connection **sorted)
+{
+    for (unsigned k = 0; k < c->count; k++) {
+        unsigned at = k;
+        for (; at > 0 && rank(sorted[at - 1]) > rank(&c->connection[k]); at--) sorted[at] = sorted[at - 1];
+        sorted[at] = &c->connection[k];
+    }
+}
+
+static uint8_t *ink_connections(uint8_t *at, const struct configuration *c)
+{
+    const struct connection *sorted[CONNECTIONS];
+    sort_connections(c, sorted);
+    at = ink_line(at, "connections=", c->count);
+    for (unsigned k = 0; k < c->count; k++) at = ink_connection(at, sorted[k]);
+    return at;
+}
+
+static size_t write_report(uint8_t *bytes, unsigned accepted, unsigned refused, const struct configuration *c)
+{
+    uint8_t *at = ink_line(bytes, "accepted=", accepted);
+    at = ink_line(at, "refused=", refused);
+    at = ink_line(at, "next=", c->done);
+    at = ink_instances(at, c);
+    return (size_t)(ink_connections(at, c) - bytes);
+}
+
+/* ---- results and places ---- */
+
+static size_t to_line_end(const uint8_t *line, const uint8_t *end)
+{
+    const uint8_t *found = line == end ? NULL : memchr(line, '\n', (size_t)(end - line));
+    return (size_t)((found == NULL ? end : found) - line);
+}
+
+/* "for 2 to 5, the line at fault, up to its LF or the text's end, empty at the end when the text ended early" */
+static struct result after_fault(const struct reader *r, enum text text)
+{
+    struct place place = { text, (size_t)(r->line - r->start), to_line_end(r->line, r->end) };
+    return (struct result){ r->fault, 0, 0, r->lines + 1, text, place, 0 };
+}
+
+/* "for 1, the empty start of that text" */
+static struct result after_length(enum text text)
+{
+    return (struct result){ TOO_LONG, 0, 0, 0, text, { text, 0, 0 }, 0 };
+}
+
+/* "for a step, its line": the steps' lines come after two others. */
+static struct place step_place(const uint8_t *answer, size_t answerlen, unsigned step)
+{
+    size_t start = 0;
+    for (unsigned k = 0; k < step + 2; k++) start += to_line_end(answer + start, answer + answerlen) + 1;
+    return (struct place){ ANSWER, start, to_line_end(answer + start, answer + answerlen) };
+}
+
+/* The length is known before the first byte is lent out: "the report buffer holds its old bytes" after 6. */
+static struct result after_walk(struct result walked, const struct configuration *c, uint8_t *report, size_t room)
+{
+    uint8_t bytes[LONGEST_REPORT];
+    walked.next = c->done;
+    walked.length = write_report(bytes, walked.accepted, walked.refused, c);
+    if (walked.length > room) return (struct result){ NO_ROOM, 0, 0, 0, NO_TEXT, { ANSWER, 0, 0 }, 0 };
+    if (walked.length > 0) memcpy(report, bytes, walked.length);
+    return walked;
+}
+
+void judge(const uint8_t *sheet, size_t sheetlen, const uint8_t *answer, size_t answerlen, uint8_t *report, size_t room,
+           struct result *result)
+{
+    struct tables tables;
+    struct program program;
+    struct step steps[STEPS];
+    unsigned count = 0;
+    struct configuration c = { .count = 0 };
+    struct reader of_sheet = reader_of(sheet, sheetlen), of_answer = reader_of(answer, answerlen);
+    struct result walked = { .place = { ANSWER, answerlen, 0 } };
+
+    if (sheetlen > LONGEST_TEXT) { *result = after_length(SHEET); return; }
+    if (answerlen > LONGEST_TEXT) { *result = after_length(ANSWER); return; }
+    if (!read_sheet(&of_sheet, &tables, &program)) { *result = after_fault(&of_sheet, SHEET); return; }
+    if (!read_answer(&of_answer, steps, &count)) { *result = after_fault(&of_answer, ANSWER); return; }
+    while (walked.accepted < count && walked.refused == 0) {
+        walked.refused = take_step(&tables, &program, &c, &steps[walked.accepted]);
+        if (walked.refused == 0) walked.accepted++;
+    }
+    if (walked.refused != 0) walked.place = step_place(answer, answerlen, walked.accepted);
+    *result = after_walk(walked, &c, report, room);
+}
