@@ -1,0 +1,276 @@
+/* compare pairs|hall COUNT FOLDER SEED.. [-- COMMAND..]: makes COUNT cases of each seed, has the command answer them through
+   files in FOLDER, and compares every byte with the answers of the judge beside this file. Without a command the cases go to
+   standard output. Ends with the shares of the numbers; status 1 after a difference or where a number is too rare. */
+#define _POSIX_C_SOURCE 200809L
+
+#include <fcntl.h>
+#include <inttypes.h>
+#include <stdlib.h>
+#include <string.h>
+#include <sys/wait.h>
+#include <unistd.h>
+
+#include "generate.h"
+#include "hall.h"
+#include "ink.h"
+#include "protocol.h"
+
+enum { AT_ONCE = 2000, NUMBERS = 38, LONGEST_HALL_CASE = 64 + LENT_BYTES * 9, LONGEST_HALL_ANSWER = 64 + CONFIGURATION_BYTES * 9 };
+
+struct stream { uint8_t *bytes; size_t length, size; };
+
+/* The cases of one run of the command, what is expected of it, and where each case starts in both. */
+struct cases { struct stream input, expected; size_t input_at[AT_ONCE + 1], expected_at[AT_ONCE + 1]; unsigned count; };
+
+/* Appends a case and its answer; gives back its number. */
+typedef unsigned appender(uint64_t seed, uint64_t index, struct cases *cases);
+
+struct job {
+    appender *append;
+    const char *folder;
+    char **command;
+    uint64_t count, seen[NUMBERS], total;
+    bool pairs;
+};
+
+static void fail(const char *what)
+{
+    perror(what);
+    exit(2);
+}
+
+/* ---- streams ---- */
+
+/* Room for so many bytes more at the end. */
+static uint8_t *make_room(struct stream *s, size_t more)
+{
+    if (s->length + more > s->size) {
+        s->size = (s->length + more) * 2;
+        s->bytes = realloc(s->bytes, s->size);
+        if (s->bytes == NULL) fail("memory");
+    }
+    return s->bytes + s->length;
+}
+
+static void append_bytes(struct stream *s, const void *bytes, size_t count)
+{
+    uint8_t *at = make_room(s, count);
+    if (count > 0) memcpy(at, bytes, count);
+    s->length += count;
+}
+
+static void write_file(const char *path, const uint8_t *bytes, size_t count)
+{
+    FILE *file = fopen(path, "wb");
+    if (file == NULL || fwrite(bytes, 1, count, file) != count || fclose(file) != 0) fail(path);
+}
+
+static void read_file(const char *path, struct stream *s)
+{
+    FILE *file = fopen(path, "rb");
+    if (file == NULL) fail(path);
+    for (size_t got = 1; got > 0; s->length += got) got = fread(make_room(s, 65536), 1, 65536, file);
+    fclose(file);
+}
+
+static const char *path_of(const struct job *job, const char *name)
+{
+    static char path[4096];
+    snprintf(path, sizeof path, "%s/%s", job->folder, name);
+    return path;
+}
+
+/* ---- the cases ---- */
+
+static unsigned append_pair(uint64_t seed, uint64_t index, struct cases *cases)
+{
+    static struct pair pair;
+    static uint8_t report[GREATEST_ROOM];
+    char line[LONGEST_RESULT];
+    struct result result;
+    generate_pair(seed, index, &pair);
+    int length = snprintf(line, sizeof line, "case %zu %zu %zu\n", pair.sheet.length, pair.answer.length, pair.room);
+    append_bytes(&cases->input, line, (size_t)length);
+    append_bytes(&cases->input, pair.sheet.bytes, pair.sheet.length);
+    append_bytes(&cases->input, pair.answer.bytes, pair.answer.length);
+    judge(pair.sheet.bytes, pair.sheet.length, pair.answer.bytes, pair.answer.length, report, pair.room, &result);
+    append_bytes(&cases->expected, line, result_line(line, &result));
+    append_bytes(&cases->expected, report, result.length);
+    return result.refused;
+}
+
+/* The name of a hall's case is its index. */
+static void append_lent(struct stream *s, uint64_t index, const uint8_t *bytes)
+{
+    uint8_t *first = make_room(s, LONGEST_HALL_CASE), *at = ink_number(ink_byte(first, 'c'), (uint32_t)index);
+    for (unsigned k = 0; k < LENT_BYTES; k++)
+        if (bytes[k] != 0) at = ink_number(ink_byte(ink_number(ink_byte(at, ' '), k), '='), bytes[k]);
+    s->length += (size_t)(ink_byte(at, '\n') - first);
+}
+
+static unsigned append_hall(uint64_t seed, uint64_t index, struct cases *cases)
+{
+    static struct lent lent;
+    static uint8_t before[LENT_BYTES], after[LENT_BYTES];
+    generate_lent(seed, index, &lent);
+    lent_to_bytes(&lent, before);
+    append_lent(&cases->input, index, before);
+    unsigned number = hall(&lent.tables, &lent.program, &lent.configuration, &lent.step);
+    lent_to_bytes(&lent, after);
+    uint8_t *first = make_room(&cases->expected, LONGEST_HALL_ANSWER), *at = ink_number(ink_byte(first, 'c'), (uint32_t)index);
+    at = ink_changes(ink_number(ink_byte(at, ' '), number), before, after);
+    cases->expected.length += (size_t)(ink_byte(at, '\n') - first);
+    return number;
+}
+
+static void make_cases(struct job *job, uint64_t seed, uint64_t from, uint64_t count, struct cases *cases)
+{
+    cases->input.length = cases->expected.length = 0;
+    cases->count = (unsigned)count;
+    for (unsigned k = 0; k < count; k++) {
+        cases->input_at[k] = cases->input.length;
+        cases->expected_at[k] = cases->expected.length;
+        job->seen[job->append(seed, from + k, cases)]++;
+    }
+    cases->input_at[count] = cases->input.length;
+    cases->expected_at[count] = cases->expected.length;
+    job->total += count;
+}
+
+/* ---- the command ---- */
+
+static void redirect(const char *path, int flags, int to)
+{
+    int from = open(path, flags, 0666);
+    if (from < 0 || dup2(from, to) < 0) fail(path);
+    close(from);
+}
+
+static void run_command(const struct job *job)
+{
+    int status;
+    pid_t child = fork();
+    if (child < 0) fail("fork");
+    if (child == 0) {
+        redirect(path_of(job, "cases"), O_RDONLY, 0);
+        redirect(path_of(job, "answers"), O_WRONLY | O_CREAT | O_TRUNC, 1);
+        execvp(job->command[0], job->command);
+        fail(job->command[0]);
+    }
+    if (waitpid(child, &status, 0) != child) fail("waitpid");
+    if (status != 0) printf("the command ended with status %d\n", status);
+}
+
+/* ---- differences ---- */
+
+static size_t first_difference(const struct stream *a, const struct stream *b)
+{
+    size_t at = 0, least = a->length < b->length ? a->length : b->length;
+    while (at < least && a->bytes[at] == b->bytes[at]) at++;
+    return at;
+}
+
+/* Where the answer to the case ends that starts at a place: a line, and the bytes that its last number announces. */
+static size_t answer_end(const struct job *job, const struct stream *s, size_t start)
+{
+    size_t end = start;
+    while (end < s->length && s->bytes[end] != '\n') end++;
+    size_t digits = end;
+    while (digits > start && s->bytes[digits - 1] >= '0' && s->bytes[digits - 1] <= '9') digits--;
+    size_t more = job->pairs && end < s->length ? (size_t)strtoul((const char *)s->bytes + digits, NULL, 10) : 0;
+    end += end < s->length;
+    return s->length - end < more ? s->length : end + more;
+}
+
+static void show(const char *title, const struct stream *s, size_t start, size_t end)
+{
+    printf("--- %s\n%.*s\n", title, (int)(end - start), (const char *)s->bytes + start);
+}
+
+/* The case as the command got it, and a pair's two texts beside it. */
+static void keep_case(const struct job *job, const struct cases *cases, unsigned k)
+{
+    const uint8_t *bytes = cases->input.bytes + cases->input_at[k];
+    size_t length = cases->input_at[k + 1] - cases->input_at[k];
+    write_file(path_of(job, "differs.case"), bytes, length);
+    if (!job->pairs) return;
+    const uint8_t *sheet = (const uint8_t *)memchr(bytes, '\n', length) + 1;
+    size_t sheetlen = strtoul((const char *)bytes + 5, NULL, 10);
+    write_file(path_of(job, "differs.sheet"), sheet, sheetlen);
+    write_file(path_of(job, "differs.answer"), sheet + sheetlen, length - (size_t)(sheet - bytes) - sheetlen);
+}
+
+static bool agree(const struct job *job, const struct cases *cases, uint64_t seed, uint64_t from)
+{
+    static struct stream answers;
+    unsigned k = 0;
+    answers.length = 0;
+    read_file(path_of(job, "answers"), &answers);
+    size_t at = first_difference(&cases->expected, &answers);
+    if (at == cases->expected.length && at == answers.length) return true;
+    while (k + 1 < cases->count && cases->expected_at[k + 1] <= at) k++;
+    size_t start = cases->expected_at[k];
+    printf("case %" PRIu64 " of seed %" PRIu64 " differs; it is kept in %s/differs.*\n", from + k, seed, job->folder);
+    show("expected", &cases->expected, start, cases->expected_at[k + 1]);
+    show("answered", &answers, start, answer_end(job, &answers, start));
+    keep_case(job, cases, k);
+    return false;
+}
+
+/* ---- the whole ---- */
+
+static bool compare_seed(struct job *job, uint64_t seed)
+{
+    static struct cases cases;
+    for (uint64_t from = 0; from < job->count; from += AT_ONCE) {
+        uint64_t left = job->count - from;
+        make_cases(job, seed, from, left < AT_ONCE ? left : AT_ONCE, &cases);
+        if (job->command == NULL) {
+            fwrite(cases.input.bytes, 1, cases.input.length, stdout);
+            continue;
+        }
+        write_file(path_of(job, "cases"), cases.input.bytes, cases.input.length);
+        run_command(job);
+        if (!agree(job, &cases, seed, from)) return false;
+    }
+    return true;
+}
+
+/* The numbers that must occur: all of the table but 7, and in the hall those of 7 and the steps. */
+static bool due(const struct job *job, unsigned number)
+{
+    if (number >= 1 && number <= 7) return job->pairs == (number < 7);
+    return number == 0 || (number >= 10 && number <= 18) || (number >= 20 && number <= 22) || number >= 30;
+}
+
+/* Prints the shares; whether each number that must occur has half a percent. */
+static bool shares(const struct job *job)
+{
+    bool enough = true;
+    fprintf(stderr, "%" PRIu64 " cases of %s\n", job->total, job->pairs ? "pairs" : "the hall");
+    for (unsigned number = 0; number < NUMBERS; number++) {
+        if (!due(job, number)) continue;
+        bool rare = job->seen[number] * 200 < job->total;
+        enough = enough && !rare;
+        fprintf(stderr, "%4u %8" PRIu64 " %6.2f%%%s\n", number, job->seen[number],
+                100.0 * (double)job->seen[number] / (double)job->total, rare ? " too rare" : "");
+    }
+    return enough;
+}
+
+int main(int argc, char **argv)
+{
+    int seeds = 4;
+    while (seeds < argc && strcmp(argv[seeds], "--") != 0) seeds++;
+    if (seeds <= 4) {
+        fputs("usage: compare pairs|hall COUNT FOLDER SEED.. [-- COMMAND..]\n", stderr);
+        return 2;
+    }
+    bool pairs = strcmp(argv[1], "pairs") == 0, same = true;
+    struct job job = { .append = pairs ? append_pair : append_hall, .folder = argv[3], .pairs = pairs,
+                       .command = seeds + 1 < argc ? argv + seeds + 1 : NULL, .count = strtoull(argv[2], NULL, 10) };
+    for (int k = 4; k < seeds && same; k++) same = compare_seed(&job, strtoull(argv[k], NULL, 10));
+    if (!shares(&job) || !same) return 1;
+    if (job.command != NULL) printf("%" PRIu64 " cases, no difference\n", job.total);
+    return 0;
+}

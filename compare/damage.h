@@ -1,0 +1,15 @@
+/* Texts made faulty on purpose, near the limits of what the reader takes. */
+#ifndef DAMAGE_H
+#define DAMAGE_H
+
+#include "generate.h"
+
+void damage_form(struct random *r, struct draft *text);
+void damage_number(struct random *r, struct draft *text);
+void damage_end(struct random *r, struct draft *text);
+void damage_length(struct random *r, struct draft *text);
+
+/* Breaks a type's `initial`, `tran` or use port so that its line gets 4; false where the type has none. */
+bool damage_tables(struct random *r, struct tables *tables);
+
+#endif

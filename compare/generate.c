@@ -1,0 +1,205 @@
+/* Pairs of texts from a seed: a paper aimed at a number, written out, damaged where the aim is a fault of the texts. */
+#include "generate.h"
+
+#include "damage.h"
+#include "ink.h"
+#include "protocol.h"
+
+/* ---- a paper as two texts ---- */
+
+static uint8_t *ink_port(uint8_t *at, const struct port *port)
+{
+    at = ink_word(at, port->use ? "port=use," : "port=provide,");
+    at = ink_byte(ink_list(at, port->places), ',');
+    return ink_byte(ink_list(at, port->transitions), '\n');
+}
+
+static uint8_t *ink_tran(uint8_t *at, const struct type *type, unsigned t)
+{
+    at = ink_byte(ink_number(ink_word(at, "tran="), type->source[t]), ',');
+    return ink_byte(ink_number(at, type->destination[t]), '\n');
+}
+
+static uint8_t *ink_type(uint8_t *at, const struct type *type, unsigned number)
+{
+    at = ink_line(ink_line(at, "type=", number), "places=", type->places);
+    at = ink_byte(ink_list(ink_word(at, "initial="), type->initial), '\n');
+    at = ink_line(at, "transitions=", type->transitions);
+    for (unsigned t = 0; t < type->transitions; t++) at = ink_tran(at, type, t);
+    at = ink_line(at, "behaviors=", type->behaviors);
+    for (unsigned b = 0; b < type->behaviors; b++) at = ink_byte(ink_list(ink_word(at, "behavior="), type->behavior[b]), '\n');
+    at = ink_line(at, "ports=", type->ports);
+    for (unsigned p = 0; p < type->ports; p++) at = ink_port(at, &type->port[p]);
+    return at;
+}
+
+static uint8_t *ink_numbers(uint8_t *at, const uint8_t *numbers, unsigned count)
+{
+    for (unsigned k = 0; k < count; k++) at = ink_number(ink_byte(at, ','), numbers[k]);
+    return ink_byte(at, '\n');
+}
+
+static uint8_t *ink_instruction(uint8_t *at, const struct instruction *i)
+{
+    static const char *const words[INSTRUCTION_VERBS] = { "add", "del", "pushb", "con", "dcon", "wait" };
+    static const unsigned counts[INSTRUCTION_VERBS] = { 2, 1, 2, 4, 4, 1 };
+    const uint8_t numbers[] = { i->id, i->number, i->provider, i->provideport };
+    return ink_numbers(ink_word(ink_word(at, "do="), words[i->verb]), numbers, counts[i->verb]);
+}
+
+static uint8_t *ink_step(uint8_t *at, const struct step *step)
+{
+    static const char *const words[STEP_VERBS] = { "next", "fire", "end", "enter", "finish" };
+    static const unsigned counts[STEP_VERBS] = { 0, 2, 2, 2, 1 };
+    const uint8_t numbers[] = { step->id, step->number };
+    return ink_numbers(ink_word(ink_word(at, "step="), words[step->verb]), numbers, counts[step->verb]);
+}
+
+void write_sheet(const struct paper *paper, struct draft *text)
+{
+    uint8_t *at = ink_line(text->bytes, "sheet=", 1);
+    at = ink_line(ink_line(at, "depth=", paper->tables.depth), "types=", paper->tables.count);
+    for (unsigned k = 0; k < paper->tables.count; k++) at = ink_type(at, &paper->tables.type[k], k);
+    at = ink_line(at, "program=", paper->program.count);
+    for (unsigned k = 0; k < paper->program.count; k++) at = ink_instruction(at, &paper->program.line[k]);
+    text->length = (size_t)(at - text->bytes);
+}
+
+void write_answer(const struct paper *paper, struct draft *text)
+{
+    uint8_t *at = ink_line(ink_line(text->bytes, "answer=", 1), "steps=", paper->steps);
+    for (unsigned k = 0; k < paper->steps; k++) at = ink_step(at, &paper->step[k]);
+    text->length = (size_t)(at - text->bytes);
+}
+
+/* ---- a sheet of an exact length ---- */
+
+/* An instruction whose line has so many bytes, 9 to 20. */
+static struct instruction of_length(struct random *r, unsigned length)
+{
+    struct instruction i;
+    uint8_t line[32];
+    do {
+        i = (struct instruction){ (uint8_t)pick(r, INSTRUCTION_VERBS), (uint8_t)pick(r, INSTANCES), 0, 0, 0 };
+        if (i.verb == CON || i.verb == DCON) {
+            i.number = (uint8_t)pick(r, PORTS);
+            i.provider = (uint8_t)pick(r, INSTANCES);
+            i.provideport = (uint8_t)pick(r, PORTS);
+        }
+    } while ((size_t)(ink_instruction(line, &i) - line) != length);
+    return i;
+}
+
+/* The length of the next line on the way to a sheet that wants so many bytes more. */
+static unsigned line_towards(size_t left)
+{
+    if (left > 40) return 20;
+    if (left > 20) return (unsigned)(left - 9 < 20 ? left - 9 : 20);
+    return left < 9 ? 9 : (unsigned)left;
+}
+
+/* Appends instructions until the sheet has exactly that length, where the program's limit lets it. */
+static void fill_sheet(struct paper *paper, struct draft *text, size_t length)
+{
+    write_sheet(paper, text);
+    size_t now = text->length;
+    while (now < length && paper->program.count < INSTRUCTIONS) {
+        unsigned line = line_towards(length - now);
+        paper->program.line[paper->program.count++] = of_length(&paper->random, line);
+        now += line + (paper->program.count == 10 || paper->program.count == 100);
+    }
+    write_sheet(paper, text);
+}
+
+/* Types appended until the tables come near the longest text, and the program filled up to it or one byte past it. */
+static void fill_to_the_limit(struct paper *paper, struct draft *text)
+{
+    struct tables *tables = &paper->tables;
+    write_sheet(paper, text);
+    while (tables->count < TYPES && text->length < LONGEST_TEXT - 4000) {
+        draw_great_type(&paper->random, &tables->type[tables->count++]);
+        write_sheet(paper, text);
+        if (text->length > LONGEST_TEXT - 1500) tables->count--;
+    }
+    fill_sheet(paper, text, LONGEST_TEXT + pick(&paper->random, 2));
+}
+
+/* ---- pairs ---- */
+
+/* How often each number is aimed at. */
+static const unsigned aims[38] = {
+    [0] = 60, [1] = 20, [2] = 60, [3] = 60, [4] = 25, [5] = 25, [6] = 20,
+    [10] = 20, [11] = 20, [12] = 20, [13] = 25, [14] = 25, [15] = 25, [16] = 25, [17] = 20, [18] = 20,
+    [20] = 25, [21] = 20, [22] = 40, [30] = 20, [31] = 25, [32] = 20, [33] = 25, [34] = 30, [35] = 60, [36] = 60, [37] = 25,
+};
+
+static void write_texts(const struct paper *paper, struct pair *pair)
+{
+    write_sheet(paper, &pair->sheet);
+    write_answer(paper, &pair->answer);
+}
+
+/* A text made too long: the sheet through its own rules, or either of them by bytes appended. */
+static void make_long(struct paper *paper, struct pair *pair)
+{
+    struct random *r = &paper->random;
+    write_texts(paper, pair);
+    if (chance(r, 30)) fill_to_the_limit(paper, &pair->sheet);
+    else if (chance(r, 50)) damage_length(r, &pair->sheet);
+    else damage_length(r, &pair->answer);
+    if (chance(r, 10)) damage_length(r, &pair->answer);
+}
+
+static void make_faulty(struct paper *paper, struct pair *pair, unsigned number)
+{
+    struct random *r = &paper->random;
+    if (number == 4)
+        for (unsigned tries = 0; tries < 8 && !damage_tables(r, &paper->tables); tries++) continue;
+    write_texts(paper, pair);
+    struct draft *text = chance(r, 60) ? &pair->sheet : &pair->answer;
+    if (number == 2) damage_form(r, text);
+    if (number == 3) damage_number(r, text);
+    if (number == 5) damage_end(r, text);
+    if (chance(r, 5)) damage_form(r, chance(r, 50) ? &pair->sheet : &pair->answer);
+    if (chance(r, 5)) damage_number(r, chance(r, 50) ? &pair->sheet : &pair->answer);
+}
+
+static size_t report_length(const struct pair *pair)
+{
+    static uint8_t report[GREATEST_ROOM];
+    struct result result;
+    judge(pair->sheet.bytes, pair->sheet.length, pair->answer.bytes, pair->answer.length, report, sizeof report, &result);
+    return result.length;
+}
+
+/* Mostly the program's own room; else around the report's length, where 6 begins. */
+static size_t draw_room(struct random *r, const struct pair *pair, bool short_room)
+{
+    if (!short_room && chance(r, 80)) return PROGRAM_ROOM;
+    size_t length = report_length(pair);
+    switch (pick(r, 4)) {
+    case 0: return short_room ? (length == 0 ? 0 : length - 1) : length;
+    case 1: return short_room ? pick(r, (unsigned)length) : length + pick(r, (unsigned)(GREATEST_ROOM - length) + 1);
+    case 2: return short_room ? 0 : length + 1;
+    default: return short_room ? pick(r, 60) : chance(r, 50) ? GREATEST_ROOM : length;
+    }
+}
+
+static void cut_to_case(struct draft *text)
+{
+    if (text->length > LONGEST_CASE) text->length = LONGEST_CASE;
+}
+
+void generate_pair(uint64_t seed, uint64_t index, struct pair *pair)
+{
+    static struct paper paper;
+    paper.random = random_of(seed, index);
+    unsigned aim = pick_weighted(&paper.random, aims, 38);
+    draw_paper(&paper, aim >= 10 ? aim : 0);
+    if (aim == 1) make_long(&paper, pair);
+    else if (aim >= 2 && aim <= 5) make_faulty(&paper, pair, aim);
+    else write_texts(&paper, pair);
+    cut_to_case(&pair->sheet);
+    cut_to_case(&pair->answer);
+    pair->room = draw_room(&paper.random, pair, aim == 6);
+}

@@ -1,0 +1,54 @@
+/* Cases from a seed: papers (a sheet with an answer walked on it), pairs of texts, and what is lent to the hall. */
+#ifndef GENERATE_H
+#define GENERATE_H
+
+#include "lent.h"
+#include "random.h"
+
+enum { LONGEST_DRAFT = 80000 };
+
+/* A sheet's tables and program, and the steps taken on them so far. */
+struct paper {
+    struct random random;
+    struct tables tables;
+    struct program program;
+    struct configuration configuration;
+    struct step step[STEPS];
+    unsigned steps;
+    unsigned aim;                     /* the number that the last step shall be refused with, 0 for none */
+    unsigned crowd;                   /* how many instances the walk adds */
+    unsigned verbs[INSTRUCTION_VERBS]; /* weights of the instructions */
+    unsigned moves;                   /* percent of steps that are moves */
+};
+
+struct draft { uint8_t bytes[LONGEST_DRAFT]; size_t length; };
+struct pair { struct draft sheet, answer; size_t room; };
+
+/* A lawful type near the limits. */
+void draw_great_type(struct random *random, struct type *type);
+
+/* Lawful tables at random and a walk of no steps, in a manner that helps towards the aim. */
+void start_paper(struct paper *paper, unsigned aim);
+
+/* Takes a step that is allowed, or one that is refused with that number; false where none was found. An instruction
+   that the step needs is appended to the program, all of whose instructions are done. */
+bool draw_allowed(struct paper *paper);
+bool draw_refused(struct paper *paper, unsigned number);
+
+/* A paper walked to its end, or to a step refused with the aim where one was found. */
+void draw_paper(struct paper *paper, unsigned aim);
+
+/* An instruction and a step within the limits of their lines, lawful or not at their turn. */
+struct instruction draw_instruction(struct paper *paper, unsigned noise);
+struct step draw_step(struct paper *paper);
+
+/* A `con` that could stand; false where none was found. */
+bool draw_connection(struct paper *paper, struct instruction *con);
+
+void write_sheet(const struct paper *paper, struct draft *text);
+void write_answer(const struct paper *paper, struct draft *text);
+
+void generate_pair(uint64_t seed, uint64_t index, struct pair *pair);
+void generate_lent(uint64_t seed, uint64_t index, struct lent *lent);
+
+#endif

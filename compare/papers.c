@@ -1,0 +1,430 @@
+/* Papers at random: lawful tables of every size, and a walk on them that invents its program as it goes. */
+#include <string.h>
+
+#include "generate.h"
+
+/* ---- tables ---- */
+
+enum richness { SMALL, MEDIUM, WIDE, LIMIT, RICHNESSES };
+
+static unsigned draw_size(struct random *r, unsigned least, unsigned most, enum richness richness)
+{
+    unsigned span = most - least;
+    switch (richness) {
+    case SMALL: return least + pick(r, (span < 4 ? span : 4) + 1);
+    case MEDIUM: return least + pick(r, span / 2 + 1);
+    case WIDE: return least + pick(r, span + 1);
+    default: return chance(r, 70) ? most : least + pick(r, span + 1);
+    }
+}
+
+static void add_transition(struct type *type, unsigned source, unsigned destination)
+{
+    if (type->transitions == TRANSITIONS || source == destination) return;
+    type->source[type->transitions] = (uint8_t)source;
+    type->destination[type->transitions++] = (uint8_t)destination;
+}
+
+static void add_behavior(struct type *type, uint32_t transitions)
+{
+    if (type->behaviors < BEHAVIORS) type->behavior[type->behaviors++] = transitions;
+}
+
+/* A ring of places, with behaviors that walk it in two parts: up from the initial place, and down to it again. Where it is
+   crowded, tokens start in several places and one behavior goes all round, so that they meet. */
+static void draw_ring(struct random *r, struct type *type, bool crowded)
+{
+    unsigned turn = crowded ? type->places : pick_from(r, 1, type->places);
+    type->initial = bit(0) | (crowded ? pick_set(r, type->places, 40) : 0);
+    for (unsigned p = 0; p < type->places; p++) add_transition(type, p, (p + 1) % type->places);
+    uint32_t up = below(turn) & below(type->transitions);
+    add_behavior(type, up);
+    add_behavior(type, below(type->transitions) & ~up);
+}
+
+/* Places in layers: all forward transitions are one behavior, those from the last places back to the first another. */
+static void draw_layers(struct random *r, struct type *type)
+{
+    uint32_t left = 0, back = 0;
+    type->initial = bit(0);
+    for (unsigned p = 1; p < type->places; p++) {
+        unsigned from = pick(r, p);
+        left |= bit(from);
+        add_transition(type, from, p);
+        if (p > 1 && chance(r, 25)) add_transition(type, pick(r, p), p);
+    }
+    for (unsigned t = 0; t < type->transitions; t++) left |= bit(type->source[t]);
+    add_behavior(type, below(type->transitions));
+    for (unsigned p = 1; p < type->places; p++)
+        if ((left & bit(p)) == 0 && type->transitions < TRANSITIONS) {
+            back |= bit(type->transitions);
+            add_transition(type, p, 0);
+        }
+    add_behavior(type, back);
+}
+
+static void draw_loose(struct random *r, struct type *type)
+{
+    type->initial = pick_set(r, type->places, chance(r, 50) ? 20 : 60);
+    if (type->initial == 0) type->initial = bit(pick(r, type->places));
+}
+
+/* Whatever the style gave is filled up at random to the counts drawn. */
+static void fill_type(struct random *r, struct type *type, enum richness richness)
+{
+    unsigned transitions = draw_size(r, 0, TRANSITIONS, richness), behaviors = draw_size(r, 0, BEHAVIORS, richness);
+    unsigned dense = pick_from(r, 10, 90);
+    if (type->places > 1)
+        while (type->transitions < transitions) add_transition(type, pick(r, type->places), pick(r, type->places));
+    while (type->behaviors < behaviors) add_behavior(type, pick_set(r, type->transitions, dense));
+}
+
+/* The transitions that lead to one of some places, so that a group is entered by its own transitions. */
+static uint32_t leading_to(const struct type *type, uint32_t places)
+{
+    uint32_t leading = 0;
+    for (unsigned t = 0; t < type->transitions; t++)
+        if ((places & bit(type->destination[t])) != 0) leading |= bit(t);
+    return leading;
+}
+
+static struct port draw_port(struct random *r, const struct type *type)
+{
+    static const unsigned densities[] = { 0, 10, 30, 60, 100 };
+    struct port port = { (uint8_t)chance(r, 50), 0, 0 };
+    port.places = chance(r, 40) ? bit(pick(r, type->places)) : pick_set(r, type->places, densities[pick(r, 5)]);
+    if (port.use || chance(r, 40)) port.places &= ~type->initial;
+    port.transitions = chance(r, 40) ? leading_to(type, port.places) : pick_set(r, type->transitions, densities[pick(r, 4)]);
+    return port;
+}
+
+/* The aims that need ports; 65 connections are to be had only with many. */
+static unsigned fewest_ports(unsigned aim)
+{
+    if (aim == 16) return 10;
+    return (aim >= 13 && aim <= 18) || aim == 22 || (aim >= 34 && aim <= 36) ? 2 : 0;
+}
+
+static void draw_type(struct random *r, struct type *type, enum richness richness, unsigned aim)
+{
+    unsigned style = pick(r, 100);
+    type->places = (uint8_t)draw_size(r, 1, PLACES, richness);
+    if (style < 40) draw_ring(r, type, chance(r, aim == 33 ? 80 : 10));
+    else if (style < 75) draw_layers(r, type);
+    else draw_loose(r, type);
+    fill_type(r, type, richness);
+    type->ports = (uint8_t)draw_size(r, fewest_ports(aim), PORTS, richness);
+    for (unsigned p = 0; p < type->ports; p++) type->port[p] = draw_port(r, type);
+}
+
+void draw_great_type(struct random *r, struct type *type)
+{
+    memset(type, 0, sizeof *type);
+    draw_type(r, type, chance(r, 70) ? LIMIT : WIDE, 16);
+}
+
+static void draw_tables(struct paper *paper)
+{
+    static const unsigned weights[RICHNESSES] = { 58, 30, 9, 3 };
+    struct random *r = &paper->random;
+    enum richness richness = (enum richness)pick_weighted(r, weights, RICHNESSES);
+    memset(&paper->tables, 0, sizeof paper->tables);
+    paper->tables.depth = (uint8_t)pick(r, DEPTH + 1);
+    paper->tables.count = (uint8_t)(richness == MEDIUM ? pick_from(r, 1, 4) : draw_size(r, 1, TYPES, richness));
+    for (unsigned k = 0; k < paper->tables.count; k++) {
+        enum richness own = richness > SMALL && chance(r, 60) ? richness - 1 : richness;
+        draw_type(r, &paper->tables.type[k], own, paper->aim);
+    }
+}
+
+/* ---- instructions ---- */
+
+static const struct type *type_at(const struct paper *paper, unsigned id)
+{
+    return &paper->tables.type[paper->configuration.instance[id].kind];
+}
+
+static unsigned draw_id(struct paper *paper, bool present)
+{
+    unsigned first = pick(&paper->random, INSTANCES);
+    for (unsigned k = 0; k < INSTANCES; k++) {
+        unsigned id = (first + k) % INSTANCES;
+        if ((paper->configuration.instance[id].present != 0) == present) return id;
+    }
+    return first;
+}
+
+/* A port of that kind at a present instance, not yet connected where it is a use port. */
+static bool draw_end(struct paper *paper, enum port_kind kind, uint8_t *id, uint8_t *port)
+{
+    for (unsigned tries = 0; tries < 12; tries++) {
+        *id = (uint8_t)draw_id(paper, true);
+        const struct type *type = type_at(paper, *id);
+        *port = (uint8_t)pick(&paper->random, type->ports);
+        if (has_port(type, *port, kind) && (kind == PROVIDE || !connection_of(&paper->configuration, *id, *port))) return true;
+    }
+    return false;
+}
+
+bool draw_connection(struct paper *paper, struct instruction *con)
+{
+    con->verb = CON;
+    return draw_end(paper, USE, &con->id, &con->number) && draw_end(paper, PROVIDE, &con->provider, &con->provideport)
+        && con->id != con->provider;
+}
+
+static struct instruction of_connection(struct paper *paper, unsigned verb)
+{
+    const struct connection *n = &paper->configuration.connection[pick(&paper->random, paper->configuration.count)];
+    return (struct instruction){ (uint8_t)verb, n->user, n->useport, n->provider, n->provideport };
+}
+
+/* Fields that the verb's line does not say stay 0, as the reader leaves them. */
+static struct instruction draw_of_verb(struct paper *paper, unsigned verb)
+{
+    struct random *r = &paper->random;
+    struct instruction i = { (uint8_t)verb, 0, 0, 0, 0 };
+    switch (verb) {
+    case ADD: i.id = (uint8_t)draw_id(paper, false); i.number = (uint8_t)pick(r, paper->tables.count); break;
+    case PUSHB: i.id = (uint8_t)draw_id(paper, true); i.number = (uint8_t)pick(r, type_at(paper, i.id)->behaviors); break;
+    case CON: draw_connection(paper, &i); break;
+    case DCON: i = of_connection(paper, DCON); break;
+    default: i.id = (uint8_t)draw_id(paper, true); break;
+    }
+    return i;
+}
+
+/* One field is set to any number within its limit. */
+static void disturb(struct paper *paper, struct instruction *i)
+{
+    struct random *r = &paper->random;
+    bool four = i->verb == CON || i->verb == DCON;
+    switch (pick(r, four ? 4 : i->verb == ADD || i->verb == PUSHB ? 2 : 1)) {
+    case 0: i->id = (uint8_t)pick(r, INSTANCES); break;
+    case 1: i->number = (uint8_t)pick(r, four ? PORTS : i->verb == ADD ? paper->tables.count : BEHAVIORS); break;
+    case 2: i->provider = (uint8_t)pick(r, INSTANCES); break;
+    default: i->provideport = (uint8_t)pick(r, PORTS); break;
+    }
+}
+
+struct instruction draw_instruction(struct paper *paper, unsigned noise)
+{
+    struct instruction i = draw_of_verb(paper, pick_weighted(&paper->random, paper->verbs, INSTRUCTION_VERBS));
+    if (chance(&paper->random, noise)) disturb(paper, &i);
+    return i;
+}
+
+static unsigned present_count(const struct paper *paper)
+{
+    unsigned count = 0;
+    for (unsigned id = 0; id < INSTANCES; id++) count += paper->configuration.instance[id].present;
+    return count;
+}
+
+/* ---- steps ---- */
+
+static void take(struct paper *paper, struct step step)
+{
+    take_step(&paper->tables, &paper->program, &paper->configuration, &step);
+    paper->step[paper->steps++] = step;
+}
+
+static void append_instruction(struct paper *paper, const struct instruction *i)
+{
+    if (paper->program.count < INSTRUCTIONS) paper->program.line[paper->program.count++] = *i;
+}
+
+/* Draws instructions until one gets the number wanted; it becomes the next of the program. */
+static bool draw_next(struct paper *paper, unsigned number, struct instruction (*source)(struct paper *, unsigned), unsigned tries)
+{
+    if (paper->program.count == INSTRUCTIONS) return false;
+    while (tries-- > 0) {
+        struct instruction i = source(paper, number);
+        if (instruction_number(&paper->tables, &paper->configuration, &i) != number) continue;
+        append_instruction(paper, &i);
+        take(paper, (struct step){ NEXT, 0, 0 });
+        return true;
+    }
+    return false;
+}
+
+static struct instruction lawful_source(struct paper *paper, unsigned number)
+{
+    (void)number;
+    bool full = present_count(paper) >= paper->crowd;
+    struct instruction i = draw_instruction(paper, 0);
+    while (full && i.verb == ADD) i = draw_instruction(paper, 0);
+    return i;
+}
+
+/* `con` at one instance only, or of a use port that is connected. */
+static struct instruction con_source(struct paper *paper, unsigned number)
+{
+    struct instruction i = draw_of_verb(paper, CON);
+    if (number == 14) i.provider = i.id, i.provideport = (uint8_t)pick(&paper->random, type_at(paper, i.id)->ports);
+    if (number == 15) {
+        struct instruction old = of_connection(paper, CON);
+        i.id = old.id, i.number = old.number;
+        if (chance(&paper->random, 20)) i = old;
+    }
+    return i;
+}
+
+/* An instruction of a verb that can get the number, bent towards it. */
+static struct instruction aimed_source(struct paper *paper, unsigned number)
+{
+    static const uint8_t for_absent[] = { DEL, PUSHB, CON, WAIT };
+    struct random *r = &paper->random;
+    struct instruction i;
+    switch (number) {
+    case 11: i = draw_of_verb(paper, for_absent[pick(r, 4)]); disturb(paper, &i); return i;
+    case 12: i = draw_of_verb(paper, ADD); i.id = (uint8_t)draw_id(paper, true); return i;
+    case 13: i = draw_of_verb(paper, chance(r, 50) ? PUSHB : CON); disturb(paper, &i); return i;
+    case 14: case 15: case 16: return con_source(paper, number);
+    case 17: i = draw_of_verb(paper, DCON); disturb(paper, &i); return i;
+    case 18: i = of_connection(paper, DEL); if (chance(r, 50)) i.id = i.provider; break;
+    case 20: i = draw_of_verb(paper, PUSHB); return i;
+    case 21: i = draw_of_verb(paper, chance(r, 50) ? DEL : WAIT); return i;
+    default: return draw_of_verb(paper, DCON);
+    }
+    return (struct instruction){ i.verb, i.id, 0, 0, 0 };
+}
+
+/* Keeps each of the steps seen that get the number with the same chance. */
+static void consider(struct paper *paper, struct step step, unsigned number, unsigned *seen, struct step *found)
+{
+    if (step_number(&paper->tables, &paper->program, &paper->configuration, &step) != number) return;
+    if (pick(&paper->random, ++*seen) == 0) *found = step;
+}
+
+/* A move of one instance that gets the number wanted; numbers outside the type are tried for a refusal only. */
+static bool draw_move_of(struct paper *paper, unsigned id, unsigned number)
+{
+    const struct type *type = type_at(paper, id);
+    unsigned places = number == 0 ? type->places : PLACES, transitions = number == 0 ? type->transitions : TRANSITIONS;
+    unsigned seen = 0;
+    struct step found = { 0, 0, 0 };
+    for (unsigned p = 0; p < places; p++) {
+        consider(paper, (struct step){ FIRE, (uint8_t)id, (uint8_t)p }, number, &seen, &found);
+        consider(paper, (struct step){ ENTER, (uint8_t)id, (uint8_t)p }, number, &seen, &found);
+    }
+    if (number <= 31)
+        for (unsigned t = 0; t < transitions; t++)
+            consider(paper, (struct step){ END, (uint8_t)id, (uint8_t)t }, number, &seen, &found);
+    consider(paper, (struct step){ FINISH, (uint8_t)id, 0 }, number, &seen, &found);
+    if (seen > 0) take(paper, found);
+    return seen > 0;
+}
+
+/* Who moves: for 34 and 35 mostly the user of a connection, for 36 its provider, for 11 nobody. */
+static unsigned draw_mover(struct paper *paper, unsigned number)
+{
+    const struct configuration *c = &paper->configuration;
+    const struct connection *n = &c->connection[pick(&paper->random, c->count)];
+    if (c->count == 0 || number < 34 || number > 36 || chance(&paper->random, 20)) return draw_id(paper, number != 11);
+    return number == 36 ? n->provider : n->user;
+}
+
+static bool draw_move(struct paper *paper, unsigned number, unsigned tries)
+{
+    while (tries-- > 0) {
+        unsigned id = draw_mover(paper, number);
+        bool idle = paper->configuration.instance[id].queued == 0;
+        if (number != 11 && idle != (number == 30)) continue;
+        if (draw_move_of(paper, id, number)) return true;
+    }
+    return false;
+}
+
+bool draw_refused(struct paper *paper, unsigned number)
+{
+    if (number == 10) {
+        take(paper, (struct step){ NEXT, 0, 0 });
+        return true;
+    }
+    if (number >= 30 || (number == 11 && chance(&paper->random, 50))) return draw_move(paper, number, 4);
+    return draw_next(paper, number, aimed_source, 8);
+}
+
+bool draw_allowed(struct paper *paper)
+{
+    bool move_first = chance(&paper->random, paper->moves);
+    if (move_first && draw_move(paper, 0, 4)) return true;
+    if (draw_next(paper, 0, lawful_source, 12)) return true;
+    return !move_first && draw_move(paper, 0, 8);
+}
+
+struct step draw_step(struct paper *paper)
+{
+    struct random *r = &paper->random;
+    static const uint8_t greatest[STEP_VERBS] = { 1, PLACES, TRANSITIONS, PLACES, 1 };
+    uint8_t verb = (uint8_t)pick(r, STEP_VERBS);
+    return (struct step){ verb, verb == NEXT ? 0 : (uint8_t)pick(r, INSTANCES), (uint8_t)pick(r, greatest[verb]) };
+}
+
+/* ---- the walk ---- */
+
+/* The manner of a walk: how many instances, which instructions, how many moves; bent towards the aim. */
+static void draw_manner(struct paper *paper)
+{
+    struct random *r = &paper->random;
+    static const unsigned crowds[] = { 2, 3, 4, 6, 10, 20, 32 };
+    unsigned weights[INSTRUCTION_VERBS] = { 20, 1, 20, 40, 2, 4 };
+    paper->crowd = crowds[pick(r, 7)];
+    paper->moves = pick_from(r, 20, 80);
+    if (chance(r, 30)) weights[DEL] = weights[DCON] = 20;
+    if (paper->aim == 20 || paper->aim == 21) weights[PUSHB] = 80, paper->moves = 20, paper->crowd = pick_from(r, 1, 4);
+    if (paper->aim == 16) weights[CON] = 400, weights[PUSHB] = 1, paper->moves = 2, paper->crowd = pick_from(r, 12, 32);
+    if (paper->aim >= 31) weights[PUSHB] = 40, paper->moves = pick_from(r, 50, 85), paper->crowd = crowds[pick(r, 5)];
+    memcpy(paper->verbs, weights, sizeof weights);
+}
+
+static unsigned draw_length(struct random *r)
+{
+    unsigned kind = pick(r, 100);
+    if (kind < 3) return STEPS;
+    if (kind < 10) return pick(r, STEPS);
+    return kind < 15 ? pick(r, 10) : pick_from(r, 20, 160);
+}
+
+/* What follows the walk is never judged, or not before a refusal; it is read all the same. */
+static void append_rest(struct paper *paper)
+{
+    struct random *r = &paper->random;
+    if (paper->aim == 0) return;
+    for (unsigned k = pick(r, 5); k > 0 && paper->steps < STEPS; k--) paper->step[paper->steps++] = draw_step(paper);
+}
+
+static void append_program(struct paper *paper)
+{
+    struct random *r = &paper->random;
+    unsigned count = chance(r, 3) ? INSTRUCTIONS : chance(r, 50) ? pick(r, 8) : 0;
+    if (paper->aim == 10) return;
+    for (unsigned k = 0; k < count; k++) {
+        struct instruction i = draw_instruction(paper, 20);
+        append_instruction(paper, &i);
+    }
+}
+
+void start_paper(struct paper *paper, unsigned aim)
+{
+    paper->aim = aim;
+    paper->steps = 0;
+    memset(&paper->program, 0, sizeof paper->program);
+    memset(&paper->configuration, 0, sizeof paper->configuration);
+    draw_tables(paper);
+    draw_manner(paper);
+}
+
+void draw_paper(struct paper *paper, unsigned aim)
+{
+    start_paper(paper, aim);
+    unsigned length = draw_length(&paper->random), ready = pick(&paper->random, 40), idle = 0;
+    if (aim != 0 && length < 200) length = 200;
+    while (paper->steps < length && idle < 6) {
+        if (aim != 0 && paper->steps >= ready && draw_refused(paper, aim)) break;
+        idle = draw_allowed(paper) ? 0 : idle + 1;
+    }
+    append_rest(paper);
+    append_program(paper);
+}
