@@ -29,14 +29,16 @@ static void set_byte(struct draft *text, size_t at, uint8_t byte)
     if (at < text->length) text->bytes[at] = byte;
 }
 
-/* The line that a random byte lies in, without its LF. */
-static struct span draw_line(struct random *r, const struct draft *text)
+/* The line that a byte lies in, without its LF. */
+static struct span line_at(const struct draft *text, size_t at)
 {
-    size_t start = pick(r, (unsigned)text->length), end = start;
+    size_t start = at, end = at;
     while (start > 0 && text->bytes[start - 1] != '\n') start--;
     while (end < text->length && text->bytes[end] != '\n') end++;
     return (struct span){ start, end - start };
 }
+
+static struct span draw_line(struct random *r, const struct draft *text) { return line_at(text, pick(r, (unsigned)text->length)); }
 
 static bool is_digit(uint8_t byte) { return byte >= '0' && byte <= '9'; }
 
@@ -55,7 +57,9 @@ static struct span draw_number_in(struct random *r, const struct draft *text, st
 
 static struct span draw_number(struct random *r, const struct draft *text)
 {
-    return draw_number_in(r, text, draw_line(r, text));
+    struct span found = { 0, 0 };
+    for (unsigned tries = 0; tries < 5 && found.length == 0; tries++) found = draw_number_in(r, text, draw_line(r, text));
+    return found;
 }
 
 /* ---- faults of form ---- */
@@ -148,12 +152,21 @@ static void no_number(struct random *r, struct draft *text)
     splice(text, draw_number(r, text), word, strlen(word));
 }
 
-/* A number followed by itself, by a smaller or by a greater one: a list where none is due, or one that need not ascend. */
+static unsigned value_of(const struct draft *text, struct span number)
+{
+    unsigned value = 0;
+    for (size_t k = 0; k < number.length && k < 6; k++) value = value * 10 + (unsigned)(text->bytes[number.start + k] - '0');
+    return value;
+}
+
+/* A number followed by itself, by a neighbour or by any other: a list where none is due, or one that need not ascend. */
 static void longer_list(struct random *r, struct draft *text)
 {
-    uint8_t member[8];
+    uint8_t member[16];
     struct span number = draw_number(r, text);
-    uint8_t *end = ink_number(ink_byte(member, '+'), pick(r, 34));
+    unsigned value = value_of(text, number);
+    unsigned next = chance(r, 40) ? value : chance(r, 40) ? value - (value > 0) : chance(r, 50) ? value + 1 : pick(r, 34);
+    uint8_t *end = ink_number(ink_byte(member, '+'), next);
     splice(text, (struct span){ number.start + number.length, 0 }, member, (size_t)(end - member));
 }
 
@@ -204,21 +217,76 @@ void damage_form(struct random *r, struct draft *text)
 {
     static fault *const faults[] = { cut_anywhere, cut_before_line, cut_last_byte, join_lines, return_before_end, end_by_return,
                                      move_line, move_line, any_byte, flip_bit, flip_bit, near_byte, near_byte, insert_byte, insert_byte,
-                                     drop_byte, drop_byte, leading_zero, many_digits, no_number, longer_list, longer_list, other_field, blank,
+                                     drop_byte, drop_byte, leading_zero, leading_zero, many_digits, many_digits, no_number, longer_list, longer_list, other_field, blank,
                                      upper_case, other_word, other_word, nothing_left };
     faults[pick(r, sizeof faults / sizeof faults[0])](r, text);
 }
 
 /* ---- numbers at and past the limits ---- */
 
-void damage_number(struct random *r, struct draft *text)
+/* The start of a line, and numbers at its limits or just past them. */
+struct edge { const char *key; unsigned count; unsigned numbers[6]; };
+
+static const struct edge edges[] = {
+    { "depth=", 3, { 8, 9, 10 } }, { "types=", 3, { 0, 16, 17 } }, { "type=", 3, { 0, 1, 16 } }, { "places=", 3, { 0, 16, 17 } },
+    { "initial=", 4, { 0, 15, 16, 32 } }, { "transitions=", 3, { 0, 32, 33 } }, { "tran=", 5, { 0, 1, 2, 15, 16 } },
+    { "behaviors=", 3, { 0, 8, 9 } }, { "behavior=", 5, { 0, 1, 2, 31, 32 } }, { "ports=", 3, { 0, 16, 17 } },
+    { "port=", 6, { 0, 1, 15, 16, 31, 32 } }, { "program=", 3, { 0, 256, 257 } }, { "do=add", 6, { 0, 1, 2, 16, 31, 32 } },
+    { "do=del", 3, { 0, 31, 32 } }, { "do=pushb", 3, { 8, 31, 32 } }, { "do=con", 2, { 16, 32 } }, { "do=con", 2, { 16, 32 } },
+    { "do=dcon", 2, { 16, 32 } }, { "do=dcon", 2, { 16, 32 } }, { "do=wait", 3, { 0, 31, 32 } }, { "steps=", 4, { 0, 1, 1024, 1025 } },
+    { "step=fire", 3, { 16, 31, 32 } }, { "step=end", 3, { 16, 31, 32 } }, { "step=enter", 3, { 16, 31, 32 } },
+    { "step=finish", 3, { 0, 31, 32 } }, { "sheet=", 2, { 0, 2 } }, { "answer=", 2, { 0, 2 } },
+};
+enum { EDGES = sizeof edges / sizeof edges[0] };
+
+/* A random line that starts with the key; empty at the text's end where there is none. */
+static struct span draw_line_of(struct random *r, const struct draft *text, const char *key)
+{
+    struct span found = { text->length, 0 };
+    size_t length = strlen(key), end;
+    unsigned seen = 0;
+    for (size_t start = 0; start < text->length; start = end + 1) {
+        for (end = start; end < text->length && text->bytes[end] != '\n'; end++) continue;
+        if (end - start < length || memcmp(text->bytes + start, key, length) != 0) continue;
+        if (pick(r, ++seen) == 0) found = (struct span){ start, end - start };
+    }
+    return found;
+}
+
+static void replace_number(struct draft *text, struct span old, unsigned number)
+{
+    uint8_t digits[16];
+    uint8_t *end = ink_number(digits, number);
+    splice(text, old, digits, (size_t)(end - digits));
+}
+
+static void any_number(struct random *r, struct draft *text)
 {
     static const unsigned limits[] = { 0, 1, 4, 7, 8, 9, 15, 16, 17, 31, 32, 33, 64, 255, 256, 257, 1023, 1024, 1025, 9999, 32768, 65535, 99999 };
-    uint8_t digits[16];
-    struct span number = draw_number(r, text);
-    uint8_t *end = ink_number(digits, limits[pick(r, sizeof limits / sizeof limits[0])]);
-    splice(text, number, digits, (size_t)(end - digits));
-    if (chance(r, 10)) damage_number(r, text);
+    replace_number(text, draw_number(r, text), limits[pick(r, sizeof limits / sizeof limits[0])]);
+}
+
+/* A line of a random key gets a number of its edge, and sometimes a fault of form behind it. */
+static void edge_number(struct random *r, struct draft *text)
+{
+    static const char *const words[] = { "x", ",0", " ", "\r", "+", ",", "+0" };
+    for (unsigned tries = 0; tries < 10; tries++) {
+        const struct edge *edge = &edges[pick(r, EDGES)];
+        struct span line = draw_line_of(r, text, edge->key);
+        if (line.length == 0) continue;
+        replace_number(text, draw_number_in(r, text, line), edge->numbers[pick(r, edge->count)]);
+        line = line_at(text, line.start);
+        if (chance(r, 8)) insert(text, line.start + line.length, words[pick(r, 7)]);
+        else if (chance(r, 4)) text->length = line.start + line.length;
+        return;
+    }
+}
+
+void damage_number(struct random *r, struct draft *text)
+{
+    if (chance(r, 75)) edge_number(r, text);
+    else any_number(r, text);
+    if (chance(r, 8)) damage_number(r, text);
 }
 
 /* ---- bytes after the last line due ---- */
@@ -244,13 +312,17 @@ void damage_length(struct random *r, struct draft *text)
 
 /* ---- tables whose lines break a rule of the sheet: 4 ---- */
 
+/* Both ends one place, of the type or past it: 3 comes before 4. */
 static bool close_transition(struct random *r, struct type *type)
 {
     unsigned t = pick(r, type->transitions);
-    if (type->transitions > 0) type->destination[t] = type->source[t];
-    return type->transitions > 0;
+    if (type->transitions == 0) return false;
+    if (chance(r, 20)) type->source[t] = (uint8_t)(type->places + pick(r, 3));
+    type->destination[t] = type->source[t];
+    return true;
 }
 
+/* A use port with an initial place, and sometimes with a number past the type too. */
 static bool start_in_use(struct random *r, struct type *type)
 {
     unsigned first = pick(r, type->ports);
@@ -258,6 +330,7 @@ static bool start_in_use(struct random *r, struct type *type)
         struct port *port = &type->port[(first + k) % type->ports];
         if (!port->use) continue;
         port->places |= type->initial;
+        if (chance(r, 10)) port->transitions |= bit(31);
         return true;
     }
     return false;

@@ -17,7 +17,7 @@ static void scramble_instance(struct paper *paper, struct instance *i)
     const struct type *type = &paper->tables.type[i->kind];
     i->marked = pick_set(r, type->places, dense);
     i->running = pick_set(r, type->transitions, chance(r, 50) ? 0 : dense / 2);
-    i->ended = pick_set(r, type->transitions, chance(r, 50) ? 0 : dense / 2);
+    i->ended = pick_set(r, type->transitions, chance(r, 40) ? 0 : chance(r, 50) ? 95 : dense / 2);
     i->queued = (uint8_t)(type->behaviors == 0 ? 0 : pick(r, effective_depth(&paper->tables) + 1));
     for (unsigned k = 0; k < i->queued; k++) i->queue[k] = (uint8_t)pick(r, type->behaviors);
 }
@@ -33,7 +33,8 @@ static void scramble(struct paper *paper)
         memset(&c->instance[id], 0, sizeof c->instance[id]);
         if (id < paper->crowd || chance(r, 10)) scramble_instance(paper, &c->instance[id]);
     }
-    for (unsigned tries = paper->aim == 16 ? 600 : pick(r, 100); tries > 0 && c->count < CONNECTIONS; tries--)
+    unsigned most = paper->full ? CONNECTIONS : CONNECTIONS - 1;
+    for (unsigned tries = paper->full || chance(r, 5) ? 600 : pick(r, 100); tries > 0 && c->count < most; tries--)
         if (draw_connection(paper, &con))
             c->connection[c->count++] = (struct connection){ con.id, con.number, con.provider, con.provideport };
 }
@@ -131,9 +132,13 @@ static struct type *any_type(struct random *r, struct lent *lent) { return &lent
 
 static bool break_depth(struct random *r, struct lent *lent) { lent->tables.depth = past(r, DEPTH + 1); return true; }
 
+/* Too many types, or none; without a type only the empty configuration and program break no other clause. */
 static bool break_count(struct random *r, struct lent *lent)
 {
-    lent->tables.count = chance(r, 30) ? 0 : past(r, TYPES + 1);
+    lent->tables.count = chance(r, 50) ? 0 : past(r, TYPES + 1);
+    if (lent->tables.count > 0) return true;
+    lent->program.count = lent->configuration.done = lent->configuration.count = 0;
+    for (unsigned id = 0; id < INSTANCES; id++) lent->configuration.instance[id].present = 0;
     return true;
 }
 
@@ -226,9 +231,26 @@ static bool break_step(struct random *r, struct lent *lent)
     }
 }
 
+/* A present instance, or an absent one where there is none. */
+static struct instance *any_instance(struct random *r, struct configuration *c)
+{
+    unsigned id = pick(r, INSTANCES);
+    for (unsigned k = 0; k < INSTANCES && !c->instance[id].present; k++) id = (id + 1) % INSTANCES;
+    return &c->instance[id];
+}
+
+/* One more than the depth, with behaviors that the type has. */
+static bool overfill_queue(struct random *r, const struct lent *lent, struct instance *i)
+{
+    unsigned depth = effective_depth(&lent->tables);
+    i->queued = chance(r, 70) ? (uint8_t)(depth + 1) : past(r, depth + 1);
+    for (unsigned k = 0; k < DEPTH; k++) i->queue[k] = (uint8_t)pick(r, lent->tables.type[i->kind].behaviors);
+    return true;
+}
+
 static bool break_instance(struct random *r, struct lent *lent)
 {
-    struct instance *i = &lent->configuration.instance[pick(r, INSTANCES)];
+    struct instance *i = any_instance(r, &lent->configuration);
     const struct type *type = &lent->tables.type[i->kind % TYPES];
     if (!i->present) return false;
     switch (pick(r, 6)) {
@@ -236,18 +258,18 @@ static bool break_instance(struct random *r, struct lent *lent)
     case 1: return overfill(r, &i->marked, type->places);
     case 2: return overfill(r, &i->running, type->transitions);
     case 3: return overfill(r, &i->ended, type->transitions);
-    case 4: i->queued = past(r, effective_depth(&lent->tables) + 1); return true;
+    case 4: return overfill_queue(r, lent, i);
     default: i->queue[pick(r, i->queued)] = past(r, type->behaviors); return i->queued > 0;
     }
 }
 
-/* An end that is absent, or a port that its type has not or has of the other kind. */
-static bool break_end(struct random *r, const struct lent *lent, uint8_t *id, uint8_t *port)
+/* An end that is absent, its record as it was, or a port that its type has not or has of the other kind. */
+static bool break_end(struct random *r, struct lent *lent, uint8_t *id, uint8_t *port)
 {
-    const struct instance *i = &lent->configuration.instance[*id];
+    struct instance *i = &lent->configuration.instance[*id];
     switch (pick(r, 4)) {
     case 0: *id = past(r, INSTANCES); return true;
-    case 1: *id = (uint8_t)pick(r, INSTANCES); return !lent->configuration.instance[*id].present;
+    case 1: i->present = 0; return true;
     case 2: *port = past(r, lent->tables.type[i->kind].ports); return true;
     default: *port = (uint8_t)pick(r, lent->tables.type[i->kind].ports); return true;
     }
@@ -312,10 +334,11 @@ static void draw_last(struct paper *paper, struct lent *lent, bool walk)
     lent->step = found ? paper->step[paper->steps - 1] : draw_step(paper);
 }
 
-/* A walk of some steps; a configuration of 64 connections is better drawn at once. */
+/* The empty start, a walk of some steps, or a configuration drawn at once. */
 static void draw_state(struct paper *paper, unsigned aim, bool walk)
 {
     start_paper(paper, aim);
+    if (chance(&paper->random, 4)) return;
     for (unsigned steps = pick(&paper->random, 80); steps > 0; steps--) draw_allowed(paper);
     if (!walk) scramble(paper);
 }
@@ -323,7 +346,7 @@ static void draw_state(struct paper *paper, unsigned aim, bool walk)
 /* Instructions that are never come to, except where the step is to find none left. */
 static void append_rest(struct paper *paper)
 {
-    if (paper->aim == 10) return;
+    if (paper->aim == 10 || chance(&paper->random, 20)) return;
     for (unsigned k = pick(&paper->random, 6); k > 0 && paper->program.count < INSTRUCTIONS; k--)
         paper->program.line[paper->program.count++] = draw_instruction(paper, 20);
 }
@@ -333,7 +356,7 @@ void generate_lent(uint64_t seed, uint64_t index, struct lent *lent)
     static struct paper paper;
     paper.random = random_of(seed, index);
     unsigned aim = pick_weighted(&paper.random, aims, 38);
-    bool walk = aim != 16 && chance(&paper.random, 50);
+    bool walk = aim != 15 && aim != 16 && chance(&paper.random, 50);
     draw_state(&paper, aim, walk);
     draw_last(&paper, lent, walk);
     append_rest(&paper);

@@ -51,7 +51,7 @@ static void draw_layers(struct random *r, struct type *type)
         unsigned from = pick(r, p);
         left |= bit(from);
         add_transition(type, from, p);
-        if (p > 1 && chance(r, 25)) add_transition(type, pick(r, p), p);
+        if (p > 1 && chance(r, 40)) add_transition(type, pick(r, p), p);
     }
     for (unsigned t = 0; t < type->transitions; t++) left |= bit(type->source[t]);
     add_behavior(type, below(type->transitions));
@@ -98,11 +98,28 @@ static struct port draw_port(struct random *r, const struct type *type)
     return port;
 }
 
+/* The same group once more, so that ports of one instance turn active and inactive together. */
+static struct port twin_port(struct random *r, const struct type *type, const struct port *other)
+{
+    struct port port = *other;
+    port.use = (uint8_t)chance(r, 50);
+    if (port.use) port.places &= ~type->initial;
+    return port;
+}
+
 /* The aims that need ports; 65 connections are to be had only with many. */
 static unsigned fewest_ports(unsigned aim)
 {
     if (aim == 16) return 10;
     return (aim >= 13 && aim <= 18) || aim == 22 || (aim >= 34 && aim <= 36) ? 2 : 0;
+}
+
+static void draw_ports(struct random *r, struct type *type, unsigned count)
+{
+    for (type->ports = 0; type->ports < count; type->ports++) {
+        struct port *port = &type->port[type->ports];
+        *port = type->ports > 0 && chance(r, 30) ? twin_port(r, type, &port[-1]) : draw_port(r, type);
+    }
 }
 
 static void draw_type(struct random *r, struct type *type, enum richness richness, unsigned aim)
@@ -113,8 +130,7 @@ static void draw_type(struct random *r, struct type *type, enum richness richnes
     else if (style < 75) draw_layers(r, type);
     else draw_loose(r, type);
     fill_type(r, type, richness);
-    type->ports = (uint8_t)draw_size(r, fewest_ports(aim), PORTS, richness);
-    for (unsigned p = 0; p < type->ports; p++) type->port[p] = draw_port(r, type);
+    draw_ports(r, type, draw_size(r, fewest_ports(aim), PORTS, richness));
 }
 
 void draw_great_type(struct random *r, struct type *type)
@@ -133,7 +149,7 @@ static void draw_tables(struct paper *paper)
     paper->tables.count = (uint8_t)(richness == MEDIUM ? pick_from(r, 1, 4) : draw_size(r, 1, TYPES, richness));
     for (unsigned k = 0; k < paper->tables.count; k++) {
         enum richness own = richness > SMALL && chance(r, 60) ? richness - 1 : richness;
-        draw_type(r, &paper->tables.type[k], own, paper->aim);
+        draw_type(r, &paper->tables.type[k], own, paper->full ? 16 : paper->aim);
     }
 }
 
@@ -290,28 +306,43 @@ static struct instruction aimed_source(struct paper *paper, unsigned number)
     return (struct instruction){ i.verb, i.id, 0, 0, 0 };
 }
 
-/* Keeps each of the steps seen that get the number with the same chance. */
+/* Whether a place is being come to: some transition of the current behavior that leads to it has ended. */
+static bool halfway(const struct paper *paper, struct step step)
+{
+    const struct instance *i = &paper->configuration.instance[step.id];
+    const struct type *type = type_at(paper, step.id);
+    for (unsigned t = 0; step.verb == ENTER && i->queued > 0 && t < type->transitions; t++)
+        if ((i->ended & type->behavior[i->queue[0]] & bit(t)) != 0 && type->destination[t] == step.number) return true;
+    return false;
+}
+
+/* Keeps each of the steps seen that get the number with the same chance, those halfway with ten times the chance. */
 static void consider(struct paper *paper, struct step step, unsigned number, unsigned *seen, struct step *found)
 {
     if (step_number(&paper->tables, &paper->program, &paper->configuration, &step) != number) return;
-    if (pick(&paper->random, ++*seen) == 0) *found = step;
+    unsigned weight = halfway(paper, step) ? 10 : 1;
+    *seen += weight;
+    if (pick(&paper->random, *seen) < weight) *found = step;
 }
 
-/* A move of one instance that gets the number wanted; numbers outside the type are tried for a refusal only. */
-static bool draw_move_of(struct paper *paper, unsigned id, unsigned number)
+/* The moves of one instance by one verb; numbers outside the type are tried for a refusal only. */
+static void consider_verb(struct paper *paper, unsigned id, unsigned verb, unsigned number, unsigned *seen, struct step *found)
 {
     const struct type *type = type_at(paper, id);
     unsigned places = number == 0 ? type->places : PLACES, transitions = number == 0 ? type->transitions : TRANSITIONS;
+    unsigned count = verb == FINISH ? 1 : verb == END ? transitions : places;
+    for (unsigned k = 0; k < count; k++)
+        consider(paper, (struct step){ (uint8_t)verb, (uint8_t)id, (uint8_t)k }, number, seen, found);
+}
+
+/* A move of one instance that gets the number wanted: for a refusal by a verb drawn first, so that each has its turn. */
+static bool draw_move_of(struct paper *paper, unsigned id, unsigned number)
+{
     unsigned seen = 0;
     struct step found = { 0, 0, 0 };
-    for (unsigned p = 0; p < places; p++) {
-        consider(paper, (struct step){ FIRE, (uint8_t)id, (uint8_t)p }, number, &seen, &found);
-        consider(paper, (struct step){ ENTER, (uint8_t)id, (uint8_t)p }, number, &seen, &found);
-    }
-    if (number <= 31)
-        for (unsigned t = 0; t < transitions; t++)
-            consider(paper, (struct step){ END, (uint8_t)id, (uint8_t)t }, number, &seen, &found);
-    consider(paper, (struct step){ FINISH, (uint8_t)id, 0 }, number, &seen, &found);
+    if (number != 0) consider_verb(paper, id, pick_from(&paper->random, FIRE, FINISH), number, &seen, &found);
+    for (unsigned verb = FIRE; verb <= FINISH && (number == 0 || seen == 0); verb++)
+        consider_verb(paper, id, verb, number, &seen, &found);
     if (seen > 0) take(paper, found);
     return seen > 0;
 }
@@ -374,7 +405,7 @@ static void draw_manner(struct paper *paper)
     paper->moves = pick_from(r, 20, 80);
     if (chance(r, 30)) weights[DEL] = weights[DCON] = 20;
     if (paper->aim == 20 || paper->aim == 21) weights[PUSHB] = 80, paper->moves = 20, paper->crowd = pick_from(r, 1, 4);
-    if (paper->aim == 16) weights[CON] = 400, weights[PUSHB] = 1, paper->moves = 2, paper->crowd = pick_from(r, 12, 32);
+    if (paper->full) weights[CON] = 400, weights[PUSHB] = 1, paper->moves = 2, paper->crowd = pick_from(r, 12, 32);
     if (paper->aim >= 31) weights[PUSHB] = 40, paper->moves = pick_from(r, 50, 85), paper->crowd = crowds[pick(r, 5)];
     memcpy(paper->verbs, weights, sizeof weights);
 }
@@ -412,6 +443,7 @@ void start_paper(struct paper *paper, unsigned aim)
     paper->steps = 0;
     memset(&paper->program, 0, sizeof paper->program);
     memset(&paper->configuration, 0, sizeof paper->configuration);
+    paper->full = aim == 16 || (aim == 15 && chance(&paper->random, 25));
     draw_tables(paper);
     draw_manner(paper);
 }
@@ -422,7 +454,8 @@ void draw_paper(struct paper *paper, unsigned aim)
     unsigned length = draw_length(&paper->random), ready = pick(&paper->random, 40), idle = 0;
     if (aim != 0 && length < 200) length = 200;
     while (paper->steps < length && idle < 6) {
-        if (aim != 0 && paper->steps >= ready && draw_refused(paper, aim)) break;
+        bool now = paper->full ? paper->configuration.count == CONNECTIONS : paper->steps >= ready;
+        if (aim != 0 && now && draw_refused(paper, aim)) break;
         idle = draw_allowed(paper) ? 0 : idle + 1;
     }
     append_rest(paper);
