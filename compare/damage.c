@@ -108,7 +108,8 @@ static void move_line(struct random *r, struct draft *text)
 
 static void any_byte(struct random *r, struct draft *text)
 {
-    set_byte(text, pick(r, (unsigned)text->length), (uint8_t)pick(r, 256));
+    size_t at = pick(r, (unsigned)text->length);
+    set_byte(text, at, (uint8_t)pick(r, 256));
 }
 
 static void flip_bit(struct random *r, struct draft *text)
@@ -120,13 +121,15 @@ static void flip_bit(struct random *r, struct draft *text)
 static void near_byte(struct random *r, struct draft *text)
 {
     static const char near[] = "\n\r +,-=0123456789sS\tx.;:/";
-    set_byte(text, pick(r, (unsigned)text->length), (uint8_t)near[pick(r, sizeof near - 1)]);
+    size_t at = pick(r, (unsigned)text->length);
+    set_byte(text, at, (uint8_t)near[pick(r, sizeof near - 1)]);
 }
 
 static void insert_byte(struct random *r, struct draft *text)
 {
     static const char *const words[] = { "\n", " ", "+", ",", "-", "=", "0", "1", "9", "x", "\r", "-1", "+-", ",,", "\n\n" };
-    insert(text, pick(r, (unsigned)text->length + 1), words[pick(r, 15)]);
+    size_t at = pick(r, (unsigned)text->length + 1);
+    insert(text, at, words[pick(r, 15)]);
 }
 
 static void drop_byte(struct random *r, struct draft *text)
@@ -134,7 +137,11 @@ static void drop_byte(struct random *r, struct draft *text)
     if (text->length > 0) splice(text, (struct span){ pick(r, (unsigned)text->length), 1 }, "", 0);
 }
 
-static void leading_zero(struct random *r, struct draft *text) { insert(text, draw_number(r, text).start, chance(r, 80) ? "0" : "0000"); }
+static void leading_zero(struct random *r, struct draft *text)
+{
+    struct span number = draw_number(r, text);
+    insert(text, number.start, chance(r, 80) ? "0" : "0000");
+}
 
 /* Six digits and more, among them some that wrap to a small number in 16, 32 or 64 bits. */
 static void many_digits(struct random *r, struct draft *text)
@@ -182,7 +189,8 @@ static void other_field(struct random *r, struct draft *text)
 static void blank(struct random *r, struct draft *text)
 {
     struct span line = draw_line(r, text);
-    insert(text, chance(r, 50) ? line.start : line.start + line.length, chance(r, 50) ? " " : "\t");
+    size_t at = chance(r, 50) ? line.start : line.start + line.length;
+    insert(text, at, chance(r, 50) ? " " : "\t");
 }
 
 static void upper_case(struct random *r, struct draft *text)
@@ -194,8 +202,9 @@ static void upper_case(struct random *r, struct draft *text)
 
 static void other_word(struct random *r, struct draft *text)
 {
-    static const char *const words[] = { "next", "next,", "fire,", "end,", "enter,", "finish,", "add,", "del,", "pushb,", "con,", "dcon,",
-                                         "wait,", "use,", "provide,", "adds,", "delete,", "co,", "dcons,", "nexts", "used,", "nop", "" };
+    static const char *const words[] = { "next", "next,", "fire,", "end,", "enter,", "finish,", "add,", "del,", "pushb,", "con,",
+                                         "dcon,", "wait,", "use,", "provide,", "adds,", "delete,", "co,", "dcons,", "nexts",
+                                         "used,", "nop", "" };
     struct span line = draw_line(r, text);
     size_t from = line.start, end = line.start + line.length;
     while (from < end && text->bytes[from] != '=') from++;
@@ -216,9 +225,10 @@ typedef void fault(struct random *, struct draft *);
 void damage_form(struct random *r, struct draft *text)
 {
     static fault *const faults[] = { cut_anywhere, cut_before_line, cut_last_byte, join_lines, return_before_end, end_by_return,
-                                     move_line, move_line, any_byte, flip_bit, flip_bit, near_byte, near_byte, insert_byte, insert_byte,
-                                     drop_byte, drop_byte, leading_zero, leading_zero, many_digits, many_digits, no_number, longer_list, longer_list, other_field, blank,
-                                     upper_case, other_word, other_word, nothing_left };
+                                     move_line, move_line, any_byte, flip_bit, flip_bit, near_byte, near_byte, insert_byte,
+                                     insert_byte, drop_byte, drop_byte, leading_zero, leading_zero, many_digits, many_digits,
+                                     no_number, longer_list, longer_list, other_field, blank, upper_case, other_word, other_word,
+                                     nothing_left };
     faults[pick(r, sizeof faults / sizeof faults[0])](r, text);
 }
 
@@ -233,9 +243,9 @@ static const struct edge edges[] = {
     { "behaviors=", 3, { 0, 8, 9 } }, { "behavior=", 5, { 0, 1, 2, 31, 32 } }, { "ports=", 3, { 0, 16, 17 } },
     { "port=", 6, { 0, 1, 15, 16, 31, 32 } }, { "program=", 3, { 0, 256, 257 } }, { "do=add", 6, { 0, 1, 2, 16, 31, 32 } },
     { "do=del", 3, { 0, 31, 32 } }, { "do=pushb", 3, { 8, 31, 32 } }, { "do=con", 2, { 16, 32 } }, { "do=con", 2, { 16, 32 } },
-    { "do=dcon", 2, { 16, 32 } }, { "do=dcon", 2, { 16, 32 } }, { "do=wait", 3, { 0, 31, 32 } }, { "steps=", 4, { 0, 1, 1024, 1025 } },
-    { "step=fire", 3, { 16, 31, 32 } }, { "step=end", 3, { 16, 31, 32 } }, { "step=enter", 3, { 16, 31, 32 } },
-    { "step=finish", 3, { 0, 31, 32 } }, { "sheet=", 2, { 0, 2 } }, { "answer=", 2, { 0, 2 } },
+    { "do=dcon", 2, { 16, 32 } }, { "do=dcon", 2, { 16, 32 } }, { "do=wait", 3, { 0, 31, 32 } },
+    { "steps=", 4, { 0, 1, 1024, 1025 } }, { "step=fire", 3, { 16, 31, 32 } }, { "step=end", 3, { 16, 31, 32 } },
+    { "step=enter", 3, { 16, 31, 32 } }, { "step=finish", 3, { 0, 31, 32 } }, { "sheet=", 2, { 0, 2 } }, { "answer=", 2, { 0, 2 } },
 };
 enum { EDGES = sizeof edges / sizeof edges[0] };
 
@@ -262,8 +272,10 @@ static void replace_number(struct draft *text, struct span old, unsigned number)
 
 static void any_number(struct random *r, struct draft *text)
 {
-    static const unsigned limits[] = { 0, 1, 4, 7, 8, 9, 15, 16, 17, 31, 32, 33, 64, 255, 256, 257, 1023, 1024, 1025, 9999, 32768, 65535, 99999 };
-    replace_number(text, draw_number(r, text), limits[pick(r, sizeof limits / sizeof limits[0])]);
+    static const unsigned limits[] = { 0, 1, 4, 7, 8, 9, 15, 16, 17, 31, 32, 33, 64, 255, 256, 257, 1023, 1024, 1025, 9999, 32768,
+                                       65535, 99999 };
+    struct span number = draw_number(r, text);
+    replace_number(text, number, limits[pick(r, sizeof limits / sizeof limits[0])]);
 }
 
 /* A line of a random key gets a number of its edge, and sometimes a fault of form behind it. */
@@ -274,7 +286,8 @@ static void edge_number(struct random *r, struct draft *text)
         const struct edge *edge = &edges[pick(r, EDGES)];
         struct span line = draw_line_of(r, text, edge->key);
         if (line.length == 0) continue;
-        replace_number(text, draw_number_in(r, text, line), edge->numbers[pick(r, edge->count)]);
+        struct span number = draw_number_in(r, text, line);
+        replace_number(text, number, edge->numbers[pick(r, edge->count)]);
         line = line_at(text, line.start);
         if (chance(r, 8)) insert(text, line.start + line.length, words[pick(r, 7)]);
         else if (chance(r, 4)) text->length = line.start + line.length;
@@ -293,7 +306,8 @@ void damage_number(struct random *r, struct draft *text)
 
 void damage_end(struct random *r, struct draft *text)
 {
-    static const char *const words[] = { "\n", " ", "x", "\r\n", "step=next\n", "do=wait,0\n", "do=add", "sheet=1\n", "answer=1\nsteps=0\n", "0" };
+    static const char *const words[] = { "\n", " ", "x", "\r\n", "step=next\n", "do=wait,0\n", "do=add", "sheet=1\n",
+                                         "answer=1\nsteps=0\n", "0" };
     size_t times = chance(r, 80) ? 1 : pick_from(r, 2, 400);
     if (chance(r, 10)) splice(text, (struct span){ text->length, 0 }, "", 1);
     else
@@ -303,7 +317,8 @@ void damage_end(struct random *r, struct draft *text)
 /* Bytes appended up to a length at the text's limit or past it. */
 void damage_length(struct random *r, struct draft *text)
 {
-    static const size_t lengths[] = { LONGEST_TEXT - 1, LONGEST_TEXT, LONGEST_TEXT + 1, LONGEST_TEXT + 1, LONGEST_TEXT + 2, 36000, 40000, 40000 };
+    static const size_t lengths[] = { LONGEST_TEXT - 1, LONGEST_TEXT, LONGEST_TEXT + 1, LONGEST_TEXT + 1, LONGEST_TEXT + 2,
+                                      36000, 40000, 40000 };
     size_t length = lengths[pick(r, 8)];
     uint8_t byte = (uint8_t)"\nx0"[pick(r, 3)];
     if (text->length < length) memset(text->bytes + text->length, byte, length - text->length);

@@ -80,7 +80,8 @@ static struct instruction of_length(struct random *r, unsigned length)
     struct instruction i;
     uint8_t line[32];
     do {
-        i = (struct instruction){ (uint8_t)pick(r, INSTRUCTION_VERBS), (uint8_t)pick(r, INSTANCES), 0, 0, 0 };
+        i = (struct instruction){ (uint8_t)pick(r, INSTRUCTION_VERBS), 0, 0, 0, 0 };
+        i.id = (uint8_t)pick(r, INSTANCES);
         if (i.verb == CON || i.verb == DCON) {
             i.number = (uint8_t)pick(r, PORTS);
             i.provider = (uint8_t)pick(r, INSTANCES);

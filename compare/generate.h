@@ -16,6 +16,7 @@ struct paper {
     struct step step[STEPS];
     unsigned steps;
     unsigned aim;                     /* the number that the last step shall be refused with, 0 for none */
+    bool halfway;                     /* whether 31 is sought at a place with only some of its transitions ended */
     bool full;                        /* whether 64 connections are to stand before the aim is sought */
     unsigned crowd;                   /* how many instances the walk adds */
     unsigned verbs[INSTRUCTION_VERBS]; /* weights of the instructions */

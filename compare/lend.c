@@ -51,9 +51,11 @@ static void litter_words(struct random *r, uint32_t *words, unsigned from, unsig
     for (unsigned k = from; k < count; k++) words[k] = (uint32_t)draw(r);
 }
 
-static struct port any_port(struct random *r)
+static void litter_port(struct random *r, struct port *port)
 {
-    return (struct port){ (uint8_t)draw(r), (uint32_t)draw(r), (uint32_t)draw(r) };
+    port->use = (uint8_t)draw(r);
+    port->places = (uint32_t)draw(r);
+    port->transitions = (uint32_t)draw(r);
 }
 
 static void litter_type(struct random *r, struct type *type)
@@ -61,7 +63,7 @@ static void litter_type(struct random *r, struct type *type)
     litter_bytes(r, type->source, type->transitions, TRANSITIONS);
     litter_bytes(r, type->destination, type->transitions, TRANSITIONS);
     litter_words(r, type->behavior, type->behaviors, BEHAVIORS);
-    for (unsigned p = type->ports; p < PORTS; p++) type->port[p] = any_port(r);
+    for (unsigned p = type->ports; p < PORTS; p++) litter_port(r, &type->port[p]);
 }
 
 static void litter_past_type(struct random *r, struct type *type)
@@ -86,17 +88,32 @@ static void litter_program(struct random *r, struct program *program)
     }
 }
 
+static void litter_absent(struct random *r, struct instance *i)
+{
+    i->kind = (uint8_t)draw(r);
+    i->marked = (uint32_t)draw(r);
+    i->running = (uint32_t)draw(r);
+    i->ended = (uint32_t)draw(r);
+    i->queued = (uint8_t)draw(r);
+    litter_bytes(r, i->queue, 0, DEPTH);
+}
+
+static void litter_connection(struct random *r, struct connection *n)
+{
+    n->user = (uint8_t)draw(r);
+    n->useport = (uint8_t)draw(r);
+    n->provider = (uint8_t)draw(r);
+    n->provideport = (uint8_t)draw(r);
+}
+
 static void litter_configuration(struct random *r, struct configuration *c)
 {
     for (unsigned id = 0; id < INSTANCES; id++) {
         struct instance *i = &c->instance[id];
-        litter_bytes(r, i->queue, i->present ? i->queued : 0, DEPTH);
-        if (i->present) continue;
-        *i = (struct instance){ 0, (uint8_t)draw(r), (uint8_t)draw(r), (uint32_t)draw(r), (uint32_t)draw(r), (uint32_t)draw(r), { 0 } };
-        litter_bytes(r, i->queue, 0, DEPTH);
+        if (i->present) litter_bytes(r, i->queue, i->queued, DEPTH);
+        else litter_absent(r, i);
     }
-    for (unsigned k = c->count; k < CONNECTIONS; k++)
-        c->connection[k] = (struct connection){ (uint8_t)draw(r), (uint8_t)draw(r), (uint8_t)draw(r), (uint8_t)draw(r) };
+    for (unsigned k = c->count; k < CONNECTIONS; k++) litter_connection(r, &c->connection[k]);
 }
 
 static void litter_step(struct random *r, struct step *step)
@@ -201,7 +218,9 @@ static bool break_instruction(struct random *r, struct lent *lent)
     switch (pick(r, 5)) {
     case 0: i->verb = past(r, INSTRUCTION_VERBS); return true;
     case 1: i->id = past(r, INSTANCES); return true;
-    case 2: i->number = past(r, four ? PORTS : i->verb == ADD ? lent->tables.count : BEHAVIORS); return four || i->verb == ADD || i->verb == PUSHB;
+    case 2:
+        i->number = past(r, four ? PORTS : i->verb == ADD ? lent->tables.count : BEHAVIORS);
+        return four || i->verb == ADD || i->verb == PUSHB;
     case 3: i->provider = past(r, INSTANCES); return four;
     default: i->provideport = past(r, PORTS); return four;
     }
@@ -252,6 +271,7 @@ static bool break_instance(struct random *r, struct lent *lent)
 {
     struct instance *i = any_instance(r, &lent->configuration);
     const struct type *type = &lent->tables.type[i->kind % TYPES];
+    unsigned k;
     if (!i->present) return false;
     switch (pick(r, 6)) {
     case 0: i->kind = past(r, lent->tables.count); return true;
@@ -259,7 +279,7 @@ static bool break_instance(struct random *r, struct lent *lent)
     case 2: return overfill(r, &i->running, type->transitions);
     case 3: return overfill(r, &i->ended, type->transitions);
     case 4: return overfill_queue(r, lent, i);
-    default: i->queue[pick(r, i->queued)] = past(r, type->behaviors); return i->queued > 0;
+    default: k = pick(r, i->queued); i->queue[k] = past(r, type->behaviors); return i->queued > 0;
     }
 }
 
@@ -294,7 +314,8 @@ static void break_clause(struct random *r, struct lent *lent)
 {
     static breach *const breaches[] = { break_depth, break_count, break_counts, break_initial, break_transition, break_behavior,
                                         break_port, break_port, break_instruction, break_instruction, break_length, break_done,
-                                        break_step, break_step, break_instance, break_instance, break_connection, break_connection };
+                                        break_step, break_step, break_instance, break_instance, break_connection,
+                                        break_connection };
     for (unsigned tries = 0; tries < 20; tries++) {
         struct lent broken = *lent;
         if (!breaches[pick(r, sizeof breaches / sizeof breaches[0])](r, &broken)) continue;
@@ -307,8 +328,8 @@ static void break_clause(struct random *r, struct lent *lent)
 
 /* How often each number is aimed at. */
 static const unsigned aims[38] = {
-    [0] = 80, [7] = 120, [10] = 15, [11] = 15, [12] = 15, [13] = 20, [14] = 20, [15] = 20, [16] = 20, [17] = 15, [18] = 20, [20] = 20,
-    [21] = 20, [22] = 20, [30] = 15, [31] = 20, [32] = 15, [33] = 25, [34] = 25, [35] = 50, [36] = 50, [37] = 20,
+    [0] = 80, [7] = 120, [10] = 15, [11] = 15, [12] = 15, [13] = 20, [14] = 20, [15] = 20, [16] = 20, [17] = 15, [18] = 20,
+    [20] = 20, [21] = 20, [22] = 20, [30] = 15, [31] = 20, [32] = 15, [33] = 25, [34] = 25, [35] = 50, [36] = 50, [37] = 20,
 };
 
 /* Walks on, or to another configuration that need not be reachable. */

@@ -74,8 +74,10 @@ static void fill_type(struct random *r, struct type *type, enum richness richnes
 {
     unsigned transitions = draw_size(r, 0, TRANSITIONS, richness), behaviors = draw_size(r, 0, BEHAVIORS, richness);
     unsigned dense = pick_from(r, 10, 90);
-    if (type->places > 1)
-        while (type->transitions < transitions) add_transition(type, pick(r, type->places), pick(r, type->places));
+    while (type->places > 1 && type->transitions < transitions) {
+        unsigned source = pick(r, type->places);
+        add_transition(type, source, pick(r, type->places));
+    }
     while (type->behaviors < behaviors) add_behavior(type, pick_set(r, type->transitions, dense));
 }
 
@@ -316,13 +318,12 @@ static bool halfway(const struct paper *paper, struct step step)
     return false;
 }
 
-/* Keeps each of the steps seen that get the number with the same chance, those halfway with ten times the chance. */
+/* Keeps each of the steps seen that get the number with the same chance. */
 static void consider(struct paper *paper, struct step step, unsigned number, unsigned *seen, struct step *found)
 {
     if (step_number(&paper->tables, &paper->program, &paper->configuration, &step) != number) return;
-    unsigned weight = halfway(paper, step) ? 10 : 1;
-    *seen += weight;
-    if (pick(&paper->random, *seen) < weight) *found = step;
+    if (paper->halfway && number == 31 && !halfway(paper, step)) return;
+    if (pick(&paper->random, ++*seen) == 0) *found = step;
 }
 
 /* The moves of one instance by one verb; numbers outside the type are tried for a refusal only. */
@@ -389,8 +390,10 @@ struct step draw_step(struct paper *paper)
 {
     struct random *r = &paper->random;
     static const uint8_t greatest[STEP_VERBS] = { 1, PLACES, TRANSITIONS, PLACES, 1 };
-    uint8_t verb = (uint8_t)pick(r, STEP_VERBS);
-    return (struct step){ verb, verb == NEXT ? 0 : (uint8_t)pick(r, INSTANCES), (uint8_t)pick(r, greatest[verb]) };
+    struct step step = { (uint8_t)pick(r, STEP_VERBS), 0, 0 };
+    if (step.verb != NEXT) step.id = (uint8_t)pick(r, INSTANCES);
+    step.number = (uint8_t)pick(r, greatest[step.verb]);
+    return step;
 }
 
 /* ---- the walk ---- */
@@ -443,6 +446,7 @@ void start_paper(struct paper *paper, unsigned aim)
     paper->steps = 0;
     memset(&paper->program, 0, sizeof paper->program);
     memset(&paper->configuration, 0, sizeof paper->configuration);
+    paper->halfway = chance(&paper->random, 40);
     paper->full = aim == 16 || (aim == 15 && chance(&paper->random, 25));
     draw_tables(paper);
     draw_manner(paper);
