@@ -112,16 +112,25 @@ static void fill_sheet(struct paper *paper, struct draft *text, size_t length)
     write_sheet(paper, text);
 }
 
+/* Appends a type, great ones as long as there is much room, unless it leaves too little for the program. */
+static void append_type(struct paper *paper, struct draft *text)
+{
+    struct tables *tables = &paper->tables;
+    size_t before = text->length;
+    if (before < LONGEST_TEXT - 6000) draw_great_type(&paper->random, &tables->type[tables->count++]);
+    else draw_little_type(&paper->random, &tables->type[tables->count++]);
+    write_sheet(paper, text);
+    if (text->length <= LONGEST_TEXT - 1000) return;
+    tables->count--;
+    text->length = before;
+}
+
 /* Types appended until the tables come near the longest text, and the program filled up to it or one byte past it. */
 static void fill_to_the_limit(struct paper *paper, struct draft *text)
 {
-    struct tables *tables = &paper->tables;
     write_sheet(paper, text);
-    while (tables->count < TYPES && text->length < LONGEST_TEXT - 4000) {
-        draw_great_type(&paper->random, &tables->type[tables->count++]);
-        write_sheet(paper, text);
-        if (text->length > LONGEST_TEXT - 1500) tables->count--;
-    }
+    for (unsigned tries = 0; tries < 40 && paper->tables.count < TYPES && text->length < LONGEST_TEXT - 4000; tries++)
+        append_type(paper, text);
     fill_sheet(paper, text, LONGEST_TEXT + pick(&paper->random, 2));
 }
 

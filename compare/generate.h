@@ -26,8 +26,9 @@ struct paper {
 struct draft { uint8_t bytes[LONGEST_DRAFT]; size_t length; };
 struct pair { struct draft sheet, answer; size_t room; };
 
-/* A lawful type near the limits. */
+/* A lawful type near the limits with long lists, and a lawful type well below them. */
 void draw_great_type(struct random *random, struct type *type);
+void draw_little_type(struct random *random, struct type *type);
 
 /* Lawful tables at random and a walk of no steps, in a manner that helps towards the aim. */
 void start_paper(struct paper *paper, unsigned aim);

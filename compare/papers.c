@@ -138,7 +138,18 @@ static void draw_type(struct random *r, struct type *type, enum richness richnes
 void draw_great_type(struct random *r, struct type *type)
 {
     memset(type, 0, sizeof *type);
-    draw_type(r, type, chance(r, 70) ? LIMIT : WIDE, 16);
+    draw_type(r, type, LIMIT, 16);
+    for (unsigned p = 0; p < type->ports; p++) {
+        struct port *port = &type->port[p];
+        port->places = pick_set(r, type->places, 90) & ~(port->use ? type->initial : 0);
+        port->transitions = pick_set(r, type->transitions, 90);
+    }
+}
+
+void draw_little_type(struct random *r, struct type *type)
+{
+    memset(type, 0, sizeof *type);
+    draw_type(r, type, MEDIUM, 0);
 }
 
 static void draw_tables(struct paper *paper)
