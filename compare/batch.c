@@ -5,11 +5,14 @@
 
 struct header { size_t sheet, answer, room; };
 
+/* A decimal number without leading zero, up to `most`, and the byte after it. */
 static bool parse_number(const char **at, char after, size_t most, size_t *number)
 {
     const char *first = *at;
     for (*number = 0; **at >= '0' && **at <= '9' && *number <= most; ++*at) *number = *number * 10 + (size_t)(**at - '0');
-    return *at != first && *(*at)++ == after && *number <= most;
+    bool form = *at != first && !(*first == '0' && *at - first > 1) && **at == after;
+    ++*at;
+    return form && *number <= most;
 }
 
 static bool parse_header(const char *line, struct header *h)
@@ -38,7 +41,7 @@ int main(void)
         if (!parse_header(line, &h) || fread(sheet, 1, h.sheet, stdin) != h.sheet
             || fread(answer, 1, h.answer, stdin) != h.answer) {
             fputs("bad header\n", stdout);
-            return 1;
+            return 0;
         }
         judge_case(&h, sheet, answer);
     }

@@ -146,7 +146,8 @@ static void redirect(const char *path, int flags, int to)
     close(from);
 }
 
-static void run_command(const struct job *job)
+/* Whether the command ended well; what it answered is looked at in any case. */
+static bool run_command(const struct job *job)
 {
     int status;
     pid_t child = fork();
@@ -159,6 +160,7 @@ static void run_command(const struct job *job)
     }
     if (waitpid(child, &status, 0) != child) fail("waitpid");
     if (status != 0) printf("the command ended with status %d\n", status);
+    return status == 0;
 }
 
 /* ---- differences ---- */
@@ -230,8 +232,8 @@ static bool compare_seed(struct job *job, uint64_t seed)
             continue;
         }
         write_file(path_of(job, "cases"), cases.input.bytes, cases.input.length);
-        run_command(job);
-        if (!agree(job, &cases, seed, from)) return false;
+        bool ended = run_command(job);
+        if (!agree(job, &cases, seed, from) || !ended) return false;
     }
     return true;
 }

@@ -41,7 +41,10 @@ int main(void)
     static uint8_t bytes[LENT_BYTES];
     while (fgets(line, sizeof line, stdin) != NULL) {
         size_t name = strcspn(line, " \n");
-        if (!read_bytes(line + name, bytes)) return 1;
+        if (!read_bytes(line + name, bytes)) {
+            fputs("bad case\n", stdout);
+            return 0;
+        }
         answer(line, name, bytes);
     }
     return 0;
