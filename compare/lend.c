@@ -329,7 +329,7 @@ static void break_clause(struct random *r, struct lent *lent)
 /* How often each number is aimed at. */
 static const unsigned aims[38] = {
     [0] = 80, [7] = 120, [10] = 15, [11] = 15, [12] = 15, [13] = 20, [14] = 20, [15] = 20, [16] = 20, [17] = 15, [18] = 20,
-    [20] = 20, [21] = 20, [22] = 20, [30] = 15, [31] = 20, [32] = 15, [33] = 25, [34] = 25, [35] = 50, [36] = 50, [37] = 20,
+    [20] = 20, [21] = 20, [22] = 20, [30] = 15, [31] = 20, [32] = 15, [33] = 25, [34] = 25, [35] = 100, [36] = 50, [37] = 20,
 };
 
 /* Walks on, or to another configuration that need not be reachable. */
