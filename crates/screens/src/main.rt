@@ -1,0 +1,96 @@
+// Runs one step of the screen in the hall for each line of standard input, `NAME PLACE=VALUE ..`: bytes of what is lent, the others 0.
+// Writes `NAME N PLACE=VALUE ..`: what `hall` answers, and the bytes of the lent configuration that moved. make.py writes the cases.
+mod lent;
+mod lines;
+mod shown;
+
+use lent::BYTES;
+use lent::configuration_of;
+use lent::program_of;
+use lent::step_of;
+use lent::tables_of;
+use libc::STDIN_FILENO;
+use libc::STDOUT_FILENO;
+use lines::Line;
+use lines::Part;
+use lines::ended;
+use lines::fresh;
+use lines::is_over;
+use lines::read_byte;
+use model::wide;
+use shown::show;
+
+fn run_case(name: &[u8; 64], size: usize, bytes: &[u8; BYTES]) {
+    let tables = tables_of(bytes);
+    let program = program_of(bytes);
+    let before = configuration_of(bytes);
+    let step = step_of(bytes);
+    let after = hall::hall_step(4, tables, program, before, step);
+    show(name, size, wide(after.refused), before, after.configuration);
+}
+
+fn clear(bytes: &mut [u8; BYTES]) {
+    for i in 0..BYTES {
+        bytes[i] = 0;
+    }
+}
+
+// At the end of a line its case is run, and the next line begins with nothing lent.
+fn take_byte(line: Line, b: u8, name: &mut [u8; 64], bytes: &mut [u8; BYTES]) -> Line {
+    let next = read_byte(line, b, name, bytes);
+    let part = next.part;
+    match part {
+        Part::Done => {
+            run_case(name, next.size, bytes);
+            clear(bytes);
+            fresh()
+        }
+        _ => next,
+    }
+}
+
+fn take_block(line: Line, block: &[u8], name: &mut [u8; 64], bytes: &mut [u8; BYTES]) -> Line {
+    let mut next = line;
+    let mut i: usize = 0;
+    while i < block.len() {
+        next = take_byte(next, block[i], name, bytes);
+        i += 1;
+    }
+    next
+}
+
+fn read_block(line: Line, name: &mut [u8; 64], bytes: &mut [u8; BYTES]) -> Line {
+    let mut block = io::large_buffer();
+    let n = io::read_full(STDIN_FILENO, &mut block);
+    if n == 0 {
+        return ended(line);
+    }
+    take_block(line, &block[..n], name, bytes)
+}
+
+// Nothing says that the input ends, so the blocks are counted down from a number that no run uses up.
+fn read_all(name: &mut [u8; 64], bytes: &mut [u8; BYTES]) -> Line {
+    let mut line = fresh();
+    let mut turns = u64::MAX;
+    while turns > 0 {
+        line = read_block(line, name, bytes);
+        if is_over(line) {
+            return line;
+        }
+        turns -= 1;
+    }
+    line
+}
+
+fn main() {
+    let mut name = [0u8; 64];
+    let mut bytes = [0u8; BYTES];
+    let line = read_all(&mut name, &mut bytes);
+    let part = line.part;
+    match part {
+        Part::Bad => {
+            io::write_all(STDOUT_FILENO, b"bad case\n");
+        }
+        _ => {}
+    }
+}
