@@ -1,3 +1,6 @@
 pub mod Screen
 pub mod Proper
 pub mod Alike
+pub mod Clauses
+pub mod Slots
+pub mod Once

@@ -19,7 +19,7 @@ use Rattle.hall.specs.Screen.{limitBroken, lentLawful, hallNumber, hallS
 use Rattle.hall.specs.Agree.{NumbersAgree, RefusedLeaves, SevenExactly}
 
 -- the number of a step by value
-step-number : (default : ℕ) (t : Tables) (p : Program) (c : Configuration) (s : Step) → step default t p c s .refused ≡ number default t p c s
+pub step-number : (default : ℕ) (t : Tables) (p : Program) (c : Configuration) (s : Step) → step default t p c s .refused ≡ number default t p c s
 step-number default t p c s =
     by-cases (ℕ-discrete (number default t p c s) 0) (λ e. ap (λ (m : Stepped). m .refused) (step-on default t p c s e) ∙ sym e)
     (λ n. ap (λ (m : Stepped). m .refused) (step-stop default t p c s n))

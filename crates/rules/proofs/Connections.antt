@@ -127,7 +127,7 @@ abbrev Moved : ℕ → ℕ → ℕ → Type 0
 Moved at l m = ((l < at) × (m ≡ l)) ⊎ ((at ≤ l) × (m ≡ suc l))
 
 module _ (c : Configuration) (k : Connection) (stands : someConnection c (sameConnection k) ≡ true) (fits : c .count ≤ length (c .connections)) where
-  place-in : placeOf c k < c .count
+  pub place-in : placeOf c k < c .count
   unfolding someConnection
   place-in = first-is (c .count) (λ l. sameConnection k (connection c l)) stands .0
 

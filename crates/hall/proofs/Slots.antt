@@ -1,0 +1,191 @@
+-- What an allowed step leaves in every slot, from what the rules' proofs say of an action's effect (rules/proofs/Local).
+-- Assumes nothing.
+use mathlib.Core.Path.{_≡_, refl, sym, ap, _∙_}
+use mathlib.Core.Logic.{_⊎_, inl, inr, _≢_}
+use mathlib.Core.Bool.{true, false, cond}
+use Prim.Native.Nat.{ℕ, suc, _≤_, _<_}
+use native.Mathlib.Omega.{arith}
+use lib.Dec.{eqb, ltb, leb}
+use lib.ListN.{length, getD}
+use borrow.Author.Tests.{eqb-true, eqb-false, eq-eqb, ne-eqb, ltb-true, ltb-false, le-ltb, leb-true}
+use Rattle.forms.proofs.Tests.{by-test, and-left, and-right}
+use Rattle.sets.specs.Test.{all}
+use Rattle.sets.proofs.Laws.{all-at}
+use Rattle.model.specs.declared.Tables.{Tables}
+use Rattle.model.specs.declared.Program.{Program}
+use Rattle.model.specs.declared.Step.{Step}
+use Rattle.model.specs.declared.Connection.{Connection}
+use Rattle.model.specs.declared.Configuration.{Configuration}
+use Rattle.model.specs.Empty.{noConnection}
+use Rattle.model.specs.View.{typeOf, instance, connection, slot, head, withConnections, withDone}
+use Rattle.model.proofs.View.{connection-same, connection-other}
+use Rattle.reading.specs.Limits.{typeOk, maskOk}
+use Rattle.reading.specs.Lawful.{tablesLawful, programLawful, stepLawful, Lawful}
+use Rattle.rules.specs.PushB.{depthOf}
+use Rattle.rules.specs.Con.{connected}
+use Rattle.rules.specs.DCon.{placeOf, disconnected}
+use Rattle.rules.specs.Action.{Action, add, del, pushb, con, dcon, wait, fire, end, enter, finish, check, effect}
+use Rattle.rules.specs.Step.{number, after, action}
+use Rattle.rules.proofs.Closing.{closed-outside, closed-inside, closed-last}
+use Rattle.rules.proofs.Local.{shifted, Wires, change, touches, changes, self, turn, turnedSlot, ownInstance, ownSlot, Fits, Roomy, Room, instance-own, instance-other, slot-own, slot-other, part-wires}
+use Rattle.rules.proofs.Allowed.{del-facts, pushb-facts, con-facts, dcon-facts, fire-facts, end-facts, enter-facts, finish-facts, present-in}
+use Rattle.rules.proofs.Connections.{place-in}
+use Rattle.rules.proofs.Tables.{facts}
+use Rattle.rules.proofs.Proper.{Lawfully, step-lawfully}
+use Rattle.rules.proofs.Walks.{step-on, number-facts, after-cases, after-done}
+use Rattle.lawfulness.specs.Lawful.{numbersLawful, instanceLawful, connectionsLawful, configurationLawful}
+use Rattle.hall.specs.Screen.{lentLawful, hallStep}
+use Rattle.hall.specs.Slots.{Whole, Holds, inInstance, gapClosed, slots, EverySlot}
+use Rattle.hall.proofs.Screen.{step-number}
+
+module _ (t : Tables) (c : Configuration) (whole : Whole c) where
+  -- an action on instance i
+  owned : (a : Action) (i : ℕ) → ((j : ℕ) → changes a j ≡ eqb i j) → Room c a
+      → Holds (effect t c a) (inInstance c i (ownInstance t (instance c i) (head c i) a) (ownSlot (instance c i .queued) (slot c i) a))
+  owned a i h room = record {
+    instances = λ j l. by-test (eqb j i) (λ e. rw (e, eqb-true j i e) (instance-own t c a i mine (in-array j l (eqb-true j i e)))) (λ e. rw e (instance-other t c a j (other j e)));
+    queues = λ j r l g. by-test (eqb j i) (λ e. rw (e, eqb-true j i e) (slot-own t c a (whole .queue) room i mine r g)) (λ e. rw e (slot-other t c a (whole .queue) room j (other j e) r g));
+    connections = λ l g. ap (λ (w : Wires). getD (w .list) l noConnection) (part-wires t c a i mine);
+    count = ap (λ (w : Wires). w .count) (part-wires t c a i mine);
+  }
+    where
+      mine : changes a i ≡ true
+      mine = h i ∙ eq-eqb i i refl
+
+      other : (j : ℕ) → eqb j i ≡ false → changes a j ≡ false
+      other j e = h j ∙ ne-eqb i j (λ q. eqb-false j i e (sym q))
+
+      in-array : (j : ℕ) → j < 32 → j ≡ i → i < length (c .instances)
+      in-array j l e = omega (arith, whole .instances)
+
+  -- the head of a queue goes
+  head-gone : (n : ℕ) (f : ℕ → ℕ) (r : ℕ) → turnedSlot shifted n f r ≡ gapClosed 0 0 n f r
+  unfolding turnedSlot gapClosed
+  head-gone n f r = rw (le-ltb r 0 (omega arith))
+
+  appended-to : (k : Connection) → c .count < 64 → (l : ℕ) → connection (connected c k) l ≡ cond (eqb l (c .count)) k (connection c l)
+  unfolding connected
+  appended-to k few l =
+      by-test (eqb l (c .count)) (λ e. rw (e, eqb-true l (c .count) e) (connection-same c (c .count) (suc (c .count)) k (omega (arith, whole .connections))))
+      (λ e. rw e (connection-other c (c .count) l (suc (c .count)) k (eqb-false l (c .count) e)))
+
+  module _ (k : Connection) (some : placeOf c k < c .count) (few : c .count ≤ 64) (l : ℕ) where
+    fits : c .count ≤ length (c .connections)
+    fits = omega (arith, whole .connections)
+
+    kept : (l < placeOf c k) ⊎ (c .count ≤ l) → connection (disconnected c k) l ≡ connection c l
+    unfolding disconnected withConnections
+    kept = closed-outside noConnection (c .connections) (placeOf c k) (c .count) some fits l
+
+    moved : placeOf c k ≤ l → suc l < c .count → connection (disconnected c k) l ≡ connection c (suc l)
+    unfolding disconnected withConnections
+    moved = closed-inside noConnection (c .connections) (placeOf c k) (c .count) some fits l
+
+    freed : suc l ≡ c .count → connection (disconnected c k) l ≡ noConnection
+    unfolding disconnected withConnections
+    freed = closed-last noConnection (c .connections) (placeOf c k) (c .count) some fits l
+
+    past : c .count ≤ suc l → suc l ≢ c .count → c .count ≤ l
+    past h n = omega arith
+
+    closed-up : connection (disconnected c k) l ≡ gapClosed noConnection (placeOf c k) (c .count) (connection c) l
+    unfolding gapClosed
+    closed-up =
+        by-test (ltb l (placeOf c k)) (λ e. rw e (kept (inl (ltb-true l (placeOf c k) e))))
+        (λ e. by-test (ltb (suc l) (c .count)) (λ f. rw (e, f) (moved (ltb-false l (placeOf c k) e) (ltb-true (suc l) (c .count) f)))
+        (λ f. by-test (eqb (suc l) (c .count)) (λ g. rw (e, f, g) (freed (eqb-true (suc l) (c .count) g)))
+        (λ g. rw (e, f, g) (kept (inr (past (ltb-false (suc l) (c .count) f) (eqb-false (suc l) (c .count) g)))))))
+
+  module _ (default : ℕ) (depth : depthOf default t ≤ 8) (few : c .count ≤ 64)
+      (short : (i : ℕ) → instance c i .present ≡ true → instance c i .queued ≤ depthOf default t) where
+    in-array : (i : ℕ) → instance c i .present ≡ true → i < 32
+    in-array i e = omega (arith, present-in c i e, whole .instances)
+
+    room : (a : Action) → Lawfully t a → check default t c a ≡ 0 → Room c a
+    unfolding check change Roomy Fits
+    room (add i k) new e = (new i k refl .0, tt)
+    room (del i) new e = (in-array i (del-facts c i e .present), tt)
+    room (pushb i b) new e = let f = pushb-facts default t c i b e in (in-array i (f .present), omega (arith, f .short))
+    room (con k) new e = tt
+    room (dcon k) new e = tt
+    room (wait i) new e = tt
+    room (fire i p) new e = (in-array i (fire-facts t c i p e .present), tt)
+    room (end i x) new e = (in-array i (end-facts c i x e .present), tt)
+    room (enter i p) new e = (in-array i (enter-facts t c i p e .present), tt)
+    room (finish i) new e =
+        let f = finish-facts t c i e in
+        let h = short i (f .present) in
+        (in-array i (f .present), (f .queued, omega arith))
+
+    holds : (a : Action) → Lawfully t a → check default t c a ≡ 0 → Holds (effect t c a) (slots t c a)
+    unfolding check effect change touches self turn turnedSlot slots connected disconnected withConnections
+    holds (add i k) new e = owned (add i k) i (λ j. refl) (room (add i k) new e)
+    holds (del i) new e = owned (del i) i (λ j. refl) (room (del i) new e)
+    holds (pushb i b) new e = owned (pushb i b) i (λ j. refl) (room (pushb i b) new e)
+    holds (con k) new e = record {
+      instances = λ j l. refl;
+      queues = λ j r l g. refl;
+      connections = λ l g. appended-to k (con-facts t c k e .few) l;
+      count = refl;
+    }
+    holds (dcon k) new e = record {
+      instances = λ j l. refl;
+      queues = λ j r l g. refl;
+      connections = λ l g. closed-up k (place-in c k (dcon-facts t c k e .stands) (omega (arith, whole .connections))) few l;
+      count = refl;
+    }
+    holds (wait i) new e = record { instances = λ j l. refl; queues = λ j r l g. refl; connections = λ l g. refl; count = refl }
+    holds (fire i p) new e = owned (fire i p) i (λ j. refl) (room (fire i p) new e)
+    holds (end i x) new e = owned (end i x) i (λ j. refl) (room (end i x) new e)
+    holds (enter i p) new e = owned (enter i p) i (λ j. refl) (room (enter i p) new e)
+    holds (finish i) new e =
+        let o = owned (finish i) i (λ j. refl) (room (finish i) new e) in
+        record {
+          instances = o .instances;
+          queues = λ j r l g. o .queues j r l g ∙ ap (λ (x : ℕ). cond (eqb j i) x (slot c j r)) (head-gone (instance c i .queued) (slot c i) r);
+          connections = o .connections;
+          count = o .count;
+        }
+
+module _ (default : ℕ) (t : Tables) (p : Program) (c : Configuration) (s : Step) (small : default ≤ 8) (whole : Whole c)
+    (lawful : lentLawful default t p c s ≡ true) where
+  law : Lawful t p
+  unfolding Lawful lentLawful
+  law = (and-left (tablesLawful t) _ lawful, and-left (programLawful (t .count) p) _ (and-right (tablesLawful t) _ lawful))
+
+  standing : configurationLawful default t p c ≡ true
+  unfolding lentLawful
+  standing = and-right (stepLawful s) _ (and-right (programLawful (t .count) p) _ (and-right (tablesLawful t) _ lawful))
+
+  few : c .count ≤ 64
+  unfolding configurationLawful connectionsLawful
+  few =
+      leb-true (c .count) 64
+      (and-left (leb (c .count) 64) _ (and-right (leb (c .done) (p .count)) _ (and-right (all 32 (instanceLawful default t c)) _ standing)))
+
+  short : (i : ℕ) → instance c i .present ≡ true → instance c i .queued ≤ depthOf default t
+  unfolding configurationLawful instanceLawful numbersLawful
+  short i here =
+      let h = all-at 32 (instanceLawful default t c) (and-left (all 32 (instanceLawful default t c)) _ standing) i (omega (arith, present-in c i here, whole .instances)) in
+      leb-true _ _ (and-left (leb (instance c i .queued) (depthOf default t)) _
+      (and-right (maskOk (typeOf t (instance c i .kind) .transitions) (instance c i .ended)) _
+      (and-right (maskOk (typeOf t (instance c i .kind) .transitions) (instance c i .running)) _
+      (and-right (maskOk (typeOf t (instance c i .kind) .places) (instance c i .marked)) _
+      (and-right (typeOk (t .count) (instance c i .kind)) _ (rw here at h))))))
+
+  each : number default t p c s ≡ 0 → Holds (after t p c s) (slots t c (action p c s))
+  unfolding withDone
+  each e =
+      let l = facts default t p small law in
+      let h = holds t c whole default (l .depth) few short (action p c s) (step-lawfully default t p l c s e) (number-facts default t p c s e .0) in
+      after-cases t p (λ (d : Configuration). Holds d (slots t c (action p c s))) c s
+      (λ _. record { instances = h .instances; queues = h .queues; connections = h .connections; count = h .count }) (λ _. h)
+
+pub every-slot : EverySlot
+unfolding EverySlot hallStep
+every-slot default t p c s small whole ok =
+    by-test (lentLawful default t p c s)
+    (λ lawful.
+    let e : number default t p c s ≡ 0 = sym (step-number default t p c s) ∙ (rw lawful at ok) in
+    rw (lawful, step-on default t p c s e) (each default t p c s small whole lawful e, after-done t p c s))
+    (λ broken. absurd (omega (arith, rw broken at ok)))

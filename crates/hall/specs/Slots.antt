@@ -1,0 +1,83 @@
+-- What a step that is allowed leaves in every slot of the lent configuration: "`con` appends to the list, `dcon` and `finish` close the gap
+-- and zero the slot freed, `del` zeroes the whole record, and `add` zeroes all queue slots." All other slots keep what they hold, free ones too.
+use Prim.Native.Nat.{ℕ, suc, _-_, _≤_, _<_}
+use mathlib.Core.Bool.{cond}
+use mathlib.Core.Path.{_≡_}
+use lib.Dec.{eqb, ltb}
+use lib.ListN.{length}
+use Rattle.model.specs.declared.Tables.{Tables}
+use Rattle.model.specs.declared.Program.{Program}
+use Rattle.model.specs.declared.Step.{Step}
+use Rattle.model.specs.declared.Instance.{Instance}
+use Rattle.model.specs.declared.Connection.{Connection}
+use Rattle.model.specs.declared.Configuration.{Configuration}
+use Rattle.model.specs.Empty.{absent, noConnection}
+use Rattle.model.specs.View.{instance, connection, slot}
+use Rattle.rules.specs.Instance.{endedBy, withQueued}
+use Rattle.rules.specs.Add.{fresh}
+use Rattle.rules.specs.DCon.{placeOf}
+use Rattle.rules.specs.Fire.{afterFire}
+use Rattle.rules.specs.Enter.{afterEnter}
+use Rattle.rules.specs.Action.{Action, add, del, pushb, con, dcon, wait, fire, end, enter, finish}
+use Rattle.rules.specs.Step.{isNext, action}
+use Rattle.hall.specs.Screen.{hallStep}
+
+-- the record of each instance, slot r of its queue, each connection, and how many connections stand
+pub record Slots : Type 0 where
+  pub instances : ℕ → Instance
+  pub queues : ℕ → ℕ → ℕ
+  pub connections : ℕ → Connection
+  pub count : ℕ
+
+-- instance i has the record w and the queue slots s
+abbrev pub inInstance : Configuration → ℕ → Instance → (ℕ → ℕ) → Slots
+inInstance c i w s = record {
+  instances = λ j. cond (eqb j i) w (instance c j);
+  queues = λ j r. cond (eqb j i) (s r) (slot c j r);
+  connections = connection c;
+  count = c .count;
+}
+
+-- the list is f, and n of it stand
+abbrev pub inConnections : Configuration → (ℕ → Connection) → ℕ → Slots
+inConnections c f n = record { instances = instance c; queues = slot c; connections = f; count = n }
+
+-- slot l of f where the gap at `at` is closed in the first n: the later ones move down one, the slot freed is z, those past n stay
+unfoldable pub gapClosed : {A : Type 0} → A → ℕ → ℕ → (ℕ → A) → ℕ → A
+gapClosed z at n f l = cond (ltb l at) (f l) (cond (ltb (suc l) n) (f (suc l)) (cond (eqb (suc l) n) z (f l)))
+
+unfoldable pub slots : Tables → Configuration → Action → Slots
+slots t c (add i k) = inInstance c i (fresh t k) (λ r. 0)
+slots t c (del i) = inInstance c i absent (λ r. 0)
+slots t c (pushb i b) =
+    inInstance c i (withQueued (instance c i) (suc (instance c i .queued))) (λ r. cond (eqb r (instance c i .queued)) b (slot c i r))
+slots t c (con k) = inConnections c (λ l. cond (eqb l (c .count)) k (connection c l)) (suc (c .count))
+slots t c (dcon k) = inConnections c (gapClosed noConnection (placeOf c k) (c .count) (connection c)) (c .count - 1)
+slots t c (wait i) = inConnections c (connection c) (c .count)
+slots t c (fire i p) = inInstance c i (afterFire t c i p) (slot c i)
+slots t c (end i x) = inInstance c i (endedBy (instance c i) x) (slot c i)
+slots t c (enter i p) = inInstance c i (afterEnter t c i p) (slot c i)
+slots t c (finish i) =
+    inInstance c i (withQueued (instance c i) (instance c i .queued - 1)) (gapClosed 0 0 (instance c i .queued) (slot c i))
+
+-- d has that in each of its slots
+pub record Holds (d : Configuration) (x : Slots) : Type 0 where
+  pub instances : (j : ℕ) → j < 32 → instance d j ≡ x .instances j
+  pub queues : (j r : ℕ) → j < 32 → r < 8 → slot d j r ≡ x .queues j r
+  pub connections : (l : ℕ) → l < 64 → connection d l ≡ x .connections l
+  pub count : d .count ≡ x .count
+
+-- as long as its arrays are
+pub record Whole (c : Configuration) : Type 0 where
+  pub instances : length (c .instances) ≡ 32
+  pub queue : length (c .queue) ≡ 256
+  pub connections : length (c .connections) ≡ 64
+
+unfoldable pub EverySlot : Type 0
+EverySlot =
+    (default : ℕ) (t : Tables) (p : Program) (c : Configuration) (s : Step)
+    → default ≤ 8
+    → Whole c
+    → hallStep default t p c s .refused ≡ 0
+    → Holds (hallStep default t p c s .configuration) (slots t c (action p c s))
+    × (hallStep default t p c s .configuration .done ≡ cond (isNext s) (suc (c .done)) (c .done))
