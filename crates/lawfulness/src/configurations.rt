@@ -11,6 +11,7 @@ use model::number_at;
 use model::type_of;
 use model::wide;
 ghost use mathlib.Core.Path.{_≡_};
+ghost use Prim.Native.Nat.{_≤_};
 ghost use lib.Dec.{ltb};
 ghost use Rattle.sets.specs.Test.{all};
 ghost use Rattle.model.specs.View.{isUse};
@@ -81,11 +82,14 @@ pub fn instances_lawful(default: u8, t: Tables, c: Configuration) -> bool
 
 // One of the first l connections is of the same use port as k.
 fn is_connected_before(c: Configuration, k: Connection, l: u8) -> bool
+    requires { ⌜ l ≤ 64 ⌝ }
     ensures { λ r. ⌜ r ≡ connectedBefore c k l ⌝ }
 {
     let mut m: u8 = 0;
     while m < l {
-        let other = connection_of(c, wide(m));
+        // the array is read here: to pass the configuration on for each connection would be to copy it
+        let at = wide(m);
+        let other = c.connections[at];
         if (other.user == k.user) & (other.useport == k.useport) {
             return true;
         }
@@ -118,6 +122,7 @@ fn ends_lawful(t: Tables, c: Configuration, k: Connection) -> bool
 }
 
 fn connection_lawful(t: Tables, c: Configuration, l: u8) -> bool
+    requires { ⌜ l ≤ 64 ⌝ }
     ensures { λ r. ⌜ r ≡ connectionLawful t c l ⌝ }
 {
     let k = connection_of(c, wide(l));

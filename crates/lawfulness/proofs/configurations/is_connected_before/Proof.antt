@@ -11,10 +11,10 @@ use Rattle.lawfulness.proofs.configurations.is_connected_before.Stateme
 use Rattle.lawfulness.proofs.configurations.is_connected_before.Tie as tie
 
 abbrev Inv-loop : tie.InvT-loop
-Inv-loop c k l m₀ m = (m ≤ l) × (any m (λ x. isOf (k .user) (k .useport) (connection c x)) ≡ false)
+Inv-loop k l c m₀ m = (m ≤ l) × (any m (λ x. isOf (k .user) (k .useport) (connection c x)) ≡ false)
 
 abbrev μ-loop : tie.MeasureT-loop
-μ-loop c k l m₀ m = l - m
+μ-loop k l c m₀ m = l - m
 
 loop-holds : tie.Need-loop-holds Inv-loop μ-loop
 loop-holds c = (search needs, any-start _)
@@ -22,16 +22,17 @@ loop-holds c = (search needs, any-start _)
 wide-requires : tie.Need-wide-requires Inv-loop μ-loop
 wide-requires c κs = search needs
 
-connection-of-requires : tie.Need-connection-of-requires Inv-loop μ-loop
-connection-of-requires c κs = search needs
+mul-other : tie.Need-mul-other Inv-loop μ-loop
+mul-other c = search needs
+
+element-copy-out-other : tie.Need-element-copy-out-other Inv-loop μ-loop
+element-copy-out-other c = search needs
 
 returns : tie.Need-returns Inv-loop μ-loop
 unfolding connectedBefore isOf
 returns c =
-    let b = c .before .before .before .before .before in
-    let h = b .before .before .before in
-    let found = rw (b .before .wide .ensures .0) at (b .connection-of .ensures) in
-    sym (any-hit _ _ (h .loop .m) (b .before .before .loop-test .taken) (rw (← found) (c .if1 .taken)))
+    let b = c .before .before .before .before .before .before in
+    sym (any-hit _ _ (b .before .before .loop .m) (b .before .loop-test .taken) (rw (b .wide .ensures .0) at (c .if1 .taken)))
 
 add-m : tie.Need-add-m Inv-loop μ-loop
 add-m c = search needs
@@ -42,10 +43,8 @@ loop-less c = search needs
 loop-again : tie.Need-loop-again Inv-loop μ-loop
 unfolding isOf
 loop-again c =
-    let b = c .before .before .before .before .before in
-    let h = b .before .before .before in
-    let found = rw (b .before .wide .ensures .0) at (b .connection-of .ensures) in
-    (search needs, any-more _ _ (h .loop .inv .1) (rw (← found) (c .if1 .left)))
+    let b = c .before .before .before .before .before .before in
+    (search needs, any-more _ _ (b .before .before .loop .inv .1) (rw (b .wide .ensures .0) at (c .if1 .left)))
 
 returns-2 : tie.Need-returns-2 Inv-loop μ-loop
 unfolding connectedBefore
@@ -59,7 +58,8 @@ is-connected-before-spec =
     μ-loop
     loop-holds
     wide-requires
-    connection-of-requires
+    mul-other
+    element-copy-out-other
     returns
     add-m
     loop-less
