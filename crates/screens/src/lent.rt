@@ -108,7 +108,7 @@ fn ports_of(bytes: &[u8; BYTES]) -> Ports {
     }
 }
 
-pub fn tables_of(bytes: &[u8; BYTES]) -> Tables {
+pub(crate) fn tables_of(bytes: &[u8; BYTES]) -> Tables {
     let t = with_types(no_tables(), bytes);
     let types = t.types;
     let mut behaviors = [0u32; 128];
@@ -135,7 +135,7 @@ fn instruction_at(bytes: &[u8; BYTES], at: usize) -> Instruction
     }
 }
 
-pub fn program_of(bytes: &[u8; BYTES]) -> Program {
+pub(crate) fn program_of(bytes: &[u8; BYTES]) -> Program {
     let mut next = no_program();
     for i in 0..256usize {
         next.instructions[i] = instruction_at(bytes, 3970 + i * 5);
@@ -165,14 +165,6 @@ fn with_instances(c: Configuration, bytes: &[u8; BYTES]) -> Configuration {
     next
 }
 
-fn with_queue(c: Configuration, bytes: &[u8; BYTES]) -> Configuration {
-    let mut next = c;
-    for i in 0..256usize {
-        next.queue[i] = byte_at(bytes, 5734 + i);
-    }
-    next
-}
-
 fn connection_at(bytes: &[u8; BYTES], at: usize) -> Connection
     requires { ⌜ at ≤ 6250 ⌝ }
 {
@@ -192,15 +184,22 @@ fn with_connections(c: Configuration, bytes: &[u8; BYTES]) -> Configuration {
     next
 }
 
-pub fn configuration_of(bytes: &[u8; BYTES]) -> Configuration {
-    let c = with_queue(with_instances(start(), bytes), bytes);
-    let mut next = with_connections(c, bytes);
-    next.count = byte_at(bytes, 6246);
-    next.done = count_at(bytes, 6247);
-    next
+pub(crate) fn configuration_of(bytes: &[u8; BYTES]) -> Configuration {
+    let c = with_connections(with_instances(start(), bytes), bytes);
+    let instances = c.instances;
+    let connections = c.connections;
+    let mut queue = [0u8; 256];
+    read_bytes(bytes, 5734, &mut queue);
+    Configuration {
+        instances: instances,
+        queue: queue,
+        connections: connections,
+        count: byte_at(bytes, 6246),
+        done: count_at(bytes, 6247),
+    }
 }
 
-pub fn step_of(bytes: &[u8; BYTES]) -> Step {
+pub(crate) fn step_of(bytes: &[u8; BYTES]) -> Step {
     Step {
         verb: byte_at(bytes, 6251),
         id: byte_at(bytes, 6252),

@@ -21,7 +21,7 @@ pub struct Line {
     pub number: usize,
 }
 
-pub fn fresh() -> Line {
+pub(crate) fn fresh() -> Line {
     Line {
         part: Part::Name,
         size: 0,
@@ -137,7 +137,7 @@ fn in_value(line: Line, b: u8, bytes: &mut [u8; BYTES]) -> Line {
     at_part(line, Part::Done, 0)
 }
 
-pub fn read_byte(line: Line, b: u8, name: &mut [u8; 64], bytes: &mut [u8; BYTES]) -> Line {
+pub(crate) fn read_byte(line: Line, b: u8, name: &mut [u8; 64], bytes: &mut [u8; BYTES]) -> Line {
     let part = line.part;
     match part {
         Part::Name => in_name(line, b, name),
@@ -148,7 +148,7 @@ pub fn read_byte(line: Line, b: u8, name: &mut [u8; 64], bytes: &mut [u8; BYTES]
 }
 
 // The input ended: well at the start of a line, badly within one.
-pub fn ended(line: Line) -> Line {
+pub(crate) fn ended(line: Line) -> Line {
     let part = line.part;
     match part {
         Part::Name => {
@@ -162,7 +162,7 @@ pub fn ended(line: Line) -> Line {
     }
 }
 
-pub fn is_over(line: Line) -> bool {
+pub(crate) fn is_over(line: Line) -> bool {
     let part = line.part;
     match part {
         Part::Bad => true,

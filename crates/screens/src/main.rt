@@ -56,12 +56,6 @@ fn run_case(name: &[u8; 64], size: usize, bytes: &[u8; BYTES]) {
     show(name, size, wide(after.refused), before, after.configuration);
 }
 
-fn clear(bytes: &mut [u8; BYTES]) {
-    for i in 0..BYTES {
-        bytes[i] = 0;
-    }
-}
-
 // At the end of a line its case is run, and the next line begins with nothing lent.
 fn take_byte(line: Line, b: u8, name: &mut [u8; 64], bytes: &mut [u8; BYTES]) -> Line {
     let next = read_byte(line, b, name, bytes);
@@ -69,7 +63,7 @@ fn take_byte(line: Line, b: u8, name: &mut [u8; 64], bytes: &mut [u8; BYTES]) ->
     match part {
         Part::Done => {
             run_case(name, next.size, bytes);
-            clear(bytes);
+            *bytes = [0; BYTES];
             fresh()
         }
         _ => next,

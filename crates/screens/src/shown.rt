@@ -135,7 +135,13 @@ fn write_line(
     write_byte(line, moved, b'\n')
 }
 
-pub fn show(name: &[u8], size: usize, refused: usize, before: Configuration, after: Configuration) {
+pub(crate) fn show(
+    name: &[u8],
+    size: usize,
+    refused: usize,
+    before: Configuration,
+    after: Configuration,
+) {
     let mut old = [0u8; BYTES];
     put_configuration(&mut old, before);
     let mut new = [0u8; BYTES];
