@@ -65,8 +65,8 @@ headed depth count = tables depth count plain sources destinations behaviors kin
 abbrev pub typed : ComponentType → Tables
 typed v = tables 0 1 v sources destinations behaviors kinds groups holds
 
-abbrev pub ended : ℕ → ℕ → Tables
-ended from to = tables 0 1 plain (set sources 0 from) (set destinations 0 to) behaviors kinds groups holds
+abbrev pub leading : ℕ → ℕ → Tables
+leading from to = tables 0 1 plain (set sources 0 from) (set destinations 0 to) behaviors kinds groups holds
 
 abbrev pub behaving : ℕ → Tables
 behaving m = tables 0 1 plain sources destinations (set behaviors 0 m) kinds groups holds
@@ -150,26 +150,31 @@ inStep f n m = record { given = λ x. lent (base .tables) (base .program) (base 
 -- "tables or program break a sheet's rules": the limits, then the clauses of 4
 abbrev pub tableRows : List Row
 tableRows =
+    -- the depth; too few types and too many
     inTables (λ n. headed n 1) 8 9
     ∷ inTables (λ n. headed 0 n) 1 0
     ∷ inTables (λ n. headed 0 n) 16 17
+    -- too few places and too many; an initial place outside; transitions, and an end of one outside; behaviors, and a transition of one outside
     ∷ inTables (λ n. typed (type n 1 1 1 2)) 2 0
     ∷ inTables (λ n. typed (type n 1 1 1 2)) 16 17
     ∷ inTables (λ n. typed (type 2 n 1 1 2)) 1 4
     ∷ inTables (λ n. typed (type 2 1 n 1 2)) 32 33
-    ∷ inTables (λ n. ended n 1) 0 2
-    ∷ inTables (λ n. ended 0 n) 1 2
+    ∷ inTables (λ n. leading n 1) 0 2
+    ∷ inTables (λ n. leading 0 n) 1 2
     ∷ inTables (λ n. typed (type 2 1 1 n 2)) 8 9
     ∷ inTables behaving 1 2
+    -- ports; a kind that is neither; a place and a transition of a group outside
     ∷ inTables (λ n. typed (type 2 1 1 1 n)) 16 17
     ∷ inTables (λ n. porting 1 n 1 1) 0 2
     ∷ inTables (λ n. porting 1 0 n 1) 1 4
     ∷ inTables (λ n. porting 1 0 1 n) 1 2
+    -- "`initial` empty; `tran` with source equal to destination; a use port whose group has an initial place"
     ∷ inTables (λ n. typed (type 2 n 1 1 2)) 1 0
-    ∷ inTables (λ n. ended n 1) 0 1
+    ∷ inTables (λ n. leading n 1) 0 1
     ∷ inTables (λ n. porting 0 1 n 0) 2 1
     ∷ []
 
+-- how many instructions; of one that is done: a code that no line says, an id, a type, a behavior, the ports and the provider
 abbrev pub programRows : List Row
 programRows =
     inProgram (program noInstruction) 256 257
@@ -185,7 +190,7 @@ programRows =
     ∷ inProgram (λ n. program (instruction dconVerb 0 0 0 n) 2) 15 16
     ∷ []
 
--- "the step breaks an answer line's"
+-- "the step breaks an answer line's": a code that no line says, ids, places and transitions
 abbrev pub stepRows : List Row
 stepRows =
     inStep (λ n. step n 0 0) 4 5
@@ -198,6 +203,7 @@ stepRows =
     ∷ inStep (λ n. step finishVerb n 0) 31 32
     ∷ []
 
+-- "or the configuration has"
 abbrev pub configurationRows : List Row
 configurationRows =
     -- "a number of a present instance outside its type or the limits above": its type, its sets, a behavior of its queue
