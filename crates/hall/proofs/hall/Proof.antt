@@ -52,6 +52,7 @@ use Rattle.judged.specs.Course.{default}
 use Rattle.hall.specs.Screen.{hallStep}
 use Rattle.hall.specs.Agree.{RefusedLeaves}
 use Rattle.hall.proofs.Screen.{refused-leaves}
+use Rattle.hall.proofs.Machine.{mach, machU, machP, machX}
 use Rattle.model.proofs.Configuration as T
 use Rattle.model.proofs.Configuration.Laws as T′
 use Rattle.model.proofs.Stepped as S
@@ -80,19 +81,6 @@ stayed = (stay-none (λ _. UU.the-row) yes, (stay-none (λ _. PP.the-row) yes, (
 -- the statements after the branch
 abbrev last : Code
 last = seq (assign (place 0 []) (rvOpd (copy (place 5 (field 0 ∷ []))))) return
-
--- the machine values of a configuration, of tables, of a program and of a step
-abbrev mach : Configuration → Val
-mach h = LL.val T.the-type T′.the-laws h
-
-abbrev machU : Tables → Val
-machU t = LL.val UU.the-type UL.the-laws t
-
-abbrev machP : Program → Val
-machP p = LL.val PP.the-type PL.the-laws p
-
-abbrev machX : Step → Val
-machX s = LL.val XX.the-type XL.the-laws s
 
 module _ {M : Type 1} (𝓤 : URA M) (H : Heap 𝓤) (A : Atoms 𝓤) (at-mem : Memory → SProp 𝓤) (run : Routine → Fun 𝓤) where
   -- the contract that the proof cites, and its clause

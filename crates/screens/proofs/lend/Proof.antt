@@ -46,6 +46,7 @@ use Rattle.model.specs.declared.Step.{Step}
 use Rattle.model.specs.declared.Stepped.{Stepped}
 use Rattle.judged.specs.Course.{default}
 use Rattle.hall.specs.Screen.{hallStep}
+use Rattle.hall.proofs.Machine.{mach, machU, machP, machX}
 use Rattle.model.proofs.Configuration as T
 use Rattle.model.proofs.Configuration.Laws as T′
 use Rattle.model.proofs.Stepped as S
@@ -71,19 +72,6 @@ use Rattle.screens.proofs.lend.Code as code
 
 abbrev stayed : Stays (lend.ended .signature .params) (lend.ended .kept)
 stayed = (stay-none (λ _. UU.the-row) yes, (stay-none (λ _. PP.the-row) yes, (stay-none (λ _. T.the-row) yes, (stay-none (λ _. XX.the-row) yes, tt))))
-
--- the machine values of a configuration, of tables, of a program and of a step
-abbrev mach : Configuration → Val
-mach h = LL.val T.the-type T′.the-laws h
-
-abbrev machU : Tables → Val
-machU t = LL.val UU.the-type UL.the-laws t
-
-abbrev machP : Program → Val
-machP p = LL.val PP.the-type PL.the-laws p
-
-abbrev machX : Step → Val
-machX s = LL.val XX.the-type XL.the-laws s
 
 module _ {M : Type 1} (𝓤 : URA M) (H : Heap 𝓤) (A : Atoms 𝓤) (at-mem : Memory → SProp 𝓤) (run : Routine → Fun 𝓤) where
   -- the contracts that the proof cites
