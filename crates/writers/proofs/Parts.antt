@@ -1,29 +1,33 @@
--- The report's parts: the count of those present, the line of an instance, the line of a connection looked up from the last one down.
+-- The report's parts: the count of those present, the line of an instance, the lines of a user's connections by port.
 -- Assumes nothing.
 use Prim.Native.Nat.{ℕ, zero, suc, _+_, _-_, _*_, _/_, _%_, _≤_, _<_}
 use mathlib.Core.Path.{_≡_, refl, ap, ap₂, sym, _∙_}
 use mathlib.Core.Logic.{by-cases}
-use mathlib.Core.Bool.{Bool, true, false}
+use mathlib.Core.Bool.{Bool, true, false, _&&_, or-true, or-false}
 use mathlib.Core.List.{List, [], _++_, append-assoc, append-nil}
 use native.Mathlib.Omega.{arith}
 use native.Mathlib.Numerals.{add-one}
 use native.Mathlib.Nat.{add-zero}
-use native.Mathlib.Decide.{decLt}
-use borrow.Author.Tests.{eq-eqb, ne-eqb}
-use lib.Dec.{eqb}
-use lib.ListN.{length, getD, take, drop, length-drop}
-use lib.Seq.{take-all, getD-drop}
-use Rattle.forms.specs.Write.{inTurn}
+use native.Mathlib.Decide.{ℕ-discrete, decLt}
+use borrow.Author.Tests.{eq-eqb, ne-eqb, lt-ltb, le-ltb}
+use lib.Dec.{eqb, ltb}
+use lib.ListN.{length, getD, set, take, drop, length-drop, replicate, length-set, length-replicate}
+use lib.Seq.{take-all, getD-drop, getD-set-same, getD-set-other}
+use Rattle.forms.proofs.Tests.{by-test}
+use Rattle.forms.specs.Write.{when, inTurn}
+use Rattle.sets.specs.Mask.{member, with}
+use Rattle.sets.proofs.Laws.{member-none, member-with}
 use Rattle.model.specs.declared.Instance.{Instance}
 use Rattle.model.specs.declared.Connection.{Connection}
 use Rattle.model.specs.declared.Configuration.{Configuration}
-use Rattle.model.specs.Empty.{absent}
+use Rattle.model.specs.Empty.{absent, noConnection}
 use Rattle.model.specs.View.{instance, connection, slot, listOf, queueOf}
 use Rattle.model.proofs.View.{past-end, list-same}
 use Rattle.model.specs.declared.Walked.{Walked}
 use Rattle.report.specs.Report.{tally, instanceText, connectionText, instanceAt, connectionAt, instancesText, connectionsText, report}
+use Rattle.writers.specs.declared.ByPort.{ByPort}
 use Rattle.writers.specs.declared.Lines.the-variants as lines
-use Rattle.writers.specs.Lines.{lineOf, headPart, instancesPart, connectionsPart}
+use Rattle.writers.specs.Lines.{noted, byPort, lineOf, headPart, instancesPart, connectionsPart}
 
 -- ---- a count
 
@@ -68,28 +72,49 @@ slots-of c i n e h =
     list-same n (λ r. getD (take (256 - i * 8) part) r 0) (slot c i)
     (λ r l. ap (λ (q : List ℕ). getD q r 0) all ∙ getD-drop (i * 8) (c .queue) r 0)
 
--- ---- a connection, looked up from the last one down
+-- ---- the connections of a user by port
 
-module _ (c : Configuration) (u q n : ℕ) (k : Connection) (more : 0 < n) (is : k ≡ connection c (n - 1)) where
-  last : connectionAt c n u q ≡ connectionAt c (suc (n - 1)) u q
-  last = ap (λ (m : ℕ). connectionAt c m u q) (let e : n ≡ suc (n - 1) = omega arith in e)
+-- what stands for port q: its line, nothing where it has no connection
+abbrev pub lineBy : ByPort → ℕ → List ℕ
+lineBy b q = when (member q (b .ports)) (connectionText (getD (b .connections) q noConnection))
 
-  pub found : k .user ≡ u → eqb (k .useport) q ≡ true → connectionAt c n u q ≡ connectionText k
-  unfolding connectionAt
-  found a b = last ∙ rw (eq-eqb (connection c (n - 1) .user) u (rw is at a), rw is at b, connectionAt) (ap connectionText (sym is))
+module _ (c : Configuration) (u : ℕ) where
+  by-port-full : (n : ℕ) → length (byPort c u n .connections) ≡ 16
+  unfolding byPort noted
+  by-port-full zero = length-replicate 16 noConnection
+  by-port-full (suc n) =
+      by-test (eqb (connection c n .user) u && ltb (connection c n .useport) 16)
+      (λ h. rw h (length-set (byPort c u n .connections) (connection c n .useport) (connection c n) ∙ by-port-full n))
+      (λ h. rw h (by-port-full n))
 
-  pub other-user : (k .user ≡ u → ⊥) → connectionAt c n u q ≡ connectionAt c (n - 1) u q
-  unfolding connectionAt
-  other-user a = last ∙ rw (ne-eqb (connection c (n - 1) .user) u (rw is at a), connectionAt)
+  pub by-port-line : (n q : ℕ) → q < 16 → connectionAt c n u q ≡ lineBy (byPort c u n) q
+  unfolding connectionAt byPort noted
+  by-port-line zero q h = rw (member-none q)
+  by-port-line (suc n) q h =
+      let k = connection c n in
+      let old = byPort c u n in
+      by-cases (ℕ-discrete (k .user) u)
+      (λ own. by-cases (ℕ-discrete (k .useport) q)
+      (λ here.
+      let marked = rw (eq-eqb q (k .useport) (sym here), or-true) at (member-with q (k .useport) (old .ports) (omega arith)) in
+      let held = getD-set-same (old .connections) (k .useport) k noConnection (omega (arith, by-port-full n)) in
+      rw (eq-eqb _ _ own, eq-eqb _ _ here, connectionAt, lt-ltb (k .useport) 16 (omega arith), marked)
+      (ap connectionText (sym held ∙ ap (λ (x : ℕ). getD (set (old .connections) (k .useport) k) x noConnection) here)))
+      (λ other. by-cases (decLt (k .useport) 16)
+      (λ low.
+      let marked = rw (ne-eqb q (k .useport) (λ e. other (sym e)), or-false) at (member-with q (k .useport) (old .ports) (omega arith)) in
+      let held = getD-set-other (old .connections) (k .useport) q k noConnection (λ e. other (sym e)) in
+      rw (eq-eqb _ _ own, ne-eqb _ _ other, connectionAt, lt-ltb _ _ low, marked, held) (by-port-line n q h))
+      (λ high. rw (eq-eqb _ _ own, ne-eqb _ _ other, connectionAt, le-ltb (k .useport) 16 (omega arith)) (by-port-line n q h))))
+      (λ foreign. rw (ne-eqb _ _ foreign, connectionAt) (by-port-line n q h))
 
-  pub other-port : k .user ≡ u → eqb (k .useport) q ≡ false → connectionAt c n u q ≡ connectionAt c (n - 1) u q
-  unfolding connectionAt
-  other-port a b = last ∙ rw (eq-eqb (connection c (n - 1) .user) u (rw is at a), rw is at b, connectionAt)
+  pub by-port-none : record { connections = replicate 16 noConnection; ports = 0 } ≡ byPort c u 0
+  unfolding byPort
+  by-port-none = refl
 
-pub none-found : (c : Configuration) (u q n : ℕ) → n ≤ 0 → connectionAt c n u q ≡ []
-unfolding connectionAt
-none-found c u q zero h = refl
-none-found c u q (suc n) h = absurd (omega arith)
+  pub by-port-more : (b d : ByPort) (k : Connection) (l : ℕ) → b ≡ byPort c u l → k ≡ connection c l → d ≡ noted b u k → d ≡ byPort c u (l + 1)
+  unfolding byPort
+  by-port-more b d k l e f g = g ∙ rw (e, f, add-one l)
 
 -- ---- lines in turn
 
@@ -106,34 +131,18 @@ unfolding inTurn
 turn-same f g zero e = refl
 turn-same f g (suc n) e = ap₂ _++_ (turn-same f g n (λ k h. e k (omega arith))) (e n (omega arith))
 
-turn-add : (f : ℕ → List ℕ) (m n : ℕ) → inTurn f (m + n) ≡ inTurn f m ++ inTurn (λ k. f (m + k)) n
-unfolding inTurn
-turn-add f m zero = rw (add-zero m) (sym (append-nil (inTurn f m)))
-turn-add f m (suc n) =
-    let e : m + suc n ≡ suc (m + n) = omega arith in
-    rw e (ap (λ (xs : List ℕ). xs ++ f (m + n)) (turn-add f m n) ∙ append-assoc (inTurn f m) (inTurn (λ k. f (m + k)) n) (f (m + n)))
-
--- sixteen for each of n, one after the other
-turn-turn : (g : ℕ → ℕ → List ℕ) (n : ℕ) → inTurn (λ k. g (k / 16) (k % 16)) (n * 16) ≡ inTurn (λ u. inTurn (g u) 16) n
-unfolding inTurn
-turn-turn g zero = refl
-turn-turn g (suc n) =
-    let e : suc n * 16 ≡ n * 16 + 16 = omega arith in
-    let at : (k : ℕ) → k < 16 → g ((n * 16 + k) / 16) ((n * 16 + k) % 16) ≡ g n k =
-    λ k h. let d : (n * 16 + k) / 16 ≡ n = omega arith in let r : (n * 16 + k) % 16 ≡ k = omega arith in rw (d, r) in
-    rw e (turn-add (λ k. g (k / 16) (k % 16)) (n * 16) 16
-    ∙ ap₂ _++_ (turn-turn g n) (turn-same (λ k. g ((n * 16 + k) / 16) ((n * 16 + k) % 16)) (g n) 16 at))
+-- the lines of all sixteen ports
+pub by-port-lines : (c : Configuration) (u : ℕ) (b : ByPort) → b ≡ byPort c u (c .count) → inTurn (lineBy b) 16 ≡ inTurn (connectionAt c (c .count) u) 16
+by-port-lines c u b e = turn-same (lineBy b) (connectionAt c (c .count) u) 16 (λ q h. rw e (sym (by-port-line c u (c .count) q h)))
 
 module _ (c : Configuration) where
   pub instances-lines : inTurn (lineOf c lines.Instances) 32 ≡ instancesText c
   unfolding lineOf instancesText
   instances-lines = turn-same (lineOf c lines.Instances) (instanceAt c) 32 (λ k h. refl)
 
-  pub connections-lines : inTurn (lineOf c lines.Connections) 512 ≡ connectionsText c
+  pub connections-lines : inTurn (lineOf c lines.Connections) 32 ≡ connectionsText c
   unfolding lineOf connectionsText
-  connections-lines =
-      turn-same (lineOf c lines.Connections) (λ k. connectionAt c (c .count) (k / 16) (k % 16)) 512 (λ k h. refl)
-      ∙ turn-turn (connectionAt c (c .count)) 32
+  connections-lines = turn-same (lineOf c lines.Connections) (λ u. inTurn (connectionAt c (c .count) u) 16) 32 (λ u h. refl)
 
 pub parts : (w : Walked) → headPart w ++ instancesPart (w .configuration) ++ connectionsPart (w .configuration) ≡ report w
 unfolding headPart instancesPart connectionsPart report

@@ -10,16 +10,18 @@ use model::Connection;
 use model::Instance;
 use model::Text;
 use model::Walked;
-use model::connection_of;
 use model::instance_of;
+use model::no_connection;
+use sets::member;
+use sets::with;
 ghost use mathlib.Core.Path.{_≡_};
 ghost use lib.ListN.{length, getD};
 ghost use Rattle.model.specs.View.{instance, listOf};
-ghost use Rattle.forms.specs.Write.{inTurn};
+ghost use Rattle.forms.specs.Write.{when, inTurn};
 ghost use Rattle.report.specs.Report.{tally, countText, instanceText, connectionText, instanceAt, connectionAt, report};
 ghost use Rattle.report.specs.Faults.{textText, faultText};
 ghost use Rattle.inks.specs.Written.{Written};
-ghost use Rattle.writers.specs.Lines.{lineOf, headPart, instancesPart, connectionsPart};
+ghost use Rattle.writers.specs.Lines.{noted, byPort, lineOf, headPart, instancesPart, connectionsPart};
 
 // key=number
 fn write_count(t: &mut [u8], key: &[u8], v: usize) -> usize
@@ -77,19 +79,71 @@ fn write_instance_at(t: &mut [u8], c: Configuration, i: usize) -> usize
     write_instance(t, i, w, &queue[start..])
 }
 
-// The line of the last connection with this user and its port, nothing where there is none.
-fn write_connection_at(t: &mut [u8], c: Configuration, user: usize, port: usize) -> usize
-    ensures { λ r. ⌜ Written (now (t .entry)) (connectionAt c (c .count) user port) (now (t .exit)) 0 r ⌝ }
+// A user's connections: the last of each of its sixteen ports, and which ports have one.
+struct ByPort {
+    connections: [Connection; 16],
+    ports: u32,
+}
+
+// One connection more, where it is this user's.
+fn noted(b: ByPort, user: usize, k: Connection) -> ByPort
+    ensures { λ r. ⌜ r ≡ noted b user k ⌝ }
 {
-    let mut n = c.count as usize;
-    while 0 < n {
-        n -= 1;
-        let k = connection_of(c, n);
-        if k.user as usize == user && k.useport as usize == port {
-            return write_connection(t, k);
-        }
+    if k.user as usize != user {
+        return b;
     }
-    0
+    if 16 <= k.useport {
+        return b;
+    }
+    let port = k.useport as usize;
+    let mut next = b;
+    next.connections[port] = k;
+    next.ports = with(b.ports, k.useport as u32);
+    next
+}
+
+// In one pass, so that no line is looked for in the whole list.
+fn by_port(c: Configuration, user: usize) -> ByPort
+    ensures { λ r. ⌜ r ≡ byPort c user (c .count) ⌝ }
+{
+    let mut b = ByPort {
+        connections: [no_connection(); 16],
+        ports: 0,
+    };
+    let n = c.count as usize;
+    let mut l: usize = 0;
+    while l < n {
+        let k = if l < 64 {
+            c.connections[l]
+        } else {
+            no_connection()
+        };
+        b = noted(b, user, k);
+        l += 1;
+    }
+    b
+}
+
+// A connection's line, nothing where there is none.
+fn write_found(t: &mut [u8], found: bool, k: Connection) -> usize
+    ensures { λ r. ⌜ Written (now (t .entry)) (when found (connectionText k)) (now (t .exit)) 0 r ⌝ }
+{
+    if found { write_connection(t, k) } else { 0 }
+}
+
+// The lines of a user's connections by port.
+fn write_connections_of(t: &mut [u8], c: Configuration, user: usize) -> usize
+    ensures { λ r. ⌜ Written (now (t .entry)) (inTurn (connectionAt c (c .count) user) 16) (now (t .exit)) 0 r ⌝ }
+{
+    let b = by_port(c, user);
+    let mut used: usize = 0;
+    let mut q: usize = 0;
+    while q < 16 {
+        let found = member(b.ports, q as u32);
+        used += write_found(&mut t[used..], found, b.connections[q]);
+        q += 1;
+    }
+    used
 }
 
 // The lines that are written in turn, so that one loop writes both: of the instances by id, of the connections by user and then port.
@@ -98,25 +152,25 @@ enum Lines {
     Connections,
 }
 
-// Line k of them; each user has sixteen ports.
-fn write_line(t: &mut [u8], c: Configuration, lines: Lines, k: usize) -> usize
-    ensures { λ r. ⌜ Written (now (t .entry)) (lineOf c lines k) (now (t .exit)) 0 r ⌝ }
+// Those of id i.
+fn write_line(t: &mut [u8], c: Configuration, lines: Lines, i: usize) -> usize
+    ensures { λ r. ⌜ Written (now (t .entry)) (lineOf c lines i) (now (t .exit)) 0 r ⌝ }
 {
     match lines {
-        Lines::Instances => write_instance_at(t, c, k),
-        Lines::Connections => write_connection_at(t, c, k / 16, k % 16),
+        Lines::Instances => write_instance_at(t, c, i),
+        Lines::Connections => write_connections_of(t, c, i),
     }
 }
 
-// The first `count` of them.
-fn write_lines(t: &mut [u8], c: Configuration, lines: Lines, count: usize) -> usize
-    ensures { λ r. ⌜ Written (now (t .entry)) (inTurn (lineOf c lines) count) (now (t .exit)) 0 r ⌝ }
+// Those of every id.
+fn write_lines(t: &mut [u8], c: Configuration, lines: Lines) -> usize
+    ensures { λ r. ⌜ Written (now (t .entry)) (inTurn (lineOf c lines) 32) (now (t .exit)) 0 r ⌝ }
 {
     let mut used: usize = 0;
-    let mut k: usize = 0;
-    while k < count {
-        used += write_line(&mut t[used..], c, lines, k);
-        k += 1;
+    let mut i: usize = 0;
+    while i < 32 {
+        used += write_line(&mut t[used..], c, lines, i);
+        i += 1;
     }
     used
 }
@@ -150,7 +204,7 @@ fn write_instances(t: &mut [u8], c: Configuration) -> usize
     ensures { λ r. ⌜ Written (now (t .entry)) (instancesPart c) (now (t .exit)) 0 r ⌝ }
 {
     let used = write_count(t, b"instances=", present(c));
-    used + write_lines(&mut t[used..], c, Lines::Instances, 32)
+    used + write_lines(&mut t[used..], c, Lines::Instances)
 }
 
 // connections= and a line for each
@@ -158,7 +212,7 @@ fn write_connections(t: &mut [u8], c: Configuration) -> usize
     ensures { λ r. ⌜ Written (now (t .entry)) (connectionsPart c) (now (t .exit)) 0 r ⌝ }
 {
     let used = write_count(t, b"connections=", c.count as usize);
-    used + write_lines(&mut t[used..], c, Lines::Connections, 512)
+    used + write_lines(&mut t[used..], c, Lines::Connections)
 }
 
 // The whole report.

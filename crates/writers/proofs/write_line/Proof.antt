@@ -9,7 +9,7 @@ returns c = rw (c .before .before .before .before .enum-told .given .1) (c .befo
 
 returns-2 : tie.Need-returns-2
 unfolding lineOf
-returns-2 c = rw (c .before .before .before .before .enum-told2 .given .1) (c .before .before .write-connection-at .ensures)
+returns-2 c = rw (c .before .before .before .before .enum-told2 .given .1) (c .before .before .write-connections-of .ensures)
 
 pub write-line-spec : {M : Type 1} → statement M
 write-line-spec =

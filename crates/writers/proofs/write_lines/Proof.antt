@@ -1,4 +1,4 @@
--- The first k lines are written; what is left of them falls.
+-- The lines of the ids below i are written; what is left of the 32 falls.
 use Prim.Native.Nat.{_≤_, _-_}
 use mathlib.Core.Path.{_≡_, refl}
 use native.Mathlib.Omega.{arith}
@@ -13,10 +13,10 @@ use Rattle.writers.proofs.write_lines.Statement.{statement}
 use Rattle.writers.proofs.write_lines.Tie as tie
 
 abbrev Inv-loop : tie.InvT-loop
-Inv-loop t₀ c lines count used₀ k₀ t used k = (k ≤ count) × (length t ≡ length t₀) × Written t₀ (inTurn (lineOf c lines) k) t 0 used
+Inv-loop t₀ c lines used₀ i₀ t used i = (i ≤ 32) × (length t ≡ length t₀) × Written t₀ (inTurn (lineOf c lines) i) t 0 used
 
 abbrev μ-loop : tie.MeasureT-loop
-μ-loop t₀ c lines count used₀ k₀ t used k = count - k
+μ-loop t₀ c lines used₀ i₀ t used i = 32 - i
 
 loop-holds : tie.Need-loop-holds Inv-loop μ-loop
 loop-holds c = (omega arith, refl, rw (turn-none _) (none _ _))
@@ -28,7 +28,7 @@ loop-again c =
     (omega arith, length-written w, rw (turn-more _ _) w)
 
 returns : tie.Need-returns Inv-loop μ-loop
-returns c = let e : c .before .loop .k ≡ c .before .before .before .args .count = omega arith in rw e at (c .before .loop .inv .2)
+returns c = let e : c .before .loop .i ≡ 32 = omega arith in rw e at (c .before .loop .inv .2)
 
 pub write-lines-spec : {M : Type 1} → statement M
 write-lines-spec =
