@@ -1,2 +1,3 @@
 -- The checks that several moves share.
 pub mod Rows
+pub mod Plans

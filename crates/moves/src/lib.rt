@@ -1,31 +1,21 @@
-// The four moves: fire, end, enter and finish.
-// Promised: for any tables, configuration and numbers, the refusal of rules/specs and nothing changed, or 0 and its new configuration.
-use model::Configuration;
+// The four moves on one instance: fire, end, enter and finish. What they ask of ports and what becomes of the queue is for the caller.
+// Promised: for any tables, instance and numbers, the plan that specs/Plans says, made of the rows and effects of rules/specs.
 use model::Instance;
-use model::Stepped;
-use model::Tables;
-use model::instance_of;
-use model::put_instance;
 use ports::gap::close_gap;
 use ports::instance::PlaceTest;
-use ports::instance::behavior;
 use ports::instance::ending_at;
 use ports::instance::fired;
 use ports::instance::held;
 use ports::instance::some_place;
-use ports::port_check;
 use ports::refuse_if;
 ghost use mathlib.Core.Path.{_≡_};
+ghost use mathlib.Core.List.{[]};
 ghost use Prim.Native.Nat.{_-_};
-ghost use Rattle.model.specs.View.{instance, put};
-ghost use Rattle.rules.specs.Refusal.{orElse, settle};
-ghost use Rattle.rules.specs.Instance.{endedBy, entered};
-ghost use Rattle.rules.specs.Ports.{portCheck};
-ghost use Rattle.rules.specs.Fire.{fireCheck, fireTo};
-ghost use Rattle.rules.specs.End.{endCheck, endTo};
-ghost use Rattle.rules.specs.Enter.{enterCheck, enterTo};
-ghost use Rattle.rules.specs.Finish.{finishCheck, finished};
+ghost use Rattle.sets.specs.Mask.{collect};
+ghost use Rattle.rules.specs.Instance.{endsAt, endedBy, entered};
+ghost use Rattle.ports.specs.Rows.{rows, endOf};
 ghost use Rattle.moves.specs.Rows.{firstly, row};
+ghost use Rattle.moves.specs.Plans.{firePlan, enterPlan, endPlan, finishPlan, headless};
 
 const ID_ABSENT: u8 = 11;
 
@@ -58,43 +48,27 @@ fn row(xs: u32, ready: bool, taken: bool) -> u8
     refuse_if(xs == 0, NO_TRANSITION, refuse_if(!ready, NOT_READY, late))
 }
 
-// What a step answers with the number n: only 0 lets the new configuration in.
-fn settled(n: u8, old: Configuration, new: Configuration) -> Stepped
-    ensures { λ r. ⌜ r ≡ settle n old new ⌝ }
-{
-    if n == 0 {
-        return Stepped {
-            refused: 0,
-            configuration: new,
-        };
-    }
-    Stepped {
-        refused: n,
-        configuration: old,
-    }
+// What a move comes to on its instance: the number of the refusal, or 0, before any port is looked at; the instance after it; and how many
+// queue slots lose their head, 0 where the queue stays.
+pub struct Plan {
+    pub refused: u8,
+    pub after: Instance,
+    pub closing: u8,
 }
 
-// Instance i is to be w, where the rest of the row allows it: fire and enter share the port check, made on a trial configuration.
-fn moved(t: Tables, c: Configuration, i: u8, w: Instance, rest: u8) -> Stepped
-    ensures { λ r. ⌜ r ≡ settle (orElse (firstly (instance c i) rest) (portCheck t c i (instance c i) w)) c (put c i w) ⌝ }
+pub fn fire(source: &[u8; 512], v: Instance, m: u32, p: u8) -> Plan
+    ensures { λ r. ⌜ r ≡ firePlan (collect 32 (endsAt (endOf (now (source .entry)) (v .kind)) m p)) v p ⌝ }
 {
-    let early = first(instance_of(c, i as usize), rest);
-    let trial = put_instance(c, i as usize, w);
-    if early != 0 {
-        return settled(early, c, trial);
-    }
-    settled(port_check(t, c, trial, i), c, trial)
-}
-
-pub fn fire(t: Tables, c: Configuration, i: u8, p: u8) -> Stepped
-    ensures { λ r. ⌜ r ≡ settle (fireCheck t c i p) c (fireTo t c i p) ⌝ }
-{
-    let v = instance_of(c, i as usize);
-    let m = behavior(&t.behaviors, c, i);
-    let xs = ending_at(&t.transitions.source, v.kind, m, p as u32);
+    let xs = ending_at(source, v.kind, m, p as u32);
     let marked = sets::member(v.marked, p as u32);
     let rest = row(xs, marked, sets::overlaps(xs, held(v)));
-    moved(t, c, i, fired(v, p as u32, xs), rest)
+    let refused = first(v, rest);
+    let after = fired(v, p as u32, xs);
+    Plan {
+        refused,
+        after,
+        closing: 0,
+    }
 }
 
 fn entered(v: Instance, p: u32, xs: u32) -> Instance
@@ -107,15 +81,19 @@ fn entered(v: Instance, p: u32, xs: u32) -> Instance
     w
 }
 
-pub fn enter(t: Tables, c: Configuration, i: u8, p: u8) -> Stepped
-    ensures { λ r. ⌜ r ≡ settle (enterCheck t c i p) c (enterTo t c i p) ⌝ }
+pub fn enter(destination: &[u8; 512], v: Instance, m: u32, p: u8) -> Plan
+    ensures { λ r. ⌜ r ≡ enterPlan (collect 32 (endsAt (endOf (now (destination .entry)) (v .kind)) m p)) v p ⌝ }
 {
-    let v = instance_of(c, i as usize);
-    let m = behavior(&t.behaviors, c, i);
-    let xs = ending_at(&t.transitions.destination, v.kind, m, p as u32);
+    let xs = ending_at(destination, v.kind, m, p as u32);
     let marked = sets::member(v.marked, p as u32);
     let rest = row(xs, sets::within(xs, v.ended), marked);
-    moved(t, c, i, entered(v, p as u32, xs), rest)
+    let refused = first(v, rest);
+    let after = entered(v, p as u32, xs);
+    Plan {
+        refused,
+        after,
+        closing: 0,
+    }
 }
 
 fn ended_by(v: Instance, x: u32) -> Instance
@@ -127,13 +105,17 @@ fn ended_by(v: Instance, x: u32) -> Instance
     w
 }
 
-pub fn end(c: Configuration, i: u8, x: u8) -> Stepped
-    ensures { λ r. ⌜ r ≡ settle (endCheck c i x) c (endTo c i x) ⌝ }
+pub fn end(v: Instance, x: u8) -> Plan
+    ensures { λ r. ⌜ r ≡ endPlan v x ⌝ }
 {
-    let v = instance_of(c, i as usize);
     let running = sets::member(v.running, x as u32);
-    let n = first(v, refuse_if(!running, NOT_READY, 0));
-    settled(n, c, put_instance(c, i as usize, ended_by(v, x as u32)))
+    let refused = first(v, refuse_if(!running, NOT_READY, 0));
+    let after = ended_by(v, x as u32);
+    Plan {
+        refused,
+        after,
+        closing: 0,
+    }
 }
 
 // n - 1, and 0 for 0.
@@ -143,36 +125,35 @@ fn one_less(n: u8) -> u8
     if n == 0 { 0 } else { n - 1 }
 }
 
-// The head goes, and the gap in the queue is closed.
-fn finished(c: Configuration, i: u8) -> Configuration
-    ensures { λ r. ⌜ r ≡ finished c i ⌝ }
+pub fn finish<'a>(
+    source: &'a [u8; 512],
+    places: &'a [u32; 256],
+    transitions: &'a [u32; 256],
+    v: Instance,
+    m: u32,
+) -> Plan
+    ensures { λ r. ⌜ r ≡ finishPlan (rows (now (source .entry)) [] [] [] []) v m ⌝ }
 {
-    let v = instance_of(c, i as usize);
-    let at = (i as usize) * 8;
-    let queue = c.queue;
-    let closed = close_gap(queue, at, at + v.queued as usize);
-    let mut next = c;
-    next.queue = closed;
-    let mut w = v;
-    w.queued = one_less(v.queued);
-    put_instance(next, i as usize, w)
-}
-
-pub fn finish(t: Tables, c: Configuration, i: u8) -> Stepped
-    ensures { λ r. ⌜ r ≡ settle (finishCheck t c i) c (finished c i) ⌝ }
-{
-    let v = instance_of(c, i as usize);
-    let m = behavior(&t.behaviors, c, i);
-    let may_leave = some_place(
-        PlaceTest::MayLeave,
-        &t.transitions.source,
-        &t.ports.places,
-        &t.ports.transitions,
-        v,
-        m,
-    );
+    let may_leave = some_place(PlaceTest::MayLeave, source, places, transitions, v, m);
     // a place that may be left counts, also where every firing would fail its ports
     let busy = (held(v) != 0) | may_leave;
-    let n = first(v, refuse_if(busy, TOO_EARLY, 0));
-    settled(n, c, finished(c, i))
+    let refused = first(v, refuse_if(busy, TOO_EARLY, 0));
+    let mut after = v;
+    after.queued = one_less(v.queued);
+    Plan {
+        refused,
+        after,
+        closing: v.queued,
+    }
+}
+
+// Closes the gap that the head of instance i's queue leaves among its n slots; for 0 nothing moves.
+pub fn close_head(queue: &mut [u8; 256], i: u8, n: u8)
+    ensures { λ r. ⌜ now (queue .exit) ≡ headless (now (queue .entry)) i n ⌝ }
+{
+    if n == 0 {
+        return;
+    }
+    let at = (i as usize) * 8;
+    close_gap(queue, at, at + n as usize);
 }

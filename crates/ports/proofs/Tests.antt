@@ -4,13 +4,15 @@
 use mathlib.Core.Path.{_≡_, refl, sym}
 use mathlib.Core.Bool.{Bool, true, false, not, _&&_}
 use mathlib.Core.List.{[]}
-use Prim.Native.Nat.{ℕ}
+use Prim.Native.Nat.{ℕ, _*_}
+use native.Mathlib.Nat.{add-zero}
 use lib.Dec.{eqb}
+use lib.ListN.{getD}
 use Rattle.model.specs.declared.Tables.{Tables}
 use Rattle.model.specs.declared.Instance.{Instance}
 use Rattle.model.specs.declared.Connection.{Connection}
 use Rattle.model.specs.declared.Configuration.{Configuration}
-use Rattle.model.specs.View.{isUse}
+use Rattle.model.specs.View.{isUse, instance, head}
 use Rattle.rules.specs.Instance.{active, current, leaving}
 use Rattle.rules.specs.Ports.{someConnection, wouldLeave, refusing, serves, blocks, employs, failsUnserved, failsRefusing, failsInUse}
 use Rattle.ports.specs.declared.PortTest.{PortTest}
@@ -29,7 +31,7 @@ and-assoc-inner false b d x = refl
 
 module _ (t : Tables) (c : Configuration) (i q : ℕ) where
   -- a connection
-  passes-split : (test : ConnectionTest) (k : Connection) → passes test t c i q k ≡ (joins (endsOf test k) i q && farPasses test t c (endsOf test k))
+  passes-split : (test : ConnectionTest) (k : Connection) → passes test t c i q k ≡ (joins (endsOf test k) i q && farPasses test t (instance c (endsOf test k .far)) (head c (endsOf test k .far)) (endsOf test k .farport))
   unfolding passes farPasses serves blocks employs
   passes-split ConnectionTest.Serves k = and-assoc (eqb (k .user) i) (eqb (k .useport) q) _
   passes-split ConnectionTest.Blocks k = and-assoc (eqb (k .user) i) (eqb (k .useport) q) _
@@ -41,8 +43,10 @@ module _ (t : Tables) (c : Configuration) (i q : ℕ) where
     passes-apart other = rw (← same, passes-split test k, ← ends, other)
 
     -- of this port
-    pub passes-joined : (r : Bool) → joins e i q ≡ true → r ≡ farPasses test t c e → passes test t c i q l ≡ r
-    passes-joined r here asked = rw (← same, passes-split test k, ← ends, here) (sym asked)
+    pub passes-joined : (r : Bool) (v : Instance) (h : ℕ) → joins e i q ≡ true → v ≡ instance c (e .far) → h ≡ getD (c .queue) (e .far * 8) 0
+        → r ≡ farPasses test t v h (e .farport)
+        → passes test t c i q l ≡ r
+    passes-joined r v h here far first asked = rw (← same, passes-split test k, ← ends, here, add-zero, ← first, ← far) (sym asked)
 
   -- a port
   pub fails-split : (test : PortTest) (v w : Instance)
@@ -61,11 +65,3 @@ module _ (t : Tables) (c : Configuration) (i : ℕ) where
   passes-lent ConnectionTest.Serves q = refl
   passes-lent ConnectionTest.Blocks q = refl
   passes-lent ConnectionTest.Employs q = refl
-
-  pub fails-lent : (test : PortTest) (v w : Instance) (q : ℕ)
-      → fails test t c i v w q
-      ≡ fails test (rows (t .transitions .source) (t .behaviors) (t .ports .uses) (t .ports .places) (t .ports .transitions)) c i v w q
-  unfolding fails failsUnserved failsRefusing failsInUse someConnection serves blocks employs refusing wouldLeave leaving current active
-  fails-lent PortTest.Unserved v w q = refl
-  fails-lent PortTest.Refusing v w q = refl
-  fails-lent PortTest.InUse v w q = refl

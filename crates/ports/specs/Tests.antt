@@ -2,14 +2,15 @@
 use mathlib.Core.Bool.{Bool, not, _&&_}
 use Prim.Native.Nat.{ℕ}
 use lib.Dec.{eqb}
+use Rattle.sets.specs.Test.{any}
 use Rattle.model.specs.declared.Tables.{Tables}
 use Rattle.model.specs.declared.Instance.{Instance}
 use Rattle.model.specs.declared.Connection.{Connection}
 use Rattle.model.specs.declared.Configuration.{Configuration}
-use Rattle.model.specs.View.{instance}
-use Rattle.rules.specs.Instance.{active}
-use Rattle.rules.specs.Ports.{behavior, wouldLeave, refusing, serves, blocks, employs, failsUnserved, failsRefusing, failsInUse}
+use Rattle.rules.specs.Instance.{active, current}
+use Rattle.rules.specs.Ports.{wouldLeave, refusing, serves, blocks, employs, failsUnserved, failsRefusing, failsInUse}
 use Rattle.rules.specs.Finish.{mayLeave}
+use Rattle.rules.specs.Refusal.{_⇒_∣_, allowed, unserved, providerRefusing, serviceInUse}
 use Rattle.ports.specs.declared.instance.PlaceTest.{PlaceTest}
 use Rattle.ports.specs.declared.connections.ConnectionTest.{ConnectionTest}
 use Rattle.ports.specs.declared.connections.Ends.{Ends}
@@ -35,11 +36,11 @@ endsOf ConnectionTest.Employs k = record { near = k .provider; nearport = k .pro
 abbrev pub joins : Ends → ℕ → ℕ → Bool
 joins e i q = eqb (e .near) i && eqb (e .nearport) q
 
--- what is asked of the other end
-unfoldable pub farPasses : ConnectionTest → Tables → Configuration → Ends → Bool
-farPasses ConnectionTest.Serves t c e = active t (instance c (e .far)) (e .farport)
-farPasses ConnectionTest.Blocks t c e = refusing t (instance c (e .far)) (behavior t c (e .far)) (e .farport)
-farPasses ConnectionTest.Employs t c e = active t (instance c (e .far)) (e .farport)
+-- what is asked of the other end, port q of v, where the head of its queue is `head`
+unfoldable pub farPasses : ConnectionTest → Tables → Instance → ℕ → ℕ → Bool
+farPasses ConnectionTest.Serves t v head q = active t v q
+farPasses ConnectionTest.Blocks t v head q = refusing t v (current t v head) q
+farPasses ConnectionTest.Employs t v head q = active t v q
 
 -- of port q of i, which goes from v to w
 unfoldable pub fails : PortTest → Tables → Configuration → ℕ → Instance → Instance → ℕ → Bool
@@ -63,3 +64,11 @@ abbrev pub isFault : PortTest → Bool → Bool
 isFault PortTest.Unserved found = not found
 isFault PortTest.Refusing found = found
 isFault PortTest.InUse found = found
+
+-- 34, 35 and 36 over n ports
+unfoldable pub portsCheck : ℕ → Tables → Configuration → ℕ → Instance → Instance → ℕ
+portsCheck n t c i v w =
+    any n (failsUnserved t c i w) ⇒ unserved
+    ∣ any n (failsRefusing t c i v w) ⇒ providerRefusing
+    ∣ any n (failsInUse t c i v w) ⇒ serviceInUse
+    ∣ allowed

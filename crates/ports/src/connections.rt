@@ -1,11 +1,13 @@
 // The tests over connections: a port of instance i is joined to an active port, to a refusing one, to one that uses it.
+use crate::gap::slot_at;
 use crate::instance::active;
-use crate::instance::behavior;
+use crate::instance::current;
 use crate::instance::refusing;
 use model::Configuration;
 use model::Connection;
-use model::instance_of;
+use model::Instance;
 use model::no_connection;
+use model::no_instance;
 ghost use mathlib.Core.Path.{_≡_};
 ghost use mathlib.Core.List.{[]};
 ghost use Rattle.rules.specs.Ports.{someConnection};
@@ -55,25 +57,26 @@ fn is_joined(e: Ends, i: u8, q: u8) -> bool
     (e.near == i) & (e.nearport == q)
 }
 
+// What is asked of the other end, port q of v, where `head` is the head of its queue.
 fn far_passes<'a>(
     test: ConnectionTest,
     source: &'a [u8; 512],
     behaviors: &'a [u32; 128],
     places: &'a [u32; 256],
     transitions: &'a [u32; 256],
-    c: Configuration,
-    e: Ends,
+    v: Instance,
+    head: u8,
+    q: u8,
 ) -> bool
-    ensures { λ r. ⌜ r ≡ farPasses test (rows (now (source .entry)) (now (behaviors .entry)) [] (now (places .entry)) (now (transitions .entry))) c e ⌝ }
+    ensures { λ r. ⌜ r ≡ farPasses test (rows (now (source .entry)) (now (behaviors .entry)) [] (now (places .entry)) (now (transitions .entry))) v head q ⌝ }
 {
-    let v = instance_of(c, e.far as usize);
     match test {
-        ConnectionTest::Serves => active(places, transitions, v, e.farport),
+        ConnectionTest::Serves => active(places, transitions, v, q),
         ConnectionTest::Blocks => {
-            let m = behavior(behaviors, c, e.far);
-            refusing(source, places, transitions, v, m, e.farport)
+            let m = current(behaviors, v, head);
+            refusing(source, places, transitions, v, m, q)
         }
-        ConnectionTest::Employs => active(places, transitions, v, e.farport),
+        ConnectionTest::Employs => active(places, transitions, v, q),
     }
 }
 
@@ -92,7 +95,7 @@ pub fn some_connection<'a>(
     let n = c.count as usize;
     let mut l: usize = 0;
     while l < n {
-        // the array is read here: to pass the configuration on at each connection would be to copy it
+        // the arrays are read here: to pass the configuration on would be to copy it
         let k = if l < 64 {
             c.connections[l]
         } else {
@@ -100,7 +103,23 @@ pub fn some_connection<'a>(
         };
         let e = ends_of(test, k);
         if is_joined(e, i, q) {
-            if far_passes(test, source, behaviors, places, transitions, c, e) {
+            let far = e.far as usize;
+            let v = if far < 32 {
+                c.instances[far]
+            } else {
+                no_instance()
+            };
+            let head = slot_at(&c.queue, far * 8);
+            if far_passes(
+                test,
+                source,
+                behaviors,
+                places,
+                transitions,
+                v,
+                head,
+                e.farport,
+            ) {
                 return true;
             }
         }

@@ -11,36 +11,33 @@ pub fn less(a: usize, b: usize) -> usize
     if b < a { a - b } else { 0 }
 }
 
-fn slot_at(queue: [u8; 256], at: usize) -> u8
-    ensures { λ r. ⌜ r ≡ getD queue at 0 ⌝ }
+// What stands in a slot, and 0 past the last.
+pub fn slot_at(queue: &[u8], at: usize) -> u8
+    ensures { λ r. ⌜ r ≡ getD (now (queue .entry)) at 0 ⌝ }
 {
-    if at < 256 { queue[at] } else { 0 }
+    if at < queue.len() { queue[at] } else { 0 }
 }
 
-fn put_slot(queue: [u8; 256], at: usize, x: u8) -> [u8; 256]
-    ensures { λ r. ⌜ r ≡ set queue at x ⌝ }
+fn put_slot(queue: &mut [u8], at: usize, x: u8)
+    ensures { λ r. ⌜ now (queue .exit) ≡ set (now (queue .entry)) at x ⌝ }
 {
-    let mut next = queue;
-    if at < 256 {
-        next[at] = x;
+    if at < queue.len() {
+        queue[at] = x;
     }
-    next
 }
 
 // The slots after `at` and before `end` move down one, and the last of them is freed. Those from `end` on stay as they are.
-pub fn close_gap(queue: [u8; 256], at: usize, end: usize) -> [u8; 256]
-    ensures { λ r. ⌜ r ≡ closed 0 queue at end ⌝ }
+pub fn close_gap(queue: &mut [u8; 256], at: usize, end: usize)
+    ensures { λ r. ⌜ now (queue .exit) ≡ closed 0 (now (queue .entry)) at end ⌝ }
 {
     let last = less(end, 1);
     let n = less(last, at);
-    let mut next = queue;
     let mut k: usize = 0;
     while k < n {
         let to = at + k;
-        let x = slot_at(next, to + 1);
-        let moved = put_slot(next, to, x);
-        next = moved;
+        let x = slot_at(queue, to + 1);
+        put_slot(queue, to, x);
         k += 1;
     }
-    put_slot(next, last, 0)
+    put_slot(queue, last, 0);
 }

@@ -1,15 +1,13 @@
 // One instance by itself: what is held, which ports are active, what leaves and enters a place, which ports refuse.
-use model::Configuration;
 use model::Instance;
-use model::instance_of;
 use model::mask_at;
 use model::number_at;
 ghost use mathlib.Core.Path.{_≡_};
 ghost use mathlib.Core.List.{[]};
 ghost use Rattle.sets.specs.Test.{any};
 ghost use Rattle.sets.specs.Mask.{collect};
-ghost use Rattle.rules.specs.Instance.{held, active, endsAt, fired};
-ghost use Rattle.rules.specs.Ports.{behavior, wouldLeave, refusing};
+ghost use Rattle.rules.specs.Instance.{held, active, current, endsAt, fired};
+ghost use Rattle.rules.specs.Ports.{wouldLeave, refusing};
 ghost use Rattle.rules.specs.Finish.{mayLeave};
 ghost use Rattle.ports.specs.Rows.{rows, endOf};
 ghost use Rattle.ports.specs.Tests.{leaves};
@@ -146,14 +144,12 @@ pub fn refusing<'a>(
         && some_place(PlaceTest::WouldLeave(q), source, places, transitions, v, m)
 }
 
-// The current behavior of instance i, which is the head of its queue: a set of transitions, none where the queue is empty.
-pub fn behavior(behaviors: &[u32; 128], c: Configuration, i: u8) -> u32
-    ensures { λ r. ⌜ r ≡ behavior (rows [] (now (behaviors .entry)) [] [] []) c i ⌝ }
+// The current behavior where the queue's head is `head`: a set of transitions, none where the queue is empty.
+pub fn current(behaviors: &[u32; 128], v: Instance, head: u8) -> u32
+    ensures { λ r. ⌜ r ≡ current (rows [] (now (behaviors .entry)) [] [] []) v head ⌝ }
 {
-    let v = instance_of(c, i as usize);
     if v.queued == 0 {
         return 0;
     }
-    let head = number_at(&c.queue, (i as usize) * 8);
-    mask_at(behaviors, (v.kind as usize) * 8 + head)
+    mask_at(behaviors, (v.kind as usize) * 8 + head as usize)
 }

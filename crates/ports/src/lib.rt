@@ -10,17 +10,15 @@ use instance::active;
 use model::Configuration;
 use model::Instance;
 use model::Tables;
-use model::instance_of;
+use model::no_instance;
 use model::number_at;
-use model::type_of;
 ghost use mathlib.Core.Path.{_≡_};
 ghost use Rattle.sets.specs.Test.{any};
-ghost use Rattle.model.specs.View.{instance};
+ghost use Rattle.model.specs.View.{instance, put};
 ghost use Rattle.rules.specs.Refusal.{_⇒_∣_};
-ghost use Rattle.rules.specs.Instance.{active, portsOf};
-ghost use Rattle.rules.specs.Ports.{portCheck};
+ghost use Rattle.rules.specs.Instance.{active};
 ghost use Rattle.ports.specs.Rows.{rows};
-ghost use Rattle.ports.specs.Tests.{wants, askedBy, isFault, fails};
+ghost use Rattle.ports.specs.Tests.{wants, askedBy, isFault, fails, portsCheck};
 
 const UNSERVED: u8 = 34;
 
@@ -94,23 +92,31 @@ fn fails_at<'a>(
     is_fault(test, found)
 }
 
-// Some port of instance i fails the test, where `trial` is the configuration after the move.
-fn some_port(test: PortTest, t: Tables, c: Configuration, trial: Configuration, i: u8) -> bool
-    ensures { λ r. ⌜ r ≡ any (portsOf t (instance c i)) (fails test t c i (instance c i) (instance trial i)) ⌝ }
+// One of the first n ports of instance i, which goes from v to w, fails the test.
+fn some_port<'a>(
+    test: PortTest,
+    n: u8,
+    source: &'a [u8; 512],
+    behaviors: &'a [u32; 128],
+    uses: &'a [u8; 256],
+    places: &'a [u32; 256],
+    transitions: &'a [u32; 256],
+    c: Configuration,
+    i: u8,
+    v: Instance,
+    w: Instance,
+) -> bool
+    ensures { λ r. ⌜ r ≡ any n (fails test (rows (now (source .entry)) (now (behaviors .entry)) (now (uses .entry)) (now (places .entry)) (now (transitions .entry))) c i v w) ⌝ }
 {
-    let v = instance_of(c, i as usize);
-    let w = instance_of(trial, i as usize);
-    let kind = type_of(t, v.kind as usize);
-    let n = kind.ports;
     let mut q: u8 = 0;
     while q < n {
         if fails_at(
             test,
-            &t.transitions.source,
-            &t.behaviors,
-            &t.ports.uses,
-            &t.ports.places,
-            &t.ports.transitions,
+            source,
+            behaviors,
+            uses,
+            places,
+            transitions,
             c,
             i,
             v,
@@ -131,19 +137,75 @@ pub fn refuse_if(test: bool, number: u8, rest: u8) -> u8
     if test { number } else { rest }
 }
 
-// The port check of a move of instance i, which stands before it in c and after it in `trial`: 34, 35, 36, or 0.
-pub fn port_check(t: Tables, c: Configuration, trial: Configuration, i: u8) -> u8
-    ensures { λ r. ⌜ r ≡ portCheck t c i (instance c i) (instance trial i) ⌝ }
+// The port check of a move of instance i, over n ports: v is the instance before it, and after it stands in a trial configuration beside the
+// real one. No test is made once one has failed.
+pub fn port_check<'a>(
+    n: u8,
+    source: &'a [u8; 512],
+    behaviors: &'a [u32; 128],
+    uses: &'a [u8; 256],
+    places: &'a [u32; 256],
+    transitions: &'a [u32; 256],
+    c: Configuration,
+    i: u8,
+    v: Instance,
+    after: Instance,
+) -> u8
+    ensures { λ r. ⌜ r ≡ portsCheck n (rows (now (source .entry)) (now (behaviors .entry)) (now (uses .entry)) (now (places .entry)) (now (transitions .entry))) c i v (instance (put c i after) i) ⌝ }
 {
-    let unserved = some_port(PortTest::Unserved, t, c, trial, i);
-    let refusing = some_port(PortTest::Refusing, t, c, trial, i);
-    let in_use = some_port(PortTest::InUse, t, c, trial, i);
-    let late = refuse_if(
-        refusing,
-        PROVIDER_REFUSING,
-        refuse_if(in_use, SERVICE_IN_USE, 0),
-    );
-    refuse_if(unserved, UNSERVED, late)
+    let at = i as usize;
+    let mut trial = c;
+    let mut w = no_instance();
+    if at < 32 {
+        trial.instances[at] = after;
+        w = trial.instances[at];
+    }
+    if some_port(
+        PortTest::Unserved,
+        n,
+        source,
+        behaviors,
+        uses,
+        places,
+        transitions,
+        c,
+        i,
+        v,
+        w,
+    ) {
+        return UNSERVED;
+    }
+    if some_port(
+        PortTest::Refusing,
+        n,
+        source,
+        behaviors,
+        uses,
+        places,
+        transitions,
+        c,
+        i,
+        v,
+        w,
+    ) {
+        return PROVIDER_REFUSING;
+    }
+    if some_port(
+        PortTest::InUse,
+        n,
+        source,
+        behaviors,
+        uses,
+        places,
+        transitions,
+        c,
+        i,
+        v,
+        w,
+    ) {
+        return SERVICE_IN_USE;
+    }
+    0
 }
 
 // The same as `active` of one instance, for a caller that has the tables.

@@ -1,11 +1,12 @@
 -- A walk that has come to step i: what is left of it, with i steps more.
 -- Assumes nothing.
-use mathlib.Core.Path.{_≡_, ap, _∙_}
-use mathlib.Core.Logic.{_≢_}
-use mathlib.Core.List.{_∷_}
+use mathlib.Core.Path.{_≡_, sym, ap, _∙_}
+use mathlib.Core.Logic.{_≢_, by-cases}
+use mathlib.Core.List.{[], _∷_}
 use Prim.Native.Nat.{ℕ, suc, _+_, _≤_, _<_, min}
 use native.Mathlib.Nat.{zero-add, add-zero, add-suc, suc-add, lt-of-lt-of-le, min-le-left}
 use native.Mathlib.Numerals.{add-one}
+use native.Mathlib.Decide.{ℕ-discrete}
 use borrow.Author.Tests.{eq-eqb, ne-eqb}
 use lib.ListN.{length, getD, drop, length-take, drop-of-length-le}
 use lib.Seq.{drop-cons, getD-take}
@@ -13,6 +14,7 @@ use Rattle.model.specs.declared.Tables.{Tables}
 use Rattle.model.specs.declared.Program.{Program}
 use Rattle.model.specs.declared.Answer.{Answer}
 use Rattle.model.specs.declared.Configuration.{Configuration}
+use Rattle.model.specs.declared.Step.{Step}
 use Rattle.model.specs.declared.Stepped.{Stepped}
 use Rattle.model.specs.declared.Walked.{Walked}
 use Rattle.model.specs.Empty.{noStep}
@@ -54,3 +56,14 @@ module _ (default : ℕ) (t : Tables) (p : Program) (a : Answer) (c : Configurat
       pub walk-more : m .refused ≡ 0 → rest default t p a i c ≡ rest default t p a (i + 1) (m .configuration)
       unfolding rest walk oneMore
       walk-more e = rw (here, walk, ← is, eq-eqb (m .refused) 0 e, ← is, add-suc, add-one, suc-add)
+
+-- an answer of one step
+pub walk-alone : (default : ℕ) (t : Tables) (p : Program) (c : Configuration) (s : Step) (w : Walked) → w ≡ walk default t p c (s ∷ [])
+    → record { refused = w .refused; configuration = w .configuration } ≡ step default t p c s
+unfolding walk oneMore
+walk-alone default t p c s w e =
+    let m = step default t p c s in
+    let numbered : ℕ → Stepped = λ n. record { refused = n; configuration = m .configuration } in
+    by-cases (ℕ-discrete (m .refused) 0)
+    (λ z. rw (e, walk, eq-eqb (m .refused) 0 z) (ap numbered (sym z)))
+    (λ d. rw (e, walk, ne-eqb (m .refused) 0 d))

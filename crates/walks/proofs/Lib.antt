@@ -1,3 +1,4 @@
 pub mod Settled
 pub mod Ahead
 pub mod Once
+pub mod Moves

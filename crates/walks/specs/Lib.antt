@@ -1,2 +1,3 @@
--- What an action answers, and what `next` answers.
+-- What an action answers, what `next` answers, and what a move comes to.
 pub mod Taken
+pub mod Moved

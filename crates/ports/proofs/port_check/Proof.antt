@@ -1,41 +1,52 @@
+use mathlib.Core.Path.{_≡_, sym, _∙_}
+use mathlib.Core.Logic.{⊎-elim}
+use lib.ListN.{set, length-set}
 use borrow.Author.Needs.{needs}
-use Rattle.rules.specs.Ports.{portCheck}
-use Rattle.ports.specs.Tests.{fails}
+use Rattle.model.specs.Empty.{absent}
+use Rattle.model.specs.View.{instance, put}
+use Rattle.model.proofs.View.{array-length, past-end}
+use Rattle.ports.specs.Tests.{fails, portsCheck}
 use Rattle.ports.proofs.port_check.Statement.{statement}
 use Rattle.ports.proofs.port_check.Tie as tie
 
-some-port-requires : tie.Need-some-port-requires
-some-port-requires c κs = search needs
-
-some-port-requires-2 : tie.Need-some-port-requires-2
-some-port-requires-2 c κs = search needs
-
-some-port-requires-3 : tie.Need-some-port-requires-3
-some-port-requires-3 c κs = search needs
-
-refuse-if-requires : tie.Need-refuse-if-requires
-refuse-if-requires c κs = search needs
-
-refuse-if-requires-2 : tie.Need-refuse-if-requires-2
-refuse-if-requires-2 c κs = search needs
-
-refuse-if-requires-3 : tie.Need-refuse-if-requires-3
-refuse-if-requires-3 c κs = search needs
+-- what stands in the trial configuration
+tried : (a : tie.Joined1) → let s = a .before .before .args in a .if1 .w ≡ instance (put (s .c) (s .i) (s .after)) (s .i)
+unfolding put
+tried a =
+    let s = a .before .before in
+    let full = array-length _ (s .args .c .instances) (s .good .1 .1 .1 .1 .1 .1 .0 .1 .1 .0 .1 .0 .1) in
+    ⊎-elim
+    (λ w. w .2)
+    (λ w. w .1 ∙ a .before .no-instance .ensures ∙ sym (past-end (set (s .args .c .instances) (s .args .i) (s .args .after)) absent (length-set (s .args .c .instances) (s .args .i) (s .args .after) ∙ full) (w .0 .left)))
+    (a .if1 .came)
 
 returns : tie.Need-returns
-unfolding portCheck fails
-returns c =
+unfolding portsCheck fails
+returns c = rw (← tried (c .before .before), ← c .before .some-port .ensures, c .if2 .taken)
+
+returns-2 : tie.Need-returns-2
+unfolding portsCheck fails
+returns-2 c =
     let a = c .before .before .before in
-    rw (← a .before .before .some-port .ensures, ← a .before .some-port2 .ensures, ← a .some-port3 .ensures, ← c .before .before .refuse-if .ensures, ← c .before .refuse-if2 .ensures) (c .refuse-if3 .ensures)
+    rw (← tried (a .before), ← a .some-port .ensures, c .before .before .if2 .left, ← c .before .some-port2 .ensures, c .if3 .taken)
+
+returns-3 : tie.Need-returns-3
+unfolding portsCheck fails
+returns-3 c =
+    let b = c .before .before .before in
+    let a = b .before .before in
+    rw (← tried (a .before), ← a .some-port .ensures, b .before .if2 .left, ← b .some-port2 .ensures, c .before .before .if3 .left, ← c .before .some-port3 .ensures, c .if4 .taken)
+
+returns-4 : tie.Need-returns-4
+unfolding portsCheck fails
+returns-4 c =
+    let b = c .before .before .before in
+    let a = b .before .before in
+    rw (← tried (a .before), ← a .some-port .ensures, b .before .if2 .left, ← b .some-port2 .ensures, c .before .before .if3 .left, ← c .before .some-port3 .ensures, c .if4 .left)
 
 pub port-check-spec : {M : Type 1} → statement M
 port-check-spec =
     tie.close
     (tie.spec
-    some-port-requires
-    some-port-requires-2
-    some-port-requires-3
-    refuse-if-requires
-    refuse-if-requires-2
-    refuse-if-requires-3
-    returns)
+    (λ c κs. search needs) (λ c. search needs) (λ c. search needs) (λ c. search needs) (λ c. search needs) (λ c κs. search needs) returns
+    (λ c κs. search needs) returns-2 (λ c κs. search needs) returns-3 returns-4)
