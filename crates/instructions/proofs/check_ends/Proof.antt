@@ -15,9 +15,6 @@ returns-2 c =
     let s = a .before .before in
     rw (not-false (s .args .user .present) (a .if1 .left), not-true (s .args .provider .present) (c .if2 .taken))
 
-is-use-port-requires : tie.Need-is-use-port-requires
-is-use-port-requires c κs = search needs
-
 returns-3 : tie.Need-returns-3
 unfolding endsCheck
 returns-3 c =
@@ -31,9 +28,6 @@ returns-3 c =
       not-false (s .args .user .present) (a .if1 .left),
       not-false (s .args .provider .present) (b .if2 .left),
     )
-
-is-provide-port-requires : tie.Need-is-provide-port-requires
-is-provide-port-requires c κs = search needs
 
 returns-4 : tie.Need-returns-4
 unfolding endsCheck
@@ -96,12 +90,4 @@ returns-6 c =
 pub check-ends-spec : {M : Type 1} → statement M
 check-ends-spec =
     tie.close
-    (tie.spec
-    returns
-    returns-2
-    is-use-port-requires
-    returns-3
-    is-provide-port-requires
-    returns-4
-    returns-5
-    returns-6)
+    (tie.spec returns returns-2 (λ c κs. search needs) returns-3 (λ c κs. search needs) returns-4 returns-5 returns-6)

@@ -23,43 +23,16 @@ ends p =
       b .before .before .wide .ensures .0,
     ) at (p .check-ends .ensures)
 
-wide-requires : tie.Need-wide-requires
-wide-requires c κs = search needs
-
-instance-of-requires : tie.Need-instance-of-requires
-instance-of-requires c κs = search needs
-
-wide-requires-2 : tie.Need-wide-requires-2
-wide-requires-2 c κs = search needs
-
-instance-of-requires-2 : tie.Need-instance-of-requires-2
-instance-of-requires-2 c κs = search needs
-
-check-ends-requires : tie.Need-check-ends-requires
-check-ends-requires c κs = search needs
-
-refuse-requires : tie.Need-refuse-requires
-refuse-requires c κs = search needs
-
 returns : tie.Need-returns
 returns c =
     let p = c .before .before in
     rw (ends-first, ← ends p, ne-eqb _ _ (c .before .if1 .taken), ne-eqb _ _ (c .before .if1 .taken)) (c .refuse .ensures)
-
-some-connection-requires : tie.Need-some-connection-requires
-some-connection-requires c κs = search needs
-
-refuse-requires-2 : tie.Need-refuse-requires-2
-refuse-requires-2 c κs = search needs
 
 returns-2 : tie.Need-returns-2
 returns-2 c =
     let p = c .before .before .before in
     rw (ends-first, ← ends (p .before), eq-eqb _ _ (p .if1 .left), ← c .before .before .some-connection .ensures, c .before .if2 .taken)
     (c .refuse2 .ensures)
-
-refuse-requires-3 : tie.Need-refuse-requires-3
-refuse-requires-3 c κs = search needs
 
 returns-3 : tie.Need-returns-3
 returns-3 c =
@@ -73,12 +46,6 @@ returns-3 c =
       q .if2 .left,
       le-ltb _ _ (c .before .if3 .taken),
     ) (c .refuse3 .ensures)
-
-connect-requires : tie.Need-connect-requires
-connect-requires c κs = search needs
-
-allow-requires : tie.Need-allow-requires
-allow-requires c κs = search needs
 
 returns-4 : tie.Need-returns-4
 returns-4 c =
@@ -99,18 +66,6 @@ pub con-spec : {M : Type 1} → statement M
 con-spec =
     tie.close
     (tie.spec
-    wide-requires
-    instance-of-requires
-    wide-requires-2
-    instance-of-requires-2
-    check-ends-requires
-    refuse-requires
-    returns
-    some-connection-requires
-    refuse-requires-2
-    returns-2
-    refuse-requires-3
-    returns-3
-    connect-requires
-    allow-requires
-    returns-4)
+    (λ c κs. search needs) (λ c κs. search needs) (λ c κs. search needs) (λ c κs. search needs) (λ c κs. search needs)
+    (λ c κs. search needs) returns (λ c κs. search needs) (λ c κs. search needs) returns-2 (λ c κs. search needs) returns-3
+    (λ c κs. search needs) (λ c κs. search needs) returns-4)

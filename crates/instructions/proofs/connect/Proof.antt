@@ -5,18 +5,10 @@ use Rattle.rules.specs.Con.{connected}
 use Rattle.instructions.proofs.connect.Statement.{statement}
 use Rattle.instructions.proofs.connect.Tie as tie
 
-wide-requires : tie.Need-wide-requires
-wide-requires c κs = search needs
-
-put-at-requires : tie.Need-put-at-requires
-put-at-requires c κs = search needs
-
-add-next : tie.Need-add-next
-add-next c = search needs
-
 returns : tie.Need-returns
 unfolding connected withConnections
 returns c = rw (c .before .put-at .ensures, c .before .before .wide .ensures .0, add-one)
 
 pub connect-spec : {M : Type 1} → statement M
-connect-spec = tie.close (tie.spec wide-requires put-at-requires add-next returns)
+connect-spec = tie.close
+    (tie.spec (λ c κs. search needs) (λ c κs. search needs) (λ c. search needs) returns)

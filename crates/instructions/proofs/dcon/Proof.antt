@@ -6,29 +6,11 @@ use Rattle.instructions.proofs.Places.{some-stands}
 use Rattle.instructions.proofs.dcon.Statement.{statement}
 use Rattle.instructions.proofs.dcon.Tie as tie
 
-some-connection-requires : tie.Need-some-connection-requires
-some-connection-requires c κs = search needs
-
-refuse-requires : tie.Need-refuse-requires
-refuse-requires c κs = search needs
-
 returns : tie.Need-returns
 unfolding dconCheck
 returns c =
     let k = c .before .before .some-connection in
     rw (← k .ensures, not-true (k .result) (c .before .if1 .taken)) (c .refuse .ensures)
-
-wide-requires : tie.Need-wide-requires
-wide-requires c κs = search needs
-
-instance-of-requires : tie.Need-instance-of-requires
-instance-of-requires c κs = search needs
-
-is-active-requires : tie.Need-is-active-requires
-is-active-requires c κs = search needs
-
-refuse-requires-2 : tie.Need-refuse-requires-2
-refuse-requires-2 c κs = search needs
 
 returns-2 : tie.Need-returns-2
 unfolding dconCheck
@@ -52,9 +34,6 @@ disconnect-requires c κs =
     let k = a .before .some-connection in
     some-stands _ _ (sym (k .ensures) ∙ not-false (k .result) (a .if1 .left))
 
-allow-requires : tie.Need-allow-requires
-allow-requires c κs = search needs
-
 returns-3 : tie.Need-returns-3
 unfolding dconCheck
 returns-3 c =
@@ -77,14 +56,5 @@ pub dcon-spec : {M : Type 1} → statement M
 dcon-spec =
     tie.close
     (tie.spec
-    some-connection-requires
-    refuse-requires
-    returns
-    wide-requires
-    instance-of-requires
-    is-active-requires
-    refuse-requires-2
-    returns-2
-    disconnect-requires
-    allow-requires
-    returns-3)
+    (λ c κs. search needs) (λ c κs. search needs) returns (λ c κs. search needs) (λ c κs. search needs) (λ c κs. search needs)
+    (λ c κs. search needs) returns-2 disconnect-requires (λ c κs. search needs) returns-3)

@@ -4,23 +4,11 @@ use Rattle.rules.specs.Del.{delCheck, deleted}
 use Rattle.instructions.proofs.del.Statement.{statement}
 use Rattle.instructions.proofs.del.Tie as tie
 
-instance-of-requires : tie.Need-instance-of-requires
-instance-of-requires c κs = search needs
-
-refuse-requires : tie.Need-refuse-requires
-refuse-requires c κs = search needs
-
 returns : tie.Need-returns
 unfolding delCheck
 returns c =
     let v = c .before .before .before .instance-of in
     rw (← v .ensures, not-true (v .result .present) (c .before .if1 .taken)) (c .refuse .ensures)
-
-some-connection-requires : tie.Need-some-connection-requires
-some-connection-requires c κs = search needs
-
-refuse-requires-2 : tie.Need-refuse-requires-2
-refuse-requires-2 c κs = search needs
 
 returns-2 : tie.Need-returns-2
 unfolding delCheck
@@ -29,9 +17,6 @@ returns-2 c =
     let v = b .before .before .instance-of in
     rw (← v .ensures, not-false (v .result .present) (b .if1 .left), ← c .before .before .some-connection .ensures, c .before .if2 .taken)
     (c .refuse2 .ensures)
-
-refuse-requires-3 : tie.Need-refuse-requires-3
-refuse-requires-3 c κs = search needs
 
 returns-3 : tie.Need-returns-3
 unfolding delCheck
@@ -46,15 +31,6 @@ returns-3 c =
       a .if2 .left,
       ne-eqb _ _ (c .before .if3 .taken),
     ) (c .refuse3 .ensures)
-
-no-instance-requires : tie.Need-no-instance-requires
-no-instance-requires c κs = search needs
-
-renew-requires : tie.Need-renew-requires
-renew-requires c κs = search needs
-
-allow-requires : tie.Need-allow-requires
-allow-requires c κs = search needs
 
 returns-4 : tie.Need-returns-4
 unfolding delCheck deleted
@@ -77,15 +53,5 @@ pub del-spec : {M : Type 1} → statement M
 del-spec =
     tie.close
     (tie.spec
-    instance-of-requires
-    refuse-requires
-    returns
-    some-connection-requires
-    refuse-requires-2
-    returns-2
-    refuse-requires-3
-    returns-3
-    no-instance-requires
-    renew-requires
-    allow-requires
-    returns-4)
+    (λ c κs. search needs) (λ c κs. search needs) returns (λ c κs. search needs) (λ c κs. search needs) returns-2 (λ c κs. search needs)
+    returns-3 (λ c κs. search needs) (λ c κs. search needs) (λ c κs. search needs) returns-4)

@@ -4,18 +4,6 @@ use Rattle.rules.specs.DCon.{disconnected}
 use Rattle.instructions.proofs.disconnect.Statement.{statement}
 use Rattle.instructions.proofs.disconnect.Tie as tie
 
-place-of-requires : tie.Need-place-of-requires
-place-of-requires c κs = search needs
-
-wide-requires : tie.Need-wide-requires
-wide-requires c κs = search needs
-
-close-gap-requires : tie.Need-close-gap-requires
-close-gap-requires c κs = search needs
-
-sub-next : tie.Need-sub-next
-sub-next c = search needs
-
 returns : tie.Need-returns
 unfolding disconnected withConnections
 returns c =
@@ -23,4 +11,5 @@ returns c =
 
 pub disconnect-spec : {M : Type 1} → statement M
 disconnect-spec =
-    tie.close (tie.spec place-of-requires wide-requires close-gap-requires sub-next returns)
+    tie.close
+    (tie.spec (λ c κs. search needs) (λ c κs. search needs) (λ c κs. search needs) (λ c. search needs) returns)

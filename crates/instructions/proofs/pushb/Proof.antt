@@ -6,26 +6,11 @@ use Rattle.instructions.proofs.Arrays.{present-below}
 use Rattle.instructions.proofs.pushb.Statement.{statement}
 use Rattle.instructions.proofs.pushb.Tie as tie
 
-instance-of-requires : tie.Need-instance-of-requires
-instance-of-requires c κs = search needs
-
-refuse-requires : tie.Need-refuse-requires
-refuse-requires c κs = search needs
-
 returns : tie.Need-returns
 unfolding pushbCheck
 returns c =
     let v = c .before .before .before .instance-of in
     rw (← v .ensures, not-true (v .result .present) (c .before .if1 .taken)) (c .refuse .ensures)
-
-wide-requires : tie.Need-wide-requires
-wide-requires c κs = search needs
-
-type-of-requires : tie.Need-type-of-requires
-type-of-requires c κs = search needs
-
-refuse-requires-2 : tie.Need-refuse-requires-2
-refuse-requires-2 c κs = search needs
 
 returns-2 : tie.Need-returns-2
 unfolding pushbCheck
@@ -39,12 +24,6 @@ returns-2 c =
       ← rw (a .before .wide .ensures .0) at (a .type-of .ensures),
       le-ltb _ _ (c .before .if2 .taken),
     ) (c .refuse2 .ensures)
-
-depth-of-requires : tie.Need-depth-of-requires
-depth-of-requires c κs = search needs
-
-refuse-requires-3 : tie.Need-refuse-requires-3
-refuse-requires-3 c κs = search needs
 
 returns-3 : tie.Need-returns-3
 unfolding pushbCheck
@@ -71,9 +50,6 @@ push-requires c κs =
     let here = rw (v .ensures) at (not-false (v .result .present) (b .if1 .left)) in
     (present-below (s .args .c) (s .args .i) full here, (v .ensures, search needs))
 
-allow-requires : tie.Need-allow-requires
-allow-requires c κs = search needs
-
 returns-4 : tie.Need-returns-4
 unfolding pushbCheck
 returns-4 c =
@@ -96,16 +72,5 @@ pub pushb-spec : {M : Type 1} → statement M
 pushb-spec =
     tie.close
     (tie.spec
-    instance-of-requires
-    refuse-requires
-    returns
-    wide-requires
-    type-of-requires
-    refuse-requires-2
-    returns-2
-    depth-of-requires
-    refuse-requires-3
-    returns-3
-    push-requires
-    allow-requires
-    returns-4)
+    (λ c κs. search needs) (λ c κs. search needs) returns (λ c κs. search needs) (λ c κs. search needs) (λ c κs. search needs) returns-2
+    (λ c κs. search needs) (λ c κs. search needs) returns-3 push-requires (λ c κs. search needs) returns-4)

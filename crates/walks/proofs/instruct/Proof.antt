@@ -5,27 +5,6 @@ use Rattle.walks.specs.Taken.{taken}
 use Rattle.walks.proofs.instruct.Statement.{statement}
 use Rattle.walks.proofs.instruct.Tie as tie
 
-wide-requires : tie.Need-wide-requires
-wide-requires c κs = search needs
-
-add-requires : tie.Need-add-requires
-add-requires c κs = search needs
-
-del-requires : tie.Need-del-requires
-del-requires c κs = search needs
-
-pushb-requires : tie.Need-pushb-requires
-pushb-requires c κs = search needs
-
-con-requires : tie.Need-con-requires
-con-requires c κs = search needs
-
-dcon-requires : tie.Need-dcon-requires
-dcon-requires c κs = search needs
-
-wait-requires : tie.Need-wait-requires
-wait-requires c κs = search needs
-
 returns : tie.Need-returns
 unfolding taken instruction check effect
 returns c = rw (c .before .match .keys1, ← c .before .before .wide .ensures .0) (c .add .ensures)
@@ -63,16 +42,5 @@ pub instruct-spec : {M : Type 1} → statement M
 instruct-spec =
     tie.close
     (tie.spec
-    wide-requires
-    add-requires
-    del-requires
-    pushb-requires
-    con-requires
-    dcon-requires
-    wait-requires
-    returns
-    returns-2
-    returns-3
-    returns-4
-    returns-5
-    returns-6)
+    (λ c κs. search needs) (λ c κs. search needs) (λ c κs. search needs) (λ c κs. search needs) (λ c κs. search needs)
+    (λ c κs. search needs) (λ c κs. search needs) returns returns-2 returns-3 returns-4 returns-5 returns-6)

@@ -5,18 +5,6 @@ use Rattle.model.specs.Empty.{noInstruction}
 use Rattle.walks.proofs.instruction_at.Statement.{statement}
 use Rattle.walks.proofs.instruction_at.Tie as tie
 
-mul-result : tie.Need-mul-result
-mul-result c = search needs
-
-element-copy-out-result : tie.Need-element-copy-out-result
-element-copy-out-result c = search needs
-
-no-instruction-requires : tie.Need-no-instruction-requires
-no-instruction-requires c κs = search needs
-
-returns : tie.Need-returns
-returns c = search needs
-
 returns-2 : tie.Need-returns-2
 returns-2 c =
     let s = c .before .before in
@@ -26,4 +14,4 @@ returns-2 c =
 pub instruction-at-spec : {M : Type 1} → statement M
 instruction-at-spec =
     tie.close
-    (tie.spec mul-result element-copy-out-result no-instruction-requires returns returns-2)
+    (tie.spec (λ c. search needs) (λ c. search needs) (λ c κs. search needs) (λ c. search needs) returns-2)

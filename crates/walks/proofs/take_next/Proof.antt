@@ -12,21 +12,12 @@ returns : tie.Need-returns
 unfolding nextTaken
 returns c = rw (le-leb _ _ (c .if1 .taken))
 
-instruction-at-requires : tie.Need-instruction-at-requires
-instruction-at-requires c κs = search needs
-
-instruct-requires : tie.Need-instruct-requires
-instruct-requires c κs = search needs
-
 returns-2 : tie.Need-returns-2
 unfolding line
 returns-2 c =
     let m = c .before .before in
     let is = rw (m .before .instruction-at .ensures) at (m .instruct .ensures) in
     next-refused _ _ _ _ _ is (lt-leb _ _ (m .before .before .if1 .left)) (c .if2 .taken)
-
-add-after : tie.Need-add-after
-add-after c = search needs
 
 returns-3 : tie.Need-returns-3
 unfolding line withDone
@@ -38,4 +29,4 @@ returns-3 c =
 pub take-next-spec : {M : Type 1} → statement M
 take-next-spec =
     tie.close
-    (tie.spec returns instruction-at-requires instruct-requires returns-2 add-after returns-3)
+    (tie.spec returns (λ c κs. search needs) (λ c κs. search needs) returns-2 (λ c. search needs) returns-3)

@@ -18,20 +18,8 @@ Inv-loop k ks n l₀ l = (l ≤ n - 1) × (any l (λ x. sameConnection k (getD k
 abbrev μ-loop : tie.MeasureT-loop
 μ-loop k ks n l₀ l = n - l
 
-wide-requires : tie.Need-wide-requires Inv-loop μ-loop
-wide-requires c κs = search needs
-
 loop-holds : tie.Need-loop-holds Inv-loop μ-loop
 loop-holds c = (search needs, any-start _)
-
-add-loop : tie.Need-add-loop Inv-loop μ-loop
-add-loop c = search needs
-
-connection-at-requires : tie.Need-connection-at-requires Inv-loop μ-loop
-connection-at-requires c κs = search needs
-
-is-same-requires : tie.Need-is-same-requires Inv-loop μ-loop
-is-same-requires c κs = search needs
 
 returns : tie.Need-returns Inv-loop μ-loop
 returns c =
@@ -39,12 +27,6 @@ returns c =
     let hit = rw (c .before .before .connection-at .ensures) at (c .before .is-same .ensures) in
     rw (← h .before .before .wide .ensures .0)
     (sym (first-hit _ _ (h .before .loop .l) (omega arith) (h .before .loop .inv .1) (sym hit ∙ c .if1 .taken)))
-
-add-l : tie.Need-add-l Inv-loop μ-loop
-add-l c = search needs
-
-loop-less : tie.Need-loop-less Inv-loop μ-loop
-loop-less c = search needs
 
 loop-again : tie.Need-loop-again Inv-loop μ-loop
 loop-again c =
@@ -61,15 +43,5 @@ pub place-of-spec : {M : Type 1} → statement M
 place-of-spec =
     tie.close
     (tie.spec
-    Inv-loop
-    μ-loop
-    wide-requires
-    loop-holds
-    add-loop
-    connection-at-requires
-    is-same-requires
-    returns
-    add-l
-    loop-less
-    loop-again
-    returns-2)
+    Inv-loop μ-loop (λ c κs. search needs) loop-holds (λ c. search needs) (λ c κs. search needs) (λ c κs. search needs) returns
+    (λ c. search needs) (λ c. search needs) loop-again returns-2)

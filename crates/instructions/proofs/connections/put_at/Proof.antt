@@ -4,18 +4,10 @@ use borrow.Author.Needs.{needs}
 use Rattle.instructions.proofs.connections.put_at.Statement.{statement}
 use Rattle.instructions.proofs.connections.put_at.Tie as tie
 
-mul-next : tie.Need-mul-next
-mul-next c = search needs
-
-array-set-from-next : tie.Need-array-set-from-next
-array-set-from-next c = search needs
-
-returns : tie.Need-returns
-returns c = search needs
-
 returns-2 : tie.Need-returns-2
 returns-2 c =
     sym (set-out (c .before .args .ks) (c .before .args .l) (c .before .args .k) (rw (c .before .good .0 .1 .0 .1) (c .if1 .left)))
 
 pub put-at-spec : {M : Type 1} → statement M
-put-at-spec = tie.close (tie.spec mul-next array-set-from-next returns returns-2)
+put-at-spec = tie.close
+    (tie.spec (λ c. search needs) (λ c. search needs) (λ c. search needs) returns-2)

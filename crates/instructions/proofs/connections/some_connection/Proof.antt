@@ -17,17 +17,8 @@ Inv-loop test ks n l₀ l = (l ≤ n) × (any l (λ x. passes test (getD ks x no
 abbrev μ-loop : tie.MeasureT-loop
 μ-loop test ks n l₀ l = n - l
 
-wide-requires : tie.Need-wide-requires Inv-loop μ-loop
-wide-requires c κs = search needs
-
 loop-holds : tie.Need-loop-holds Inv-loop μ-loop
 loop-holds c = (search needs, any-start _)
-
-connection-at-requires : tie.Need-connection-at-requires Inv-loop μ-loop
-connection-at-requires c κs = search needs
-
-passes-requires : tie.Need-passes-requires Inv-loop μ-loop
-passes-requires c κs = search needs
 
 returns : tie.Need-returns Inv-loop μ-loop
 unfolding someConnection
@@ -35,12 +26,6 @@ returns c =
     let h = c .before .before .before in
     let hit = rw (c .before .before .connection-at .ensures) at (c .before .passes .ensures) in
     rw (← h .before .before .wide .ensures .0) (sym (any-hit _ _ (h .before .loop .l) (h .loop-test .taken) (sym hit ∙ c .if1 .taken)))
-
-add-l : tie.Need-add-l Inv-loop μ-loop
-add-l c = search needs
-
-loop-less : tie.Need-loop-less Inv-loop μ-loop
-loop-less c = search needs
 
 loop-again : tie.Need-loop-again Inv-loop μ-loop
 loop-again c =
@@ -58,14 +43,5 @@ pub some-connection-spec : {M : Type 1} → statement M
 some-connection-spec =
     tie.close
     (tie.spec
-    Inv-loop
-    μ-loop
-    wide-requires
-    loop-holds
-    connection-at-requires
-    passes-requires
-    returns
-    add-l
-    loop-less
-    loop-again
-    returns-2)
+    Inv-loop μ-loop (λ c κs. search needs) loop-holds (λ c κs. search needs) (λ c κs. search needs) returns (λ c. search needs)
+    (λ c. search needs) loop-again returns-2)

@@ -6,9 +6,6 @@ use Rattle.instructions.proofs.Arrays.{slot-past}
 use Rattle.instructions.proofs.slots.put_slot.Statement.{statement}
 use Rattle.instructions.proofs.slots.put_slot.Tie as tie
 
-element-write-next : tie.Need-element-write-next
-element-write-next c = search needs
-
 returns : tie.Need-returns
 unfolding withQueue
 returns c = refl
@@ -20,4 +17,5 @@ returns-2 c =
     sym (slot-past (start .args .c) (start .args .at) (start .args .b) (rw long (c .if1 .left)))
 
 pub put-slot-spec : {M : Type 1} → statement M
-put-slot-spec = tie.close (tie.spec element-write-next returns returns-2)
+put-slot-spec = tie.close
+    (tie.spec (λ c. search needs) returns returns-2)

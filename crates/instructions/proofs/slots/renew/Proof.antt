@@ -6,12 +6,6 @@ use Rattle.instructions.proofs.Arrays.{renewed-past}
 use Rattle.instructions.proofs.slots.renew.Statement.{statement}
 use Rattle.instructions.proofs.slots.renew.Tie as tie
 
-zero-slots-requires : tie.Need-zero-slots-requires
-zero-slots-requires c κs = search needs
-
-put-instance-requires : tie.Need-put-instance-requires
-put-instance-requires c κs = search needs
-
 returns : tie.Need-returns
 unfolding renewed
 returns c = rw (← c .before .zero-slots .ensures) (c .put-instance .ensures)
@@ -24,4 +18,5 @@ returns-2 c =
     sym (renewed-past (s .args .c) (s .args .i) (s .args .w) full long (c .if1 .left))
 
 pub renew-spec : {M : Type 1} → statement M
-renew-spec = tie.close (tie.spec zero-slots-requires put-instance-requires returns returns-2)
+renew-spec = tie.close
+    (tie.spec (λ c κs. search needs) (λ c κs. search needs) returns returns-2)

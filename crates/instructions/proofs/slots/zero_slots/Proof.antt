@@ -13,23 +13,8 @@ Inv-loop i at next₀ r₀ next r = (r ≤ 8) × (next ≡ emptied next₀ at r)
 abbrev μ-loop : tie.MeasureT-loop
 μ-loop i at next₀ r₀ next r = 8 - r
 
-mul-at : tie.Need-mul-at Inv-loop μ-loop
-mul-at c = search needs
-
 loop-holds : tie.Need-loop-holds Inv-loop μ-loop
 loop-holds c = (search needs, emptied-start _ _)
-
-add-next : tie.Need-add-next Inv-loop μ-loop
-add-next c = search needs
-
-element-write-next : tie.Need-element-write-next Inv-loop μ-loop
-element-write-next c = search needs
-
-add-r : tie.Need-add-r Inv-loop μ-loop
-add-r c = search needs
-
-loop-less : tie.Need-loop-less Inv-loop μ-loop
-loop-less c = search needs
 
 loop-again : tie.Need-loop-again Inv-loop μ-loop
 unfolding withQueue
@@ -42,13 +27,5 @@ pub zero-slots-spec : {M : Type 1} → statement M
 zero-slots-spec =
     tie.close
     (tie.spec
-    Inv-loop
-    μ-loop
-    mul-at
-    loop-holds
-    add-next
-    element-write-next
-    add-r
-    loop-less
-    loop-again
-    returns)
+    Inv-loop μ-loop (λ c. search needs) loop-holds (λ c. search needs) (λ c. search needs) (λ c. search needs) (λ c. search needs)
+    loop-again returns)

@@ -4,12 +4,6 @@ use Rattle.rules.specs.Instance.{leaving}
 use Rattle.ports.proofs.instance.may_leave.Statement.{statement}
 use Rattle.ports.proofs.instance.may_leave.Tie as tie
 
-member-requires : tie.Need-member-requires
-member-requires c κs = search needs
-
-ending-at-requires : tie.Need-ending-at-requires
-ending-at-requires c κs = search needs
-
 returns : tie.Need-returns
 unfolding mayLeave leaving
 returns c = rw (← c .before .before .member .ensures, c .before .if1 .taken, ← c .ending-at .ensures)
@@ -19,4 +13,5 @@ unfolding mayLeave
 returns-2 c = rw (← c .before .member .ensures, c .if1 .left)
 
 pub may-leave-spec : {M : Type 1} → statement M
-may-leave-spec = tie.close (tie.spec member-requires ending-at-requires returns returns-2)
+may-leave-spec = tie.close
+    (tie.spec (λ c κs. search needs) (λ c κs. search needs) returns returns-2)

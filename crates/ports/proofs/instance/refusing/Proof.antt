@@ -5,12 +5,6 @@ use Rattle.ports.specs.Tests.{leaves}
 use Rattle.ports.proofs.instance.refusing.Statement.{statement}
 use Rattle.ports.proofs.instance.refusing.Tie as tie
 
-active-requires : tie.Need-active-requires
-active-requires c κs = search needs
-
-some-place-requires : tie.Need-some-place-requires
-some-place-requires c κs = search needs
-
 returns : tie.Need-returns
 unfolding refusing active leaves
 returns c = rw (← c .before .before .active .ensures, c .before .if1 .taken) (c .some-place .ensures)
@@ -20,4 +14,5 @@ unfolding refusing active
 returns-2 c = rw (← c .before .active .ensures, c .if1 .left)
 
 pub refusing-spec : {M : Type 1} → statement M
-refusing-spec = tie.close (tie.spec active-requires some-place-requires returns returns-2)
+refusing-spec = tie.close
+    (tie.spec (λ c κs. search needs) (λ c κs. search needs) returns returns-2)

@@ -19,18 +19,9 @@ abbrev μ-loop : tie.MeasureT-loop
 loop-holds : tie.Need-loop-holds Inv-loop μ-loop
 loop-holds c = (search needs, any-start _)
 
-place-passes-requires : tie.Need-place-passes-requires Inv-loop μ-loop
-place-passes-requires c κs = search needs
-
 returns : tie.Need-returns Inv-loop μ-loop
 returns c =
     sym (any-hit _ _ (c .before .before .before .loop .p) (c .before .before .loop-test .taken) (sym (c .before .place-passes .ensures) ∙ c .if1 .taken))
-
-add-p : tie.Need-add-p Inv-loop μ-loop
-add-p c = search needs
-
-loop-less : tie.Need-loop-less Inv-loop μ-loop
-loop-less c = search needs
 
 loop-again : tie.Need-loop-again Inv-loop μ-loop
 loop-again c =
@@ -42,13 +33,4 @@ returns-2 c = sym (any-end _ (c .before .loop .p) _ (c .before .loop .inv .0) (c
 pub some-place-spec : {M : Type 1} → statement M
 some-place-spec =
     tie.close
-    (tie.spec
-    Inv-loop
-    μ-loop
-    loop-holds
-    place-passes-requires
-    returns
-    add-p
-    loop-less
-    loop-again
-    returns-2)
+    (tie.spec Inv-loop μ-loop loop-holds (λ c κs. search needs) returns (λ c. search needs) (λ c. search needs) loop-again returns-2)

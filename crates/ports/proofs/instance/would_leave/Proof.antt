@@ -7,15 +7,9 @@ use Rattle.rules.specs.Ports.{wouldLeave}
 use Rattle.ports.proofs.instance.would_leave.Statement.{statement}
 use Rattle.ports.proofs.instance.would_leave.Tie as tie
 
-member-requires : tie.Need-member-requires
-member-requires c κs = search needs
-
 returns : tie.Need-returns
 unfolding wouldLeave
 returns c = rw (← c .before .member .ensures, not-true (c .before .member .result) (c .if1 .taken))
-
-ending-at-requires : tie.Need-ending-at-requires
-ending-at-requires c κs = search needs
 
 returns-2 : tie.Need-returns-2
 unfolding wouldLeave leaving
@@ -23,24 +17,12 @@ returns-2 c =
     let a = c .before .before in
     rw (← a .before .member .ensures, not-false (a .before .member .result) (a .if1 .left), ← c .before .ending-at .ensures, eq-eqb _ _ (c .if2 .taken))
 
-held-requires : tie.Need-held-requires
-held-requires c κs = search needs
-
-overlaps-requires : tie.Need-overlaps-requires
-overlaps-requires c κs = search needs
-
 returns-3 : tie.Need-returns-3
 unfolding wouldLeave leaving
 returns-3 c =
     let b = c .before .before .before in
     let a = b .before .before in
     rw (← a .before .member .ensures, not-false (a .before .member .result) (a .if1 .left), ← b .before .ending-at .ensures, ne-eqb _ _ (b .if2 .left), ← c .before .before .held .ensures, ← c .before .overlaps .ensures, c .if3 .taken)
-
-fired-requires : tie.Need-fired-requires
-fired-requires c κs = search needs
-
-active-requires : tie.Need-active-requires
-active-requires c κs = search needs
 
 returns-4 : tie.Need-returns-4
 unfolding wouldLeave leaving active
@@ -54,13 +36,5 @@ pub would-leave-spec : {M : Type 1} → statement M
 would-leave-spec =
     tie.close
     (tie.spec
-    member-requires
-    returns
-    ending-at-requires
-    returns-2
-    held-requires
-    overlaps-requires
-    returns-3
-    fired-requires
-    active-requires
-    returns-4)
+    (λ c κs. search needs) returns (λ c κs. search needs) returns-2 (λ c κs. search needs) (λ c κs. search needs) returns-3
+    (λ c κs. search needs) (λ c κs. search needs) returns-4)
