@@ -25,7 +25,7 @@ use Rattle.forms.specs.Reader.{byte}
 use Rattle.forms.specs.Read.{key, digit, numberFrom, membersFrom, list, one, two, four, set, sets}
 use Rattle.forms.specs.Write.{digitsIn, numberText, membersBelow, moreText, listText, maskText, inTurn, oneText}
 use Rattle.reading.specs.Fill.{headed, withType, withTransition, withPort, programOf, withInstruction, answerOf, withStep}
-use Rattle.reading.specs.Kinds.{dueLine, countLine, initialLine, tranLine, behaviorLine, group, portLine, doId, doNumber, doEnds, doLine, stepId, stepNumber, stepLine}
+use Rattle.reading.specs.Kinds.{dueLine, countLineIn, initialLine, tranLine, behaviorLine, group, portLine, doId, doNumber, doEnds, doLine, stepId, stepNumber, stepLine}
 use Rattle.reading.specs.Lines.{each}
 use Rattle.reading.specs.Texts.{tran, behavior, port, type, instruct, sheet, stepAt, answer}
 use Rattle.rules.specs.Action.{instruction, move, check, effect}
@@ -44,7 +44,7 @@ use Rattle.rules.specs.Wait.{waitCheck}
 use Rattle.rules.specs.Walk.{oneMore, walk, walkAnswer}
 use Rattle.report.specs.Report.{tally, countText, instanceText, instanceAt, connectionAt, instancesText, connectionsText, report}
 use Rattle.judged.specs.Cases.{nexts}
-use Rattle.judged.specs.Course.{short, read, course}
+use Rattle.judged.specs.Course.{short, read, both, course}
 use Rattle.judged.specs.Judged.{afterWalk, inRoom, ending, judged, printing, printed}
 use Rattle.rules.specs.Refusal.{serviceInUse}
 use Rattle.rules.specs.Action.{Action, add, del, pushb, con, dcon, wait, fire, end, enter, finish}
@@ -118,7 +118,7 @@ record Computed : Type 0 where
   tokens : TokensAloneIsNeeded
 
 computed : Computed
-unfolding member collect all any noTables noProgram noAnswer start listOf queueOf put withQueue withConnections withDone key digit numberFrom membersFrom list one two four set sets digitsIn numberText membersBelow moreText listText maskText inTurn oneText headed withType withTransition withPort programOf withInstruction answerOf withStep dueLine countLine initialLine tranLine behaviorLine group portLine doId doNumber doEnds doLine stepId stepNumber stepLine each tran behavior port type instruct sheet stepAt answer instruction move check effect addCheck added down closed zeroed renewed isOf isUsePort isProvidePort conCheck connected endCheck endTo enterRow enterTo mayLeave finishRow finishCheck finished fireRow fireTo active current endsAt leaving entering fired endedBy entered withQueued someConnection wouldLeave refusing serves blocks employs failsUnserved failsRefusing failsInUse portCheck pushbCheck pushed line action number after step waitCheck oneMore walk walkAnswer tally countText instanceText instanceAt connectionAt instancesText connectionsText report nexts short read course afterWalk inRoom ending judged printing printed deeds between portCheckBy checkBy stepBy walkBy tablesIn programIn stepsIn TokensAloneIsNeeded
+unfolding member collect all any noTables noProgram noAnswer start listOf queueOf put withQueue withConnections withDone key digit numberFrom membersFrom list one two four set sets digitsIn numberText membersBelow moreText listText maskText inTurn oneText headed withType withTransition withPort programOf withInstruction answerOf withStep dueLine countLineIn initialLine tranLine behaviorLine group portLine doId doNumber doEnds doLine stepId stepNumber stepLine each tran behavior port type instruct sheet stepAt answer instruction move check effect addCheck added down closed zeroed renewed isOf isUsePort isProvidePort conCheck connected endCheck endTo enterRow enterTo mayLeave finishRow finishCheck finished fireRow fireTo active current endsAt leaving entering fired endedBy entered withQueued someConnection wouldLeave refusing serves blocks employs failsUnserved failsRefusing failsInUse portCheck pushbCheck pushed line action number after step waitCheck oneMore walk walkAnswer tally countText instanceText instanceAt connectionAt instancesText connectionsText report nexts short read both course afterWalk inRoom ending judged printing printed deeds between portCheckBy checkBy stepBy walkBy tablesIn programIn stepsIn TokensAloneIsNeeded
 computed = record {
   in-use = record { ruled = refl; allows = refl; present = refl; port = refl; fails = refl };
   ended = record { ruled = refl; allows = refl; present = refl; port = refl; fails = refl };

@@ -11,7 +11,7 @@ use Rattle.model.specs.View.{listOf, queueOf, put, withQueue, withConnections, 
 use Rattle.forms.specs.Read.{key, digit, numberFrom, membersFrom, list, one, two, four, set, sets}
 use Rattle.forms.specs.Write.{digitsIn, numberText, membersBelow, moreText, listText, maskText, inTurn, oneText, twoText, threeText, fourText, setText, setsText}
 use Rattle.reading.specs.Fill.{headed, withType, withTransition, withPort, programOf, withInstruction, answerOf, withStep}
-use Rattle.reading.specs.Kinds.{dueLine, countLine, initialLine, tranLine, behaviorLine, group, portLine, doId, doNumber, doEnds, doLine, stepId, stepNumber, stepLine}
+use Rattle.reading.specs.Kinds.{dueLine, countLineIn, initialLine, tranLine, behaviorLine, group, portLine, doId, doNumber, doEnds, doLine, stepId, stepNumber, stepLine}
 use Rattle.reading.specs.Lines.{each}
 use Rattle.reading.specs.Place.{upToLf, lfs, lineNumber, lineStart}
 use Rattle.reading.specs.Texts.{tran, behavior, port, type, instruct, sheet, stepAt, answer}
@@ -33,7 +33,7 @@ use Rattle.rules.specs.Wait.{waitCheck}
 use Rattle.rules.specs.Walk.{oneMore, walk, walkAnswer}
 use Rattle.report.specs.Faults.{textText, faultText}
 use Rattle.report.specs.Report.{tally, countText, instanceText, connectionText, instanceAt, connectionAt, instancesText, connectionsText, report}
-use Rattle.judged.specs.Course.{short, read, course}
+use Rattle.judged.specs.Course.{short, read, both, course}
 use Rattle.judged.specs.Judged.{Judgement, faultLine, faultPlace, afterFault, noRoom, stepPlace, afterWalk, inRoom, ending, judged, printing, printed}
 use Rattle.judged.specs.Cases.{P, nexts, steps, table, AllMet}
 use Rattle.judged.specs.Shams.{countOn, countingCourse}
@@ -60,7 +60,7 @@ pub record Computed : Type 0 where
   pub counted : (counting 6 .verdict .accepted ≡ 6) × (counting 6 .verdict .refused ≡ 0) × (length (counting 6 .bytes) ≡ 75)
 
 pub computed : Computed
-unfolding member collect all any noTables noProgram noAnswer start listOf queueOf put withQueue withConnections withDone key digit numberFrom membersFrom list one two four set sets digitsIn numberText membersBelow moreText listText maskText inTurn oneText twoText threeText fourText setText setsText headed withType withTransition withPort programOf withInstruction answerOf withStep dueLine countLine initialLine tranLine behaviorLine group portLine doId doNumber doEnds doLine stepId stepNumber stepLine each upToLf lfs lineNumber lineStart tran behavior port type instruct sheet stepAt answer instruction move check effect addCheck added down closed zeroed renewed isOf isUsePort isProvidePort conCheck connected sameConnection first dconCheck disconnected namedBy delCheck deleted endCheck endTo enterRow enterCheck enterTo mayLeave finishRow finishCheck finished fireRow fireCheck fireTo active current endsAt leaving entering fired endedBy entered withQueued someConnection wouldLeave refusing serves blocks employs failsUnserved failsRefusing failsInUse portCheck pushbCheck pushed line action number after step waitCheck oneMore walk walkAnswer textText faultText tally countText instanceText connectionText instanceAt connectionAt instancesText connectionsText report nexts short read course faultLine faultPlace afterFault noRoom stepPlace afterWalk inRoom ending judged printing printed countOn countingCourse
+unfolding member collect all any noTables noProgram noAnswer start listOf queueOf put withQueue withConnections withDone key digit numberFrom membersFrom list one two four set sets digitsIn numberText membersBelow moreText listText maskText inTurn oneText twoText threeText fourText setText setsText headed withType withTransition withPort programOf withInstruction answerOf withStep dueLine countLineIn initialLine tranLine behaviorLine group portLine doId doNumber doEnds doLine stepId stepNumber stepLine each upToLf lfs lineNumber lineStart tran behavior port type instruct sheet stepAt answer instruction move check effect addCheck added down closed zeroed renewed isOf isUsePort isProvidePort conCheck connected sameConnection first dconCheck disconnected namedBy delCheck deleted endCheck endTo enterRow enterCheck enterTo mayLeave finishRow finishCheck finished fireRow fireCheck fireTo active current endsAt leaving entering fired endedBy entered withQueued someConnection wouldLeave refusing serves blocks employs failsUnserved failsRefusing failsInUse portCheck pushbCheck pushed line action number after step waitCheck oneMore walk walkAnswer textText faultText tally countText instanceText connectionText instanceAt connectionAt instancesText connectionsText report nexts short read both course faultLine faultPlace afterFault noRoom stepPlace afterWalk inRoom ending judged printing printed countOn countingCourse
 computed = record {
   marked = (refl, (refl, ((refl, refl), ((refl, refl), ((refl, refl), ((refl, refl), ((refl, refl), ((refl, refl), ((refl, refl), ((refl, refl), ((refl, refl), tt)))))))))));
   none = record { accepted-is = refl; refused-is = refl; written = refl; prints = refl };

@@ -18,7 +18,7 @@ use Rattle.reading.specs.Texts.{sheet, answer}
 use Rattle.reading.proofs.Rests.{StopsAt}
 use Rattle.reading.proofs.Lawful.{sheet-stops, answer-stops}
 use Rattle.rules.specs.Walk.{walkAnswer}
-use Rattle.judged.specs.Course.{Course, faulty, reached, goOn, short, read, default, course}
+use Rattle.judged.specs.Course.{Course, faulty, reached, goOn, short, read, default, both, course}
 
 -- a text is refused with 1 to 5, or what is reached has P
 data Ends {A : Type 0} (P : A → Type 0) : Course A → Type 0 where
@@ -52,14 +52,27 @@ pub record BothRead (s a : List ℕ) (w : Walked) : Type 0 where
   pub answer-is : answer a ≡ on steps answer-rest
   pub walked : w ≡ walkAnswer default tables program steps
 
-course-ends : (s a : List ℕ) → Ends (BothRead s a) (course s a)
-unfolding course
-course-ends s a =
+-- what the two texts say
+record Said (s a : List ℕ) (x : Tables × Program × Answer) : Type 0 where
+  sheet-rest : List ℕ
+  answer-rest : List ℕ
+  sheet-is : sheet s ≡ on (x .0, x .1) sheet-rest
+  answer-is : answer a ≡ on (x .2) answer-rest
+
+both-ends : (s a : List ℕ) → Ends (Said s a) (both s a)
+unfolding both
+both-ends s a =
     ends-then _ (short-ends text.Sheet s) (λ _ _.
     ends-then _ (short-ends text.Answer a) (λ _ _.
     ends-then _ (read-ends text.Sheet sheet s (sheet-stops s)) (λ x (r, e).
     ends-then _ (read-ends text.Answer answer a (answer-stops a)) (λ y (q, f).
-    reaches (record { tables = x .0; program = x .1; steps = y; sheet-rest = r; answer-rest = q; sheet-is = e; answer-is = f; walked = refl })))))
+    reaches (record { sheet-rest = r; answer-rest = q; sheet-is = e; answer-is = f })))))
+
+course-ends : (s a : List ℕ) → Ends (BothRead s a) (course s a)
+unfolding course
+course-ends s a =
+    ends-then _ (both-ends s a) (λ x h.
+    reaches (record { tables = x .0; program = x .1; steps = x .2; sheet-rest = h .sheet-rest; answer-rest = h .answer-rest; sheet-is = h .sheet-is; answer-is = h .answer-is; walked = refl }))
 
 pub both-read : (s a : List ℕ) (w : Walked) → course s a ≡ reached w → BothRead s a w
 both-read s a w e = told (rw e at (course-ends s a))

@@ -30,9 +30,9 @@ use Rattle.judged.specs.Judged.{Judgement, afterFault, afterWalk, noRoom
 use Rattle.judged.specs.Room.{ReportsFit, SixNever}
 use Rattle.judged.proofs.Read.{both-read, fault-numbered}
 
--- a report that has room, and a number that is not 6
-abbrev Fits : Walked → Type 0
-Fits w = (length (report w) ≤ 8192) × (w .refused ≢ 6)
+-- a report that has room, with ten bytes to spare, and a number that is not 6
+abbrev pub Fits : Walked → Type 0
+Fits w = (length (report w) ≤ 8182) × (w .refused ≢ 6)
 
 six-where-short : (w : Walked) (a : List ℕ) (room : ℕ) → w .refused ≢ 6 → (inRoom room w (report w) a .verdict .refused ≡ 6) ↔ (room < length (report w))
 unfolding inRoom afterWalk noRoom
@@ -55,7 +55,7 @@ walk-fits t p y law e =
     let (small, not-six) = in-range (n .refused) in
     (report-le default t p (walk default t p start ss) (omega arith) law (walks-are-proper default t p ss (omega arith) law) (omega (arith, n .accepted, length-take (y .count) (y .steps))) small, not-six)
 
-read-fits : (s a : List ℕ) (w : Walked) → course s a ≡ reached w → Fits w
+pub read-fits : (s a : List ℕ) (w : Walked) → course s a ≡ reached w → Fits w
 unfolding SheetsAreLawful AnswersAreLawful
 read-fits s a w q =
     let b = both-read s a w q in
@@ -63,7 +63,7 @@ read-fits s a w q =
 
 pub reports-fit : ReportsFit
 unfolding ReportsFit
-reports-fit s a w q = read-fits s a w q .0
+reports-fit s a w q = omega (arith, read-fits s a w q .0)
 
 pub six-never : SixNever
 unfolding SixNever judged ending afterFault

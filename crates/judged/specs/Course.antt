@@ -5,6 +5,9 @@ use mathlib.Core.Bool.{true, false}
 use lib.ListN.{length}
 use Rattle.model.specs.declared.Text.{Text}
 use Rattle.model.specs.declared.Text.the-variants as text
+use Rattle.model.specs.declared.Tables.{Tables}
+use Rattle.model.specs.declared.Program.{Program}
+use Rattle.model.specs.declared.Answer.{Answer}
 use Rattle.model.specs.declared.Walked.{Walked}
 use Rattle.reading.specs.Limits.{lengthOk}
 use Rattle.reading.specs.Lines.{Lines, on, stop}
@@ -40,10 +43,16 @@ read x m s = elim (m s) [ on a r ↦ reached a | stop n r ↦ faulty x n (length
 abbrev pub default : ℕ
 default = 4
 
-unfoldable pub course : List ℕ → List ℕ → Course Walked
-course s a = do
+-- what the two texts say, where both are read
+unfoldable pub both : List ℕ → List ℕ → Course (Tables × Program × Answer)
+both s a = do
   short text.Sheet s
   short text.Answer a
   (t, p) ← read text.Sheet sheet s
   y ← read text.Answer answer a
+  reached (t, p, y)
+
+unfoldable pub course : List ℕ → List ℕ → Course Walked
+course s a = do
+  (t, p, y) ← both s a
   reached (walkAnswer default t p y)

@@ -24,6 +24,7 @@ abbrev pub textOf : Text → List ℕ → List ℕ → List ℕ
 textOf text.Neither s a = []
 textOf text.Sheet s a = s
 textOf text.Answer s a = a
+textOf text.Times s a = []
 
 -- "for 2 to 5, the line at fault, up to its LF or the text's end"; "for a step, its line"
 abbrev pub lineAt : Text → ℕ → List ℕ → Place

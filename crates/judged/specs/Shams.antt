@@ -11,13 +11,11 @@ use Rattle.model.specs.declared.Tables.{Tables}
 use Rattle.model.specs.declared.Program.{Program}
 use Rattle.model.specs.declared.Step.{Step}
 use Rattle.model.specs.declared.Walked.{Walked}
-use Rattle.model.specs.declared.Text.the-variants as text
 use Rattle.model.specs.Empty.{start}
 use Rattle.model.specs.View.{stepsOf}
-use Rattle.reading.specs.Texts.{sheet, answer}
 use Rattle.rules.specs.Step.{step}
 use Rattle.judged.specs.declared.Verdict.{Verdict}
-use Rattle.judged.specs.Course.{Course, reached, _>>=_, _>>_, short, read, default}
+use Rattle.judged.specs.Course.{Course, reached, _>>=_, both, default}
 use Rattle.judged.specs.Judged.{judged, printed, ending}
 
 -- it refuses all, with the number n
@@ -39,10 +37,7 @@ countOn t p (s ∷ ss) =
 
 unfoldable pub countingCourse : List ℕ → List ℕ → Course Walked
 countingCourse s a = do
-  short text.Sheet s
-  short text.Answer a
-  (t, p) ← read text.Sheet sheet s
-  y ← read text.Answer answer a
+  (t, p, y) ← both s a
   reached (countOn t p (stepsOf y))
 
 unfoldable pub CountsOn : Type 0

@@ -1,4 +1,4 @@
--- The course by the order of 01: a text too long, a text refused at a line, both texts read and the answer walked.
+-- The two texts by the order of 01: one too long, one refused at a line, both read; then the course.
 -- Assumes nothing.
 use Prim.Native.Nat.{ℕ, _-_, _<_, _≤_}
 use mathlib.Core.List.{List}
@@ -32,34 +32,34 @@ use Rattle.sheets.specs.declared.Sheet.{Sheet}
 use Rattle.sheets.specs.Sheet.{answered as sheetAnswered, sheetRead}
 use Rattle.answers.specs.declared.AnswerRead.{AnswerRead}
 use Rattle.answers.specs.Answer.{answered as answerAnswered, answerRead}
-use Rattle.judged.specs.Course.{Course, faulty, reached, short, read, default, course}
+use Rattle.judged.specs.Course.{Course, faulty, reached, goOn, short, read, default, both, course}
 use Rattle.judged.specs.Judged.{faultLine}
 use Rattle.judged.proofs.Read.{both-read}
 
 -- ---- the length of a text
 
-long : (x : Text) (s : List ℕ) → 32768 < length s → short x s ≡ faulty x 1 0
+pub long : (x : Text) (s : List ℕ) → 32768 < length s → short x s ≡ faulty x 1 0
 unfolding short
 long x s h = rw (lt-leb (length s) 32768 h, short)
 
-not-long : (x : Text) (s : List ℕ) → length s ≤ 32768 → short x s ≡ reached tt
+pub not-long : (x : Text) (s : List ℕ) → length s ≤ 32768 → short x s ≡ reached tt
 unfolding short
 not-long x s h = rw (le-leb (length s) 32768 h, short)
 
 -- ---- the lines of a text
 
 -- what reading them came to: the number and the place of a fault, or 0 and what the text says
-record TextRead {A : Type 0} (x : Text) (m : Lines A) (s : List ℕ) (refused place : ℕ) (value : A) : Type 0 where
-  within : place ≤ length s
-  faults : (refused ≡ 0 → ⊥) → read x m s ≡ faulty x refused place
-  reaches : refused ≡ 0 → read x m s ≡ reached value
+pub record TextRead {A : Type 0} (x : Text) (m : Lines A) (s : List ℕ) (refused place : ℕ) (value : A) : Type 0 where
+  pub within : place ≤ length s
+  pub faults : (refused ≡ 0 → ⊥) → read x m s ≡ faulty x refused place
+  pub reaches : refused ≡ 0 → read x m s ≡ reached value
 
 module _ {A : Type 0} (x : Text) (m : Lines A) (s : List ℕ) where
-  went : {v : A} {r : List ℕ} → m s ≡ on v r → TextRead x m s 0 (length s - length r) v
+  pub went : {v : A} {r : List ℕ} → m s ≡ on v r → TextRead x m s 0 (length s - length r) v
   unfolding read
   went e = record { within = omega arith; faults = λ n. absurd (n refl); reaches = λ _. rw (e, read) }
 
-  stopped : {n : ℕ} {r : List ℕ} {v : A} → m s ≡ stop n r → StopsAt s n r → TextRead x m s n (length s - length r) v
+  pub stopped : {n : ℕ} {r : List ℕ} {v : A} → m s ≡ stop n r → StopsAt s n r → TextRead x m s n (length s - length r) v
   unfolding read
   stopped e l = record { within = omega arith; faults = λ _. rw (e, read); reaches = λ z. absurd (omega (arith, z, l .1)) }
 
@@ -80,30 +80,39 @@ module _ (s : List ℕ) (h : length s ≤ 32768) where
       go (on v r) e = went text.Answer answer s e
       go (stop n r) e = stopped text.Answer answer s e (answer-stops s n r e)
 
--- ---- the course
+-- ---- the two texts
 
 module _ (s a : List ℕ) where
-  pub sheet-long : 32768 < length s → faulty text.Sheet 1 0 ≡ course s a
-  unfolding course
+  pub sheet-long : 32768 < length s → faulty text.Sheet 1 0 ≡ both s a
+  unfolding both
   sheet-long h = rw (long text.Sheet s h)
 
-  pub answer-long : length s ≤ 32768 → 32768 < length a → faulty text.Answer 1 0 ≡ course s a
-  unfolding course
+  pub answer-long : length s ≤ 32768 → 32768 < length a → faulty text.Answer 1 0 ≡ both s a
+  unfolding both
   answer-long p h = rw (not-long text.Sheet s p, long text.Answer a h)
 
   module _ (p : length s ≤ 32768) (q : length a ≤ 32768) {r : Sheet} (is : r ≡ sheetRead s) where
-    pub sheet-refused : (r .refused ≡ 0 → ⊥) → faulty text.Sheet (r .refused) (r .place) ≡ course s a
-    unfolding course
+    pub sheet-refused : (r .refused ≡ 0 → ⊥) → faulty text.Sheet (r .refused) (r .place) ≡ both s a
+    unfolding both
     sheet-refused h = rw (not-long text.Sheet s p, not-long text.Answer a q, sheet-read s p is .faults h)
 
     module _ (e : r .refused ≡ 0) {y : AnswerRead} (also : y ≡ answerRead a) where
-      pub answer-refused : (y .refused ≡ 0 → ⊥) → faulty text.Answer (y .refused) (y .place) ≡ course s a
-      unfolding course
+      pub answer-refused : (y .refused ≡ 0 → ⊥) → faulty text.Answer (y .refused) (y .place) ≡ both s a
+      unfolding both
       answer-refused h = rw (not-long text.Sheet s p, not-long text.Answer a q, sheet-read s p is .reaches e, answer-read a q also .faults h)
 
-      pub both-walked : y .refused ≡ 0 → reached (walkAnswer default (r .tables) (r .program) (y .answer)) ≡ course s a
-      unfolding course
-      both-walked f = rw (not-long text.Sheet s p, not-long text.Answer a q, sheet-read s p is .reaches e, answer-read a q also .reaches f)
+      pub both-said : y .refused ≡ 0 → reached (r .tables, r .program, y .answer) ≡ both s a
+      unfolding both
+      both-said f = rw (not-long text.Sheet s p, not-long text.Answer a q, sheet-read s p is .reaches e, answer-read a q also .reaches f)
+
+  -- the course goes on with what they say
+  pub both-fault : (x : Text) (n at : ℕ) → faulty x n at ≡ both s a → faulty x n at ≡ course s a
+  unfolding course
+  both-fault x n at e = rw (← e)
+
+  pub both-walked : (t : Tables) (p : Program) (y : Answer) → reached (t, p, y) ≡ both s a → reached (walkAnswer default t p y) ≡ course s a
+  unfolding course
+  both-walked t p y e = rw (← e)
 
 -- ---- what is known of a walk, and of a fault
 
@@ -122,30 +131,39 @@ pub record FaultAt (s : List ℕ) (n at : ℕ) : Type 0 where
   pub within : at ≤ length s
   pub few : faultLine n at s ≤ 32769
 
-at-start : (s : List ℕ) → FaultAt s 1 0
+pub at-start : (s : List ℕ) → FaultAt s 1 0
 unfolding faultLine
 at-start s = record { within = omega arith; few = omega arith }
 
-at-line : (s : List ℕ) (n at : ℕ) → length s ≤ 32768 → at ≤ length s → FaultAt s n at
+pub at-line : (s : List ℕ) (n at : ℕ) → length s ≤ 32768 → at ≤ length s → FaultAt s n at
 unfolding faultLine lineNumber
 at-line s n at h l = record {
   within = l;
   few = by-test (eqb n 1) (λ e. rw (e, faultLine) (omega arith)) (λ e. rw (e, faultLine) (omega (arith, lfs-few (take at s), length-take at s)));
 }
 
-pub data Told (s a : List ℕ) : Course Walked → Type 0 where
+pub data Told {A : Type 0} (s a : List ℕ) : Course A → Type 0 where
   in-sheet : {n at : ℕ} → FaultAt s n at → Told s a (faulty text.Sheet n at)
   in-answer : {n at : ℕ} → FaultAt a n at → Told s a (faulty text.Answer n at)
-  walks : {w : Walked} → Told s a (reached w)
+  walks : {x : A} → Told s a (reached x)
 
-pub course-told : (s a : List ℕ) → Told s a (course s a)
-course-told s a =
+pub both-told : (s a : List ℕ) → Told s a (both s a)
+both-told s a =
     by-cases (decLt 32768 (length s)) (λ h. rw (← sheet-long s a h) (in-sheet (at-start s))) (λ h.
     by-cases (decLt 32768 (length a)) (λ g. rw (← answer-long s a (omega arith) g) (in-answer (at-start a))) (λ g.
     let p : length s ≤ 32768 = omega arith in
     let q : length a ≤ 32768 = omega arith in
     by-cases (ℕ-discrete (sheetRead s .refused) 0) (λ e.
     by-cases (ℕ-discrete (answerRead a .refused) 0)
-    (λ f. rw (← both-walked s a p q refl e refl f) walks)
+    (λ f. rw (← both-said s a p q refl e refl f) walks)
     (λ f. rw (← answer-refused s a p q refl e refl f) (in-answer (at-line a _ _ q (answer-read a q refl .within)))))
     (λ e. rw (← sheet-refused s a p q refl e) (in-sheet (at-line s _ _ p (sheet-read s p refl .within))))))
+
+told-then : {A B : Type 0} {s a : List ℕ} {m : Course A} (f : A → B) → Told s a m → Told s a (goOn m (λ x. reached (f x)))
+told-then f (in-sheet h) = in-sheet h
+told-then f (in-answer h) = in-answer h
+told-then f walks = walks
+
+pub course-told : (s a : List ℕ) → Told s a (course s a)
+unfolding course
+course-told s a = told-then _ (both-told s a)

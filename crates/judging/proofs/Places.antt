@@ -2,11 +2,12 @@
 -- Assumes nothing.
 use Prim.Native.Nat.{ℕ, zero, suc, _+_, _-_, _≤_, zero-le}
 use mathlib.Core.List.{List, [], _∷_}
-use mathlib.Core.Path.{_≡_, refl, ap}
+use mathlib.Core.Path.{_≡_, refl, sym, ap, _∙_}
 use mathlib.Core.Logic.{⊎-elim}
 use native.Mathlib.Omega.{arith}
 use lib.Dec.{eqb, leb}
 use lib.ListN.{length, take, drop, length-drop}
+use lib.Seq.{take-all, drop-drop}
 use mir.Syntax.{w64}
 use mir.Val.{Fits}
 use mir.Facts.{fits-le}
@@ -39,33 +40,64 @@ start-few zero s = zero-le
 start-few (suc n) [] = zero-le
 start-few (suc n) (c ∷ s) = by-test (eqb c 10) (λ e. rw (e, lineStart) (omega (arith, start-few n s))) (λ e. rw (e, lineStart) (omega (arith, start-few (suc n) s)))
 
+-- n lines more, from the next line on; and from the third line on
+next-start : (n : ℕ) (s : List ℕ) → lineStart (suc n) s ≡ lineStart 1 s + lineStart n (drop (lineStart 1 s) s)
+unfolding lineStart
+next-start zero [] = refl
+next-start (suc n) [] = refl
+next-start n (c ∷ s) =
+    by-test (eqb c 10) (λ e. rw (e, lineStart) (omega arith)) (λ e. rw (e, lineStart) (omega (arith, next-start n s)))
+
+third-start : (n : ℕ) (s : List ℕ) → lineStart (2 + n) s ≡ lineStart 2 s + lineStart n (drop (lineStart 2 s) s)
+third-start n s =
+    let a = lineStart 1 s in
+    let b = lineStart 1 (drop a s) in
+    let e : 2 + n ≡ suc (suc n) = omega arith in
+    let f : drop (lineStart 2 s) s ≡ drop b (drop a s) = ap (λ (k : ℕ). drop k s) (next-start 1 s) ∙ sym (drop-drop b a s) in
+    rw (e, f) (omega (arith, next-start 1 s, next-start (suc n) s, next-start n (drop a s)))
+
+-- the two starts that the code adds up, the second in the part of the text from the first on
+pub first-few : (s : List ℕ) {first : ℕ} → first ≡ lineStart 2 s → first ≤ length s
+first-few s is = rw is (start-few 2 s)
+
+module _ (s : List ℕ) (n : ℕ) {first more : ℕ} (is : first ≡ lineStart 2 s) (also : more ≡ lineStart n (take (length s - first) (drop first s))) where
+  pub starts-add : first + more ≡ lineStart (2 + n) s
+  starts-add =
+      let part = take-all (length s - first) (drop first s) (simp length-drop (omega arith)) in
+      rw (also, part, is) (sym (third-start n s))
+
+  pub starts-few : first + more ≤ length s
+  starts-few = rw starts-add (start-few (2 + n) s)
+
 line-few : (s : List ℕ) (at : ℕ) → at ≤ length s → at + length (upToLf (drop at s)) ≤ length s
 line-few s at h = omega (arith, size-few (drop at s), length-drop at s)
 
-abbrev Within : List ℕ → List ℕ → Place → Type 0
-Within s a p = p .start + p .size ≤ length (textOf (p .text) s a)
+-- a place within the text that it names, of those that `lent` gives
+module _ (lent : Text → List ℕ) where
+  abbrev pub Within : Place → Type 0
+  Within p = p .start + p .size ≤ length (lent (p .text))
 
-module _ (s a : List ℕ) where
-  fault-within : (x : Text) (n at : ℕ) → at ≤ length (textOf x s a) → Within s a (faultPlace x n at (textOf x s a))
+  pub fault-within : (x : Text) (n at : ℕ) → at ≤ length (lent x) → Within (faultPlace x n at (lent x))
   unfolding faultPlace
-  fault-within x n at h = by-test (eqb n 1) (λ e. rw (e, faultPlace) zero-le) (λ e. rw (e, faultPlace) (line-few (textOf x s a) at h))
+  fault-within x n at h = by-test (eqb n 1) (λ e. rw (e, faultPlace) zero-le) (λ e. rw (e, faultPlace) (line-few (lent x) at h))
 
-  step-within : (w : Walked) → Within s a (stepPlace w a)
+  step-within : (w : Walked) → Within (stepPlace w (lent text.Answer))
   unfolding stepPlace
-  step-within w = by-test (eqb (w .refused) 0) (λ e. rw (e, stepPlace) (omega arith)) (λ e. rw (e, stepPlace) (line-few a _ (start-few (2 + w .accepted) a)))
+  step-within w =
+      by-test (eqb (w .refused) 0) (λ e. rw (e, stepPlace) (omega arith)) (λ e. rw (e, stepPlace) (line-few (lent text.Answer) _ (start-few (2 + w .accepted) (lent text.Answer))))
 
-  walk-within : (room : ℕ) (w : Walked) → Within s a (inRoom room w (report w) a .place)
+  pub walk-within : (room : ℕ) (w : Walked) (r : List ℕ) → Within (inRoom room w r (lent text.Answer) .place)
   unfolding inRoom afterWalk noRoom
-  walk-within room w = by-test (leb (length (report w)) room) (λ e. rw (e, inRoom) (step-within w)) (λ e. rw (e, inRoom) zero-le)
+  walk-within room w r = by-test (leb (length r) room) (λ e. rw (e, inRoom) (step-within w)) (λ e. rw (e, inRoom) zero-le)
 
-  pub place-within : (room : ℕ) → Within s a (judged s a room .place)
-  unfolding judged ending afterFault
-  place-within room = go (course-told s a)
-    where
-      go : {z : Course Walked} → Told s a z → Within s a (ending s a room z .place)
-      go (in-sheet {n} {at} f) = fault-within text.Sheet n at (f .within)
-      go (in-answer {n} {at} f) = fault-within text.Answer n at (f .within)
-      go (walks {w}) = walk-within room w
+pub place-within : (s a : List ℕ) (room : ℕ) → Within (λ x. textOf x s a) (judged s a room .place)
+unfolding judged ending afterFault
+place-within s a room = go (course-told s a)
+  where
+    go : {z : Course Walked} → Told s a z → Within (λ x. textOf x s a) (ending s a room z .place)
+    go (in-sheet {n} {at} f) = fault-within (λ x. textOf x s a) text.Sheet n at (f .within)
+    go (in-answer {n} {at} f) = fault-within (λ x. textOf x s a) text.Answer n at (f .within)
+    go (walks {x}) = walk-within (λ x. textOf x s a) room x (report x)
 
 -- ---- as a part of the text
 
@@ -80,12 +112,14 @@ module _ (s a : List ℕ) (room : ℕ) {p : Place} (is : p ≡ judged s a room .
       either text.Neither = fits-le zero-le f
       either text.Sheet = f
       either text.Answer = g
+      either text.Times = fits-le zero-le f
 
--- a text that is not the sheet: 0 and 2 are the tags of Neither and Answer
-pub elsewhere : (x : Text) → OneOf (0 ∷ 2 ∷ []) (tagOf the-type x) → (s a : RefT (List ℕ)) → (holder x s a ≡ a) × (length (textOf x (s .now) (a .now)) ≤ length (a .now))
+-- a text that is not the sheet: 0, 2 and 3 are the tags of Neither, Answer and Times
+pub elsewhere : (x : Text) → OneOf (0 ∷ 2 ∷ 3 ∷ []) (tagOf the-type x) → (s a : RefT (List ℕ)) → (holder x s a ≡ a) × (length (textOf x (s .now) (a .now)) ≤ length (a .now))
 elsewhere text.Neither h s a = (refl, zero-le)
-elsewhere text.Sheet h s a = absurd (⊎-elim (λ z. omega (arith, z)) (λ z. omega (arith, z)) h)
+elsewhere text.Sheet h s a = absurd (⊎-elim (λ z. omega (arith, z)) (⊎-elim (λ z. omega (arith, z)) (λ z. omega (arith, z))) h)
 elsewhere text.Answer h s a = (refl, omega arith)
+elsewhere text.Times h s a = (refl, zero-le)
 
 pub sized : (start size : ℕ) (l : List ℕ) → take (start + size - start) l ≡ take size l
 sized start size l = ap (λ (n : ℕ). take n l) (let e : start + size - start ≡ size = omega arith in e)

@@ -15,13 +15,12 @@ use Rattle.forms.proofs.Tests.{by-test}
 use Rattle.model.specs.declared.Walked.{Walked}
 use Rattle.model.specs.declared.Text.{Text}
 use Rattle.model.specs.declared.Text.the-variants as text
-use Rattle.rules.proofs.Numbers.{WalkNumbers}
 use Rattle.report.specs.Report.{countText, report}
 use Rattle.report.specs.Faults.{textText, faultText}
 use Rattle.report.proofs.Widths.{number-le}
 use Rattle.judged.specs.declared.Verdict.{Verdict}
 use Rattle.judged.specs.Course.{Course, course}
-use Rattle.judged.specs.Judged.{Judgement, textOf, faultLine, afterFault, noRoom, afterWalk, inRoom, ending, judged, over, buffer, printing, printed}
+use Rattle.judged.specs.Judged.{Judgement, faultLine, afterFault, noRoom, afterWalk, inRoom, ending, judged, over, buffer, printing, printed}
 use Rattle.judged.proofs.Read.{fault-numbered}
 use Rattle.inks.specs.Written.{Written}
 use Rattle.judging.specs.Counts.{Counts}
@@ -35,87 +34,86 @@ unfolding textText
 text-short text.Neither = zero-le
 text-short text.Sheet = omega arith
 text-short text.Answer = omega arith
+text-short text.Times = omega arith
 
 count-short : (k : List ℕ) (n : ℕ) → n < 10 ^ 5 → length (countText k n) ≤ length k + 6
 unfolding countText oneText
 count-short k n h = simp length-append (omega (arith, number-le 4 n h))
 
-fault-short : (x : Text) (line n : ℕ) → line ≤ 32769 → n ≤ 5 → length (faultText x line n) ≤ 8192
+pub fault-short : (x : Text) (line n : ℕ) → line ≤ 32769 → n ≤ 99 → length (faultText x line n) ≤ 8192
 unfolding faultText
 fault-short x line n h l = simp length-append (omega (arith, text-short x, count-short (bytes "line=") line (omega arith), count-short (bytes "refused=") n (omega arith)))
 
--- ---- which of the two is printed
+-- ---- which of the two is printed: three lines after the numbers that are of a text, and else the report
+
+pub record Chosen (OfText : ℕ → Type 0) (j : Judgement) (print : List ℕ) : Type 0 where
+  pub three-lines : OfText (j .verdict .refused) → (print ≡ faultText (j .verdict .text) (j .verdict .line) (j .verdict .refused)) × (j .bytes ≡ []) × (length print ≤ 8192)
+  pub the-report : (OfText (j .verdict .refused) → ⊥) → print ≡ j .bytes
+  pub written-is : j .verdict .written ≡ length (j .bytes)
+  pub has-room : length (j .bytes) ≤ 8192
+
+pub walk-chosen : (OfText : ℕ → Type 0) (w : Walked) (r a : List ℕ) → (OfText (w .refused) → ⊥) → (OfText 6 → ⊥) → Chosen OfText (inRoom 8192 w r a) (inRoom 8192 w r a .bytes)
+unfolding inRoom afterWalk noRoom
+walk-chosen OfText w r a h g =
+    by-test (leb (length r) 8192)
+    (λ e. rw (e, inRoom) (record { three-lines = λ z. absurd (h z); the-report = λ _. refl; written-is = refl; has-room = leb-true (length r) 8192 e }))
+    (λ e. rw (e, inRoom) (record { three-lines = λ z. absurd (g z); the-report = λ _. refl; written-is = refl; has-room = zero-le }))
+
+-- ---- what stands in the buffer, which held `old`
+
+abbrev pub Prints : List ℕ → List ℕ → List ℕ → ℕ → Type 0
+Prints print old new used = (used ≡ length print) × ((new ≡ over print old) × Counts used new)
+
+-- all of it has room
+prints : (print old : List ℕ) {new : List ℕ} {used : ℕ} → length old ≡ 8192 → length print ≤ 8192 → used ≡ length print → new ≡ over print old → Prints print old new used
+unfolding over
+prints print old {new} {used} long room e is =
+    let h : used ≤ length new = rw is (simp (length-append, length-drop) (omega arith)) in
+    (e, (is, (h, sym (length-take-le used new h))))
+
+module _ {OfText : ℕ → Type 0} {j : Judgement} {print : List ℕ} (k : Chosen OfText j print) (old : List ℕ) {v : Verdict} {mid : List ℕ}
+    (long : length old ≡ 8192) (is : v ≡ j .verdict) (after : mid ≡ over (j .bytes) old) where
+  pub report-printed : (OfText (v .refused) → ⊥) → Prints print old mid (v .written)
+  report-printed g =
+      let e = k .the-report (rw is at g) in
+      prints print old long (rw e (k .has-room)) (rw (e, is) (k .written-is)) (rw e after)
+
+  pub lines-printed : {new : List ℕ} {used : ℕ} → OfText (v .refused) → Written mid (faultText (v .text) (v .line) (v .refused)) new 0 used → Prints print old new used
+  unfolding over
+  lines-printed h w =
+      let l = k .three-lines (rw is at h) in
+      let kept : mid ≡ old = after ∙ ap (λ (b : List ℕ). over b old) (l .1) in
+      let all = fits-all (rw (kept, is, ← l .0) at w) (omega (arith, l .2, long)) in
+      prints print old long (l .2) (all .0) (all .1)
+
+-- ---- the judge's print
 
 abbrev OfText : ℕ → Type 0
 OfText n = (1 ≤ n) × (n ≤ 5)
 
-record Chosen (j : Judgement) (print : List ℕ) : Type 0 where
-  three-lines : OfText (j .verdict .refused) → (print ≡ faultText (j .verdict .text) (j .verdict .line) (j .verdict .refused)) × (j .bytes ≡ []) × (length print ≤ 8192)
-  the-report : (OfText (j .verdict .refused) → ⊥) → print ≡ j .bytes
-  written-is : j .verdict .written ≡ length (j .bytes)
-  has-room : length (j .bytes) ≤ 8192
+fault-chosen : (x : Text) (n at : ℕ) (s : List ℕ) → OfText n → faultLine n at s ≤ 32769 → Chosen OfText (afterFault x n at s) (faultText x (faultLine n at s) n)
+unfolding afterFault
+fault-chosen x n at s h l = record {
+  three-lines = λ _. (refl, refl, fault-short x (faultLine n at s) n l (omega arith));
+  the-report = λ g. absurd (g h);
+  written-is = refl;
+  has-room = zero-le;
+}
 
-module _ (s a : List ℕ) where
-  fault-chosen : (x : Text) (n at : ℕ) → OfText n → faultLine n at (textOf x s a) ≤ 32769 → Chosen (afterFault x n at (textOf x s a)) (faultText x (faultLine n at (textOf x s a)) n)
-  unfolding afterFault
-  fault-chosen x n at h l = record {
-    three-lines = λ _. (refl, refl, fault-short x (faultLine n at (textOf x s a)) n l (h .1));
-    the-report = λ g. absurd (g h);
-    written-is = refl;
-    has-room = zero-le;
-  }
-
-  walk-chosen : (w : Walked) → WalkNumbers 1024 w → Chosen (inRoom 8192 w (report w) a) (inRoom 8192 w (report w) a .bytes)
-  unfolding inRoom afterWalk noRoom
-  walk-chosen w h =
-      by-test (leb (length (report w)) 8192)
-      (λ e. rw (e, inRoom) (record {
-        three-lines = λ g. absurd (⊎-elim (λ z. omega (arith, g, z)) (λ z. omega (arith, g, z)) (h .refused .range));
-        the-report = λ _. refl;
-        written-is = refl;
-        has-room = leb-true (length (report w)) 8192 e;
-      }))
-      (λ e. rw (e, inRoom) (record { three-lines = λ g. absurd (omega (arith, g)); the-report = λ _. refl; written-is = refl; has-room = zero-le }))
-
-  chosen : Chosen (judged s a 8192) (printed s a)
-  unfolding judged printed ending printing
-  chosen = go (course s a) refl (course-told s a)
-    where
-      go : (z : Course Walked) → course s a ≡ z → Told s a z → Chosen (ending s a 8192 z) (printing s a z)
-      go _ e (in-sheet {n} {at} f) = fault-chosen text.Sheet n at (fault-numbered s a text.Sheet n at e) (f .few)
-      go _ e (in-answer {n} {at} f) = fault-chosen text.Answer n at (fault-numbered s a text.Answer n at e) (f .few)
-      go _ e (walks {w}) = walk-chosen w (walked-numbers s a w e)
-
--- ---- what stands in the buffer, which held `old`
-
-abbrev Prints : List ℕ → List ℕ → List ℕ → List ℕ → ℕ → Type 0
-Prints s a old new used = (used ≡ length (printed s a)) × ((new ≡ over (printed s a) old) × Counts used new)
-
--- all of it has room
-prints : (s a old : List ℕ) {new : List ℕ} {used : ℕ} → length old ≡ 8192 → length (printed s a) ≤ 8192
-    → used ≡ length (printed s a) → new ≡ over (printed s a) old → Prints s a old new used
-unfolding over
-prints s a old {new} {used} long room e is =
-    let h : used ≤ length new = rw is (simp (length-append, length-drop) (omega arith)) in
-    (e, (is, (h, sym (length-take-le used new h))))
+chosen : (s a : List ℕ) → Chosen OfText (judged s a 8192) (printed s a)
+unfolding judged printed ending printing
+chosen s a = go (course s a) refl (course-told s a)
+  where
+    go : (z : Course Walked) → course s a ≡ z → Told s a z → Chosen OfText (ending s a 8192 z) (printing s a z)
+    go _ e (in-sheet {n} {at} f) = fault-chosen text.Sheet n at s (fault-numbered s a text.Sheet n at e) (f .few)
+    go _ e (in-answer {n} {at} f) = fault-chosen text.Answer n at a (fault-numbered s a text.Answer n at e) (f .few)
+    go _ e (walks {x}) =
+        let h = walked-numbers s a x e .refused .range in
+        walk-chosen OfText x (report x) a (λ g. ⊎-elim (λ z. omega (arith, g, z)) (λ z. omega (arith, g, z)) h) (λ g. omega (arith, g))
 
 module _ (s a old : List ℕ) {v : Verdict} {mid : List ℕ} (long : length old ≡ 8192) (is : v ≡ judged s a (length old) .verdict) (after : mid ≡ buffer s a old) where
-  told : v ≡ judged s a 8192 .verdict
-  told = rw long at is
+  pub report-prints : (OfText (v .refused) → ⊥) → Prints (printed s a) old mid (v .written)
+  report-prints = report-printed (chosen s a) old long (rw long at is) (rw long at after)
 
-  left : mid ≡ over (judged s a 8192 .bytes) old
-  left = rw long at after
-
-  pub report-prints : (OfText (v .refused) → ⊥) → Prints s a old mid (v .written)
-  report-prints g =
-      let k = chosen s a in
-      let e = k .the-report (rw told at g) in
-      prints s a old long (rw e (k .has-room)) (rw (e, told) (k .written-is)) (rw e left)
-
-  pub lines-print : {new : List ℕ} {used : ℕ} → OfText (v .refused) → Written mid (faultText (v .text) (v .line) (v .refused)) new 0 used → Prints s a old new used
-  unfolding over
-  lines-print h w =
-      let k = chosen s a .three-lines (rw told at h) in
-      let kept : mid ≡ old = left ∙ ap (λ (l : List ℕ). over l old) (k .1) in
-      let all = fits-all (rw (kept, told, ← k .0) at w) (omega (arith, k .2, long)) in
-      prints s a old long (k .2) (all .0) (all .1)
+  pub lines-print : {new : List ℕ} {used : ℕ} → OfText (v .refused) → Written mid (faultText (v .text) (v .line) (v .refused)) new 0 used → Prints (printed s a) old new used
+  lines-print = lines-printed (chosen s a) old long (rw long at is) (rw long at after)

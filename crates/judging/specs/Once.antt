@@ -4,6 +4,12 @@ use mathlib.Core.List.{List}
 use mathlib.Core.Path.{_≡_}
 use lib.ListN.{length}
 use denote.Ref.{RefT}
+use Rattle.model.specs.declared.Tables.{Tables}
+use Rattle.model.specs.declared.Program.{Program}
+use Rattle.model.specs.declared.Answer.{Answer}
+use Rattle.judged.specs.Course.{Course}
+use Rattle.judging.specs.declared.Pair.{Pair}
+use Rattle.judging.specs.Came.{Comes}
 use Rattle.judged.specs.declared.Verdict.{Verdict}
 use Rattle.judged.specs.declared.Place.{Place}
 use Rattle.judged.specs.Judged.{judged, over, buffer, printed}
@@ -16,6 +22,10 @@ NoOtherVerdict =
     → (v ≡ judged s a (length old) .verdict) × (b ≡ buffer s a old)
     → (w ≡ judged s a (length old) .verdict) × (c ≡ buffer s a old)
     → (v ≡ w) × (b ≡ c)
+
+-- `read_both`
+unfoldable pub NoOtherPair : Type 0
+NoOtherPair = (m : Course (Tables × Program × Answer)) (p q : Pair) → Comes p m → Comes q m → p ≡ q
 
 -- `place`
 unfoldable pub NoOtherPlace : Type 0

@@ -19,6 +19,7 @@ abbrev pub holder : Text → RefT (List ℕ) → RefT (List ℕ) → RefT (List 
 holder text.Neither s a = a
 holder text.Sheet s a = s
 holder text.Answer s a = a
+holder text.Times s a = a
 
 -- the part of the sheet or of the answer that a place says
 abbrev pub PartAt : Place → RefT (List ℕ) → RefT (List ℕ) → RefT (List ℕ) → Type 0

@@ -2,16 +2,21 @@
 // Promised: on any bytes, every field and byte is what crates/judged/specs says, and the line at fault is that very part of its text.
 use judged::Place;
 use judged::Verdict;
+use model::Answer;
+use model::Program;
+use model::Tables;
 use model::Text;
 use model::Walked;
 ghost use mathlib.Core.Path.{_≡_};
 ghost use mathlib.Core.List.{List};
-ghost use Prim.Native.Nat.{ℕ, _≤_};
+ghost use Prim.Native.Nat.{ℕ, _+_};
 ghost use lib.ListN.{length};
 ghost use Rattle.report.specs.Report.{report};
-ghost use Rattle.judged.specs.Course.{course};
-ghost use Rattle.judged.specs.Judged.{faultLine, afterFault, emptyAt, lineAt, faultPlace, inRoom, judged, over, buffer, printed};
-ghost use Rattle.judging.specs.Came.{came};
+ghost use Rattle.rules.specs.Walk.{walkAnswer};
+ghost use Rattle.judged.specs.Course.{default, both};
+ghost use Rattle.reading.specs.Place.{lineStart};
+ghost use Rattle.judged.specs.Judged.{faultLine, afterFault, emptyAt, lineAt, faultPlace, stepPlace, noRoom, afterWalk, inRoom, judged, over, buffer, printed};
+ghost use Rattle.judging.specs.Came.{nothingSaid, Comes};
 ghost use Rattle.judging.specs.Counts.{Counts};
 ghost use Rattle.judging.specs.Part.{PartAt};
 
@@ -21,58 +26,73 @@ const LONGEST: usize = 32768;
 const DEFAULT: u8 = 4;
 
 // A text is refused with a number at a place of it, or both are read.
-enum Outcome {
+pub enum Outcome {
     InSheet(u8, usize),
     InAnswer(u8, usize),
     Reached,
 }
 
-// How far the two texts came, and the walk where both are read.
-struct Ended {
-    outcome: Outcome,
-    walked: Walked,
+// How far the two texts came, and what they say where both are read.
+pub struct Pair {
+    pub outcome: Outcome,
+    pub tables: Tables,
+    pub program: Program,
+    pub steps: Answer,
 }
 
-fn come_to(outcome: Outcome, walked: Walked) -> Ended
-    ensures { λ r. ⌜ came (r .outcome) (r .walked) ≡ came outcome walked ⌝ }
+// Nothing stands beside a refused text.
+fn nothing_said(outcome: Outcome) -> Pair
+    ensures { λ r. ⌜ r ≡ nothingSaid outcome ⌝ }
 {
-    Ended { outcome, walked }
-}
-
-// What stands beside a refused text.
-fn no_walk() -> Walked {
-    let configuration = model::start();
-    Walked {
-        accepted: 0,
-        refused: 0,
-        configuration,
+    let tables = model::no_tables();
+    let program = model::no_program();
+    let steps = model::no_answer();
+    Pair {
+        outcome,
+        tables,
+        program,
+        steps,
     }
 }
 
-// "length of the sheet, of the answer, then the sheet's lines, the answer's lines, the steps"
-fn course(sheet: &[u8], answer: &[u8]) -> Ended
-    ensures { λ r. ⌜ came (r .outcome) (r .walked) ≡ course (now (sheet .entry)) (now (answer .entry)) ⌝ }
+// "length of the sheet, of the answer, then the sheet's lines, the answer's lines"
+pub fn read_both(sheet: &[u8], answer: &[u8]) -> Pair
+    ensures { λ r. ⌜ Comes r (both (now (sheet .entry)) (now (answer .entry))) ⌝ }
 {
-    let none = no_walk();
     if LONGEST < sheet.len() {
-        return come_to(Outcome::InSheet(1, 0), none);
+        return nothing_said(Outcome::InSheet(1, 0));
     }
     if LONGEST < answer.len() {
-        return come_to(Outcome::InAnswer(1, 0), none);
+        return nothing_said(Outcome::InAnswer(1, 0));
     }
     let said = sheets::read_sheet(sheet);
     if said.refused != 0 {
-        return come_to(Outcome::InSheet(said.refused, said.place), none);
+        return nothing_said(Outcome::InSheet(said.refused, said.place));
     }
     let given = answers::read_answer(answer);
     if given.refused != 0 {
-        return come_to(Outcome::InAnswer(given.refused, given.place), none);
+        return nothing_said(Outcome::InAnswer(given.refused, given.place));
     }
+    let outcome = Outcome::Reached;
     let tables = said.tables;
     let program = said.program;
     let steps = given.answer;
-    let walked = walks::walk_answer(DEFAULT, tables, program, steps);
-    come_to(Outcome::Reached, walked)
+    Pair {
+        outcome,
+        tables,
+        program,
+        steps,
+    }
+}
+
+// ".. the steps"
+fn walk_pair(pair: Pair) -> Walked
+    ensures { λ r. ⌜ r ≡ walkAnswer default (pair .tables) (pair .program) (pair .steps) ⌝ }
+{
+    let tables = pair.tables;
+    let program = pair.program;
+    let steps = pair.steps;
+    walks::walk_answer(DEFAULT, tables, program, steps)
 }
 
 // "`line=` (from 1; .. 0 for number 1)"
@@ -86,7 +106,7 @@ fn fault_line(s: &[u8], n: u8, at: usize) -> usize
 }
 
 // "After 1 to 6 the counts in the result are 0".
-fn after_fault(x: Text, s: &[u8], n: u8, at: usize) -> Verdict
+pub fn after_fault(x: Text, s: &[u8], n: u8, at: usize) -> Verdict
     ensures { λ r. ⌜ r ≡ afterFault x n at (now (s .entry)) .verdict ⌝ }
 {
     let line = fault_line(s, n, at);
@@ -100,22 +120,24 @@ fn after_fault(x: Text, s: &[u8], n: u8, at: usize) -> Verdict
     }
 }
 
-// The report, or 6 where it has no room: its length is known before its first byte is written.
-fn after_walk(w: Walked, lent: &mut [u8]) -> Verdict
-    ensures verdict { λ r. ⌜ ((a : List ℕ) → r ≡ inRoom (length (now (lent .entry))) w (report w) a .verdict) ⌝ }
-    ensures buffer { λ r. ⌜ ((a : List ℕ) → now (lent .exit) ≡ over (inRoom (length (now (lent .entry))) w (report w) a .bytes) (now (lent .entry))) ⌝ }
+// "a report that doesn't fit gives 6 in place of the steps' number"
+pub fn no_room() -> Verdict
+    ensures { λ r. ⌜ r ≡ noRoom .verdict ⌝ }
 {
-    if lent.len() < writers::report_length(w) {
-        return Verdict {
-            refused: 6,
-            accepted: 0,
-            next: 0,
-            written: 0,
-            text: Text::Neither,
-            line: 0,
-        };
+    Verdict {
+        refused: 6,
+        accepted: 0,
+        next: 0,
+        written: 0,
+        text: Text::Neither,
+        line: 0,
     }
-    let written = writers::write_report(lent, w);
+}
+
+// What a walk comes to, whose report has so many bytes.
+pub fn walk_verdict(w: Walked, written: usize) -> Verdict
+    ensures { λ r. ⌜ ((x a : List ℕ) → written ≡ length x → r ≡ afterWalk w x a .verdict) ⌝ }
+{
     Verdict {
         refused: w.refused,
         accepted: w.accepted,
@@ -126,18 +148,29 @@ fn after_walk(w: Walked, lent: &mut [u8]) -> Verdict
     }
 }
 
+// The report, or 6 where it has no room: its length is known before its first byte is written.
+fn after_walk(w: Walked, lent: &mut [u8]) -> Verdict
+    ensures verdict { λ r. ⌜ ((a : List ℕ) → r ≡ inRoom (length (now (lent .entry))) w (report w) a .verdict) ⌝ }
+    ensures buffer { λ r. ⌜ ((a : List ℕ) → now (lent .exit) ≡ over (inRoom (length (now (lent .entry))) w (report w) a .bytes) (now (lent .entry))) ⌝ }
+{
+    if lent.len() < writers::report_length(w) {
+        return no_room();
+    }
+    let written = writers::write_report(lent, w);
+    walk_verdict(w, written)
+}
+
 // The verdict, and the report in the lent buffer.
 pub fn judge(sheet: &[u8], answer: &[u8], report: &mut [u8]) -> Verdict
     ensures verdict { λ r. ⌜ r ≡ judged (now (sheet .entry)) (now (answer .entry)) (length (now (report .entry))) .verdict ⌝ }
     ensures buffer { λ r. ⌜ now (report .exit) ≡ buffer (now (sheet .entry)) (now (answer .entry)) (now (report .entry)) ⌝ }
 {
-    let ended = course(sheet, answer);
-    let outcome = ended.outcome;
-    let walked = ended.walked;
+    let pair = read_both(sheet, answer);
+    let outcome = pair.outcome;
     match outcome {
         Outcome::InSheet(n, at) => after_fault(Text::Sheet, sheet, n, at),
         Outcome::InAnswer(n, at) => after_fault(Text::Answer, answer, n, at),
-        Outcome::Reached => after_walk(walked, report),
+        Outcome::Reached => after_walk(walk_pair(pair), report),
     }
 }
 
@@ -163,7 +196,7 @@ fn line_at(x: Text, at: usize, s: &[u8]) -> Place
 }
 
 // "for 2 to 5, the line at fault, up to its LF or the text's end ..; for 1, the empty start of that text"
-fn fault_place(x: Text, s: &[u8], n: u8, at: usize) -> Place
+pub fn fault_place(x: Text, s: &[u8], n: u8, at: usize) -> Place
     ensures { λ r. ⌜ r ≡ faultPlace x n at (now (s .entry)) ⌝ }
 {
     match n {
@@ -172,35 +205,52 @@ fn fault_place(x: Text, s: &[u8], n: u8, at: usize) -> Place
     }
 }
 
-// "for a step, its line; .. for 6, the empty start of the answer; with no refusal, the empty end of the answer"
-fn step_place(w: Walked, answer: &[u8], room: usize) -> Place
-    requires { ⌜ w .accepted ≤ 1024 ⌝ }
-    ensures { λ r. ⌜ r ≡ inRoom room w (report w) (now (answer .entry)) .place ⌝ }
+// Where step n of an answer has its line: the answer's third line and on.
+fn step_start(answer: &[u8], n: usize) -> usize
+    ensures { λ r. ⌜ r ≡ lineStart (2 + n) (now (answer .entry)) ⌝ }
 {
-    if room < writers::report_length(w) {
-        return empty_at(Text::Answer, 0);
-    }
+    let first = lines::line_start(answer, 2);
+    first + lines::line_start(&answer[first..], n)
+}
+
+// "for a step, its line; .. with no refusal, the empty end of the answer"
+pub fn step_place(w: Walked, answer: &[u8]) -> Place
+    ensures { λ r. ⌜ r ≡ stepPlace w (now (answer .entry)) ⌝ }
+{
     let refused = w.refused;
     match refused {
         0 => empty_at(Text::Answer, answer.len()),
         _ => {
-            let start = lines::line_start(answer, 2 + w.accepted);
+            let start = step_start(answer, w.accepted);
             line_at(Text::Answer, start, answer)
         }
     }
+}
+
+// "for 6, the empty start of the answer", where the report is longer than the room
+pub fn place_in_room(w: Walked, size: usize, answer: &[u8], room: usize) -> Place
+    ensures { λ r. ⌜ ((x : List ℕ) → size ≡ length x → r ≡ inRoom room w x (now (answer .entry)) .place) ⌝ }
+{
+    if room < size {
+        return empty_at(Text::Answer, 0);
+    }
+    step_place(w, answer)
 }
 
 // Which text held the line at fault, where the line starts, and how many bytes it has.
 pub fn place(sheet: &[u8], answer: &[u8], room: usize) -> Place
     ensures { λ r. ⌜ r ≡ judged (now (sheet .entry)) (now (answer .entry)) room .place ⌝ }
 {
-    let ended = course(sheet, answer);
-    let outcome = ended.outcome;
-    let walked = ended.walked;
+    let pair = read_both(sheet, answer);
+    let outcome = pair.outcome;
     match outcome {
         Outcome::InSheet(n, at) => fault_place(Text::Sheet, sheet, n, at),
         Outcome::InAnswer(n, at) => fault_place(Text::Answer, answer, n, at),
-        Outcome::Reached => step_place(walked, answer, room),
+        Outcome::Reached => {
+            let walked = walk_pair(pair);
+            let size = writers::report_length(walked);
+            place_in_room(walked, size, answer, room)
+        }
     }
 }
 

@@ -2,20 +2,23 @@
 -- Assumes nothing.
 use Prim.Native.Nat.{ℕ, zero, suc, _+_, _-_, _<_, _≤_, zero-le, min}
 use mathlib.Core.List.{List}
-use mathlib.Core.Bool.{_&&_}
-use mathlib.Core.Path.{_≡_, refl, sym, ap, _∙_}
+use mathlib.Core.Bool.{Bool}
+use mathlib.Core.Path.{_≡_, refl, sym, ap, fun-ext, _∙_}
 use native.Mathlib.Nat.{sub-zero, add-zero}
 use native.Mathlib.Omega.{arith}
 use lib.Dec.{leb, leb·zero}
 use lib.ListN.{length, take, drop, length-drop, drop-of-length-le}
 use lib.Seq.{take-all, drop-drop, drop-cons}
 use Rattle.forms.specs.Reader.{Reply, Reader}
+use Rattle.reading.specs.Limits.{digits}
+use Rattle.reading.specs.Kinds.{countLineIn, countLine}
 use Rattle.reading.specs.Lines.{Run, Lines, on, stop, next, line, each, atEnd}
 use Rattle.texts.specs.Reads.{Outcome, past, fault, Reads}
 use Rattle.texts.proofs.Laws.{from-end, told}
 use Rattle.lines.specs.declared.Limit.{Limit}
 use Rattle.lines.specs.declared.Limit.the-variants as limit
-use Rattle.lines.specs.Counts.{limitOk, least, greatest}
+use Rattle.lines.specs.declared.Count.{Count}
+use Rattle.lines.specs.Counts.{limitOk, least, greatest, between, CountsIn, Counts}
 use Rattle.lines.specs.declared.Went.{Went}
 use Rattle.lines.specs.declared.Went.the-variants.{On, Stop}
 use Rattle.lines.specs.Runs.{run, ReadsTo}
@@ -33,6 +36,10 @@ moved s start l (fault k) h = record { within = zero-le; same = h .same }
 rest-is : (start : ℕ) (s : List ℕ) → take (length s - start) (drop start s) ≡ drop start s
 rest-is start s = take-all (length s - start) (drop start s) (simp length-drop (omega arith))
 
+-- the place at, or the text's end where that lies past it
+pub same-rest : (s : List ℕ) (at start : ℕ) → start ≡ min at (length s) → drop start s ≡ drop at s
+same-rest s at start e = ap (λ (n : ℕ). drop n s) e ∙ from-end s at
+
 -- what was promised of an answer r to that part, and that r is v
 module _ {A R : Type 0} (says : R → Outcome A) (m : Reader A) (s : List ℕ) (at start : ℕ) where
   pub line-told : start ≡ min at (length s) → {r : R} (v : R)
@@ -40,19 +47,29 @@ module _ {A R : Type 0} (says : R → Outcome A) (m : Reader A) (s : List ℕ) (
       → Reads s (onward start (says v)) (m (drop at s))
   line-told e v h q =
       let l : start ≤ length s = omega arith in
-      let d : drop start s ≡ drop at s = ap (λ (n : ℕ). drop n s) e ∙ from-end s at in
-      rw d at (moved s start l (says v) (told says v (rw (rest-is start s) at h) q))
+      rw (same-rest s at start e) at (moved s start l (says v) (told says v (rw (rest-is start s) at h) q))
 
 -- ---- a count's limit
-pub limit-is : (l : Limit) (a : ℕ) → limitOk l a ≡ (leb (least l) a && leb a (greatest l))
-limit-is limit.Depth a = rw (leb·zero a)
+from-none : (b a : ℕ) → leb a b ≡ between 0 b a
+from-none b a = rw (leb·zero a)
+
+limit-is : (l : Limit) (a : ℕ) → limitOk l a ≡ between (least l) (greatest l) a
+limit-is limit.Depth a = from-none 8 a
 limit-is limit.Types a = refl
 limit-is limit.Places a = refl
-limit-is limit.Transitions a = rw (leb·zero a)
-limit-is limit.Behaviors a = rw (leb·zero a)
-limit-is limit.Ports a = rw (leb·zero a)
-limit-is limit.Program a = rw (leb·zero a)
-limit-is limit.Steps a = rw (leb·zero a)
+limit-is limit.Transitions a = from-none 32 a
+limit-is limit.Behaviors a = from-none 8 a
+limit-is limit.Ports a = from-none 16 a
+limit-is limit.Program a = from-none 256 a
+limit-is limit.Steps a = from-none 1024 a
+
+-- a count line by the numbers that its limit lies between
+pub count-to : (d b : ℕ) (k s : List ℕ) → countLineIn d k (λ a. leb a b) s ≡ countLineIn d k (between 0 b) s
+count-to d b k s = ap (λ (f : ℕ → Bool). countLineIn d k f s) (fun-ext (from-none b))
+
+pub count-limit : (l : Limit) (k t : List ℕ) {s : List ℕ} {a b : ℕ} {r : Count} → a ≡ least l → b ≡ greatest l
+    → CountsIn s a b r (countLineIn digits k (between a b) t) → Counts s l r (countLine k (limitOk l) t)
+count-limit l k t e f h = rw (fun-ext (limit-is l)) (rw (e, f) at h)
 
 -- ---- one line of a run, in front of the rest t of the text s
 module _ {A : Type 0} (m : Reader A) (t : List ℕ) {s : List ℕ} where

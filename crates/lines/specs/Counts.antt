@@ -1,7 +1,8 @@
 -- A line of a count: its limit, and what each case of its enum says.
 use Prim.Native.Nat.{ℕ, _≤_}
 use mathlib.Core.List.{List}
-use mathlib.Core.Bool.{Bool}
+use mathlib.Core.Bool.{Bool, _&&_}
+use lib.Dec.{leb}
 use Rattle.forms.specs.Reader.{Reply}
 use Rattle.reading.specs.Limits.{depthOk, typesOk, placesOk, transitionsOk, behaviorsOk, portsOk, programOk, stepsOk}
 use Rattle.texts.specs.Reads.{Outcome, past, fault, Reads}
@@ -41,15 +42,23 @@ greatest limit.Ports = 16
 greatest limit.Program = 256
 greatest limit.Steps = 1024
 
+-- a number from a to b
+abbrev pub between : ℕ → ℕ → ℕ → Bool
+between a b n = leb a n && leb n b
+
 abbrev pub countSays : Count → Outcome ℕ
 countSays (count.Got a n) = past a n
 countSays (count.Refused k) = fault k
 
-abbrev pub Limited : Limit → Count → Type 0
-Limited l (count.Got a n) = (least l ≤ a) × (a ≤ greatest l)
-Limited l (count.Refused k) = Unit
+abbrev pub Lies : ℕ → ℕ → Count → Type 0
+Lies a b (count.Got x n) = (a ≤ x) × (x ≤ b)
+Lies a b (count.Refused k) = Unit
 
--- the answer r is what a definition that replies m says of the text s, and a count that was read keeps to its limit
-pub record Counts (s : List ℕ) (l : Limit) (r : Count) (m : Reply ℕ) : Type 0 where
+-- the answer r is what a definition that replies m says of the text s, and a count that was read lies from a to b
+pub record CountsIn (s : List ℕ) (a b : ℕ) (r : Count) (m : Reply ℕ) : Type 0 where
   pub reads : Reads s (countSays r) m
-  pub limited : Limited l r
+  pub limited : Lies a b r
+
+-- the same for a count with a limit's name
+abbrev pub Counts : List ℕ → Limit → Count → Reply ℕ → Type 0
+Counts s l r m = CountsIn s (least l) (greatest l) r m

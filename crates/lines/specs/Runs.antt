@@ -14,13 +14,23 @@ abbrev pub run : {A : Type 0} → Went → A → List ℕ → Run A
 run On a s = on a s
 run (Stop n) a s = stop n s
 
+-- 01's number: 0 where the reading went on
+abbrev pub refusalOf : Went → ℕ
+refusalOf On = 0
+refusalOf (Stop k) = k
+
+-- on the text s, the answer (w, at, a) is what a definition says that runs to m: the same group or number, at the next line
+-- or the line at fault; beside a refusal the group says nothing
+pub record RunsTo {A : Type 0} (s : List ℕ) (w : Went) (at : ℕ) (a : A) (m : Run A) : Type 0 where
+  pub within : at ≤ length s
+  pub same : run w a (drop at s) ≡ m
+
 -- after a refusal the group is as it was
 abbrev pub Kept : {A : Type 0} → Went → A → A → Type 0
 Kept On old a = Unit
 Kept (Stop n) old a = a ≡ old
 
--- on the text s, the answer (w, at, a) is what a definition says that runs to m: the same group or number, at the next line
--- or the line at fault; after a refusal the group is the old one
+-- the same, and after a refusal the group is the old one
 pub record ReadsTo {A : Type 0} (s : List ℕ) (old : A) (w : Went) (at : ℕ) (a : A) (m : Run A) : Type 0 where
   pub within : at ≤ length s
   pub same : run w a (drop at s) ≡ m

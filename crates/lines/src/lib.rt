@@ -6,12 +6,12 @@ use texts::Number;
 ghost use mathlib.Core.Path.{_≡_};
 ghost use lib.ListN.{length, drop};
 ghost use Rattle.texts.specs.Reads.{Reads};
-ghost use Rattle.texts.specs.Says.{dueSays};
-ghost use Rattle.reading.specs.Kinds.{dueLine, countLine};
+ghost use Rattle.texts.specs.Says.{most, dueSays};
+ghost use Rattle.reading.specs.Kinds.{dueLine, countLineIn, countLine};
 ghost use Rattle.reading.specs.Lines.{atEnd};
 ghost use Rattle.reading.specs.Place.{upToLf, lineNumber, lineStart};
-ghost use Rattle.lines.specs.Counts.{limitOk, least, greatest, Counts};
-ghost use Rattle.lines.specs.Runs.{run, countWent};
+ghost use Rattle.lines.specs.Counts.{limitOk, least, greatest, between, CountsIn, Counts};
+ghost use Rattle.lines.specs.Runs.{run, refusalOf, countWent};
 
 // The limits of the counts, by the counts' names.
 pub enum Limit {
@@ -80,20 +80,27 @@ fn greatest(limit: Limit) -> u32
     }
 }
 
+// The line of a key and a number from the least to the greatest.
+pub fn within_line(s: &[u8], key: &[u8], digits: Digits, least: u32, greatest: u32) -> Count
+    ensures { λ r. ⌜ CountsIn (now (s .entry)) least greatest r (countLineIn (most digits) (now (key .entry)) (between least greatest) (now (s .entry))) ⌝ }
+{
+    let Number::Got(a, used) = texts::number_line(s, key, digits) else {
+        return Count::Refused(2);
+    };
+    if a < least {
+        return Count::Refused(3);
+    }
+    if greatest < a {
+        return Count::Refused(3);
+    }
+    Count::Got(a, used)
+}
+
 // The line of a key and a number within its limit.
 pub fn count_line(s: &[u8], key: &[u8], limit: Limit) -> Count
     ensures { λ r. ⌜ Counts (now (s .entry)) limit r (countLine (now (key .entry)) (limitOk limit) (now (s .entry))) ⌝ }
 {
-    let Number::Got(a, used) = texts::number_line(s, key, Digits::Five) else {
-        return Count::Refused(2);
-    };
-    if a < least(limit) {
-        return Count::Refused(3);
-    }
-    if greatest(limit) < a {
-        return Count::Refused(3);
-    }
-    Count::Got(a, used)
+    within_line(s, key, Digits::Five, least(limit), greatest(limit))
 }
 
 // The same lines at a place of a text: the part from there on, and the next line's place.
@@ -108,16 +115,29 @@ pub fn due_at(text: &[u8], at: usize, key: &[u8], number: u32) -> Due
     Due::Past(next)
 }
 
-pub fn count_at(text: &[u8], at: usize, key: &[u8], limit: Limit) -> Count
-    ensures { λ r. ⌜ Counts (now (text .entry)) limit r (countLine (now (key .entry)) (limitOk limit) (drop at (now (text .entry)))) ⌝ }
+pub fn within_at(
+    text: &[u8],
+    at: usize,
+    key: &[u8],
+    digits: Digits,
+    least: u32,
+    greatest: u32,
+) -> Count
+    ensures { λ r. ⌜ CountsIn (now (text .entry)) least greatest r (countLineIn (most digits) (now (key .entry)) (between least greatest) (drop at (now (text .entry)))) ⌝ }
 {
     let start = texts::place_in(text, at);
-    let count = count_line(&text[start..], key, limit);
+    let count = within_line(&text[start..], key, digits, least, greatest);
     let Count::Got(a, used) = count else {
         return count;
     };
     let next = start + used;
     Count::Got(a, next)
+}
+
+pub fn count_at(text: &[u8], at: usize, key: &[u8], limit: Limit) -> Count
+    ensures { λ r. ⌜ Counts (now (text .entry)) limit r (countLine (now (key .entry)) (limitOk limit) (drop at (now (text .entry)))) ⌝ }
+{
+    within_at(text, at, key, Digits::Five, least(limit), greatest(limit))
 }
 
 pub fn count_went(count: Count) -> Went
@@ -126,6 +146,16 @@ pub fn count_went(count: Count) -> Went
     match count {
         Count::Got(_, _) => Went::On,
         Count::Refused(k) => Went::Stop(k),
+    }
+}
+
+// The number of a run's refusal, 0 where it went on.
+pub fn refusal(went: Went) -> u8
+    ensures { λ r. ⌜ r ≡ refusalOf went ⌝ }
+{
+    match went {
+        Went::On => 0,
+        Went::Stop(k) => k,
     }
 }
 

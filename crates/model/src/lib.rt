@@ -104,10 +104,12 @@ pub struct Walked {
     pub configuration: Configuration,
 }
 
+// Which text a verdict or a place speaks of; the judge reads no times.
 pub enum Text {
     Neither,
     Sheet,
     Answer,
+    Times,
 }
 
 pub fn wide(x: u8) -> usize

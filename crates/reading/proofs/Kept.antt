@@ -16,7 +16,7 @@ use Rattle.model.specs.declared.Instruction.{Instruction}
 use Rattle.model.specs.declared.Step.{Step}
 use Rattle.model.specs.Verb.{addVerb, delVerb, pushbVerb, conVerb, dconVerb, waitVerb, fireVerb, endVerb, enterVerb, finishVerb}
 use Rattle.reading.specs.Limits.{digits, listOk, maskOk, endOk, idOk, placeOk, portOk, transitionOk, behaviorOk, kindOk, typeOk, initialOk, endsOk, useOk}
-use Rattle.reading.specs.Kinds.{dueLine, countLine, initialLine, tranLine, behaviorLine, group, portLine, instruction, doId, doNumber, doEnds, doLine, step, stepId, stepNumber, stepLine}
+use Rattle.reading.specs.Kinds.{dueLine, countLineIn, countLine, initialLine, tranLine, behaviorLine, group, portLine, instruction, doId, doNumber, doEnds, doLine, step, stepId, stepNumber, stepLine}
 use Rattle.reading.specs.Lawful.{instructionLawful, stepLawful}
 use Rattle.reading.proofs.Rests.{form-fault, limit-fault, clause-fault, Reads, Any, told-known, reads-then, reads-give, reads-check, reads-key, reads-on, reads-none}
 use Rattle.reading.proofs.Shapes.{Masked, reads-one, reads-two, reads-four, reads-set, reads-sets}
@@ -25,9 +25,12 @@ pub reads-due : (k : List ℕ) (n : ℕ) → Reads Any (dueLine k n)
 unfolding dueLine
 reads-due k n = reads-then (reads-key k) (λ _ _. reads-then (reads-one digits) (λ a _. λ s. told-known (reads-check (eqb a n) form-fault s) (λ _ _ _. tt)))
 
+pub reads-count-in : (d : ℕ) (k : List ℕ) (limit : ℕ → Bool) → Reads (λ a. limit a ≡ true) (countLineIn d k limit)
+unfolding countLineIn
+reads-count-in d k limit = reads-then (reads-key k) (λ _ _. reads-then (reads-one d) (λ a _. reads-then (reads-check (limit a) limit-fault) (λ _ e. reads-give e)))
+
 pub reads-count : (k : List ℕ) (limit : ℕ → Bool) → Reads (λ a. limit a ≡ true) (countLine k limit)
-unfolding countLine
-reads-count k limit = reads-then (reads-key k) (λ _ _. reads-then (reads-one digits) (λ a _. reads-then (reads-check (limit a) limit-fault) (λ _ e. reads-give e)))
+reads-count = reads-count-in digits
 
 -- ---- inside a type of n places and k transitions, where the initial places are m: what Lawful tests of each slot
 abbrev pub SetLawful : ℕ → ℕ → Type 0

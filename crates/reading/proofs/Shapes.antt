@@ -5,7 +5,7 @@ use mathlib.Core.List.{List, [], _∷_}
 use lib.Dec.{eqb}
 use Rattle.sets.specs.Mask.{with}
 use Rattle.forms.specs.Reader.{byte}
-use Rattle.forms.specs.Read.{digit, number, numberFrom, Set, follows, membersFrom, list, one, two, four, set, sets}
+use Rattle.forms.specs.Read.{digit, number, numberFrom, Set, follows, membersFrom, list, one, two, three, four, set, sets}
 use Rattle.forms.proofs.Back.{Topped, list-back}
 use Rattle.reading.proofs.Rests.{past, Told, gives, Reads, Any, told-from, bad-form, told-known, told-if, reads-then, reads-give, reads-key}
 
@@ -27,6 +27,10 @@ reads-one d = reads-number d _
 pub reads-two : (d : ℕ) → Reads Any (two d)
 unfolding two
 reads-two d = reads-then (reads-number d _) (λ _ _. reads-then (reads-number d _) (λ _ _. reads-give tt))
+
+pub reads-three : (d : ℕ) → Reads Any (three d)
+unfolding three
+reads-three d = reads-then (reads-number d _) (λ _ _. reads-then (reads-number d _) (λ _ _. reads-then (reads-number d _) (λ _ _. reads-give tt)))
 
 pub reads-four : (d : ℕ) → Reads Any (four d)
 unfolding four

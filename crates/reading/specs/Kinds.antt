@@ -17,13 +17,17 @@ dueLine k n = do
   a ← one digits
   check (eqb a n) 2
 
--- key=number with its limit: `depth=`, `types=`, `places=`, `transitions=`, `behaviors=`, `ports=`, `program=`, `steps=`
-unfoldable pub countLine : List ℕ → (ℕ → Bool) → Reader ℕ
-countLine k limit = do
+-- key=number with its limit, of at most d digits
+unfoldable pub countLineIn : ℕ → List ℕ → (ℕ → Bool) → Reader ℕ
+countLineIn d k limit = do
   key k
-  a ← one digits
+  a ← one d
   check (limit a) 3
   give a
+
+-- `depth=`, `types=`, `places=`, `transitions=`, `behaviors=`, `ports=`, `program=`, `steps=`
+abbrev pub countLine : List ℕ → (ℕ → Bool) → Reader ℕ
+countLine k limit = countLineIn digits k limit
 
 -- `initial=` list, in a type of n places
 unfoldable pub initialLine : ℕ → Reader ℕ

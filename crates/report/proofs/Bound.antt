@@ -27,7 +27,7 @@ use Rattle.report.proofs.Sums.{length-inTurn, sum-le, sums, length-inTu
 use Rattle.report.proofs.Widths.{number-le, places-le, apart-le, queue-le}
 
 -- a line `key=number`, of at most n + 1 digits
-count-le : (k : List ℕ) (n v : ℕ) → v < 10 ^ suc n → length (countText k v) ≤ length k + suc n + 1
+pub count-le : (k : List ℕ) (n v : ℕ) → v < 10 ^ suc n → length (countText k v) ≤ length k + suc n + 1
 unfolding countText oneText
 count-le k n v h = simp length-append (omega (arith, number-le n v h))
 
@@ -114,7 +114,7 @@ widths-le c (suc n) h =
 
 -- ---- the whole
 pub report-le : (default : ℕ) (t : Tables) (p : Program) (w : Walked)
-    → default ≤ 8 → Lawful t p → Proper default t p (w .configuration) → w .accepted ≤ 1024 → w .refused < 100 → length (report w) ≤ 8192
+    → default ≤ 8 → Lawful t p → Proper default t p (w .configuration) → w .accepted ≤ 1024 → w .refused < 100 → length (report w) ≤ 8182
 unfolding report connectionsText
 report-le default t p w small law proper accepted refused =
     let c = w .configuration in

@@ -10,6 +10,7 @@ unfoldable pub textText : Text → List ℕ
 textText text.Neither = []
 textText text.Sheet = bytes "text=sheet\n"
 textText text.Answer = bytes "text=answer\n"
+textText text.Times = bytes "text=times\n"
 
 unfoldable pub faultText : Text → ℕ → ℕ → List ℕ
 faultText x at refused = textText x ++ countText (bytes "line=") at ++ countText (bytes "refused=") refused

@@ -78,7 +78,7 @@ mask-short m = omega (arith, list-short (membersBelow 32 m), members-short 32 m)
 
 -- ---- the lines
 
-count-short : (k : List ℕ) (n : ℕ) → length (countText k n) ≤ length k + 8
+pub count-short : (k : List ℕ) (n : ℕ) → length (countText k n) ≤ length k + 8
 unfolding countText oneText
 count-short k n = simp length-append (omega (arith, number-short n))
 
@@ -111,6 +111,7 @@ unfolding textText
 text-short text.Neither = omega arith
 text-short text.Sheet = omega arith
 text-short text.Answer = omega arith
+text-short text.Times = omega arith
 
 pub fault-short : (x : Text) (at refused : ℕ) → length (faultText x at refused) ≤ 41
 unfolding faultText

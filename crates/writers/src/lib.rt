@@ -24,7 +24,7 @@ ghost use Rattle.inks.specs.Written.{Written};
 ghost use Rattle.writers.specs.Lines.{noted, byPort, lineOf, headPart, instancesPart, connectionsPart};
 
 // key=number
-fn write_count(t: &mut [u8], key: &[u8], v: usize) -> usize
+pub fn write_count(t: &mut [u8], key: &[u8], v: usize) -> usize
     ensures { λ r. ⌜ Written (now (t .entry)) (countText (now (key .entry)) v) (now (t .exit)) 0 r ⌝ }
 {
     let mut at = write_key(t, 0, key);
@@ -241,6 +241,7 @@ fn write_text(t: &mut [u8], x: Text) -> usize
         Text::Neither => 0,
         Text::Sheet => write_key(t, 0, b"text=sheet\n"),
         Text::Answer => write_key(t, 0, b"text=answer\n"),
+        Text::Times => write_key(t, 0, b"text=times\n"),
     }
 }
 

@@ -16,9 +16,13 @@ returns-3 : tie.Need-returns-3
 unfolding textText
 returns-3 c = rw (c .before .before .before .before .before .enum-told3 .given .1) (c .before .before .write-key2 .ensures)
 
+returns-4 : tie.Need-returns-4
+unfolding textText
+returns-4 c = rw (c .before .before .before .before .before .enum-told4 .given .1) (c .before .before .write-key3 .ensures)
+
 pub write-text-spec : {M : Type 1} → statement M
 write-text-spec =
     tie.close
     (tie.spec
     (λ c. search needs) (λ c. search needs) (λ c. search needs) (λ c κs. search needs) (λ c. search needs) (λ c. search needs)
-    (λ c κs. search needs) returns (λ c. search needs) returns-2 (λ c. search needs) returns-3)
+    (λ c κs. search needs) (λ c. search needs) (λ c. search needs) (λ c κs. search needs) returns (λ c. search needs) returns-2 (λ c. search needs) returns-3 (λ c. search needs) returns-4)
