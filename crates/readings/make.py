@@ -114,6 +114,7 @@ def exactly(size):
 
 put("sheet", "bytes_32768", exactly(32768))
 put("sheet", "bytes_32769", exactly(32768) + "x", 1)
+put("answer", "bytes_32768", joined(A) + "x" * (32768 - len(joined(A))), 5, len(A) + 1)
 put("answer", "bytes_32769", joined(A) + "x" * (32769 - len(joined(A))), 1)
 put("sheet", "bytes_32769_of_nothing", "\0" * 32769, 1)
 

@@ -9,20 +9,9 @@ use Rattle.model.specs.Empty.{noAnswer}
 use Rattle.reading.specs.Limits.{lengthOk}
 use Rattle.reading.specs.Lines.{Run, on, stop}
 use Rattle.reading.specs.Texts.{answer}
-use Rattle.lines.specs.declared.Went.{Went}
-use Rattle.lines.specs.declared.Went.the-variants.{On, Stop}
-use Rattle.answers.specs.declared.StepsRead.{StepsRead}
 use Rattle.answers.specs.declared.AnswerRead.{AnswerRead}
 
--- 01's number: 0 where the reading went on to the end
-abbrev pub refusalOf : Went → ℕ
-refusalOf On = 0
-refusalOf (Stop k) = k
-
 -- nothing is handed out beside a refusal
-abbrev pub unread : Went → ℕ → StepsRead
-unread w at = record { went = w; at = at; answer = noAnswer }
-
 abbrev pub refusedAnswer : ℕ → ℕ → AnswerRead
 refusedAnswer k at = record { refused = k; place = at; answer = noAnswer }
 

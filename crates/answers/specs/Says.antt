@@ -4,19 +4,12 @@ use mathlib.Core.Bool.{Bool}
 use lib.Dec.{leb}
 use Rattle.model.specs.declared.Step.{Step}
 use Rattle.texts.specs.Reads.{Outcome, past, fault}
-use Rattle.lines.specs.declared.Went.{Went}
-use Rattle.lines.specs.declared.Went.the-variants.{On, Stop}
 use Rattle.answers.specs.declared.StepLine.{StepLine}
 use Rattle.answers.specs.declared.StepLine.the-variants.{Got, Refused}
 
 abbrev pub stepSays : StepLine → Outcome Step
 stepSays (Got x n) = past x n
 stepSays (Refused k) = fault k
-
--- a step line went on, or stopped with its number
-abbrev pub stepWent : StepLine → Went
-stepWent (Got x n) = On
-stepWent (Refused k) = Stop k
 
 -- "places .. run to 15, transitions to 31": the limit of a number that runs to n
 abbrev pub runsTo : ℕ → ℕ → Bool

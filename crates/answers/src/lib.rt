@@ -1,7 +1,7 @@
 // An answer read whole: its two first lines, then its steps, each line from the part of the text that starts with it.
 // Promised: for every text `read_answer` answers the one number, place and answer that `answerRead` gives of it.
-use lines::Count;
 use lines::Limit;
+use lines::Line;
 use lines::Went;
 use model::Answer;
 use model::Step;
@@ -10,16 +10,16 @@ use texts::Due;
 use texts::Number;
 use texts::TwoNumbers;
 ghost use mathlib.Core.Path.{_≡_};
+ghost use Prim.Native.Nat.{_≤_};
 ghost use lib.ListN.{drop};
-ghost use Rattle.model.specs.Empty.{noAnswer};
-ghost use Rattle.texts.specs.Reads.{Reads};
+ghost use Rattle.texts.specs.Reads.{Reads, refusal};
 ghost use Rattle.reading.specs.Lines.{each};
 ghost use Rattle.reading.specs.Kinds.{stepId, stepNumber, stepLine};
-ghost use Rattle.reading.specs.Fill.{answerOf, withStep};
-ghost use Rattle.reading.specs.Texts.{stepAt, answer};
-ghost use Rattle.lines.specs.Runs.{ReadsTo};
-ghost use Rattle.answers.specs.Says.{runsTo, stepSays, stepWent};
-ghost use Rattle.answers.specs.Answer.{refusalOf, unread, answerRead};
+ghost use Rattle.reading.specs.Fill.{answerOf};
+ghost use Rattle.reading.specs.Texts.{stepAt};
+ghost use Rattle.lines.specs.Runs.{RunsTo};
+ghost use Rattle.answers.specs.Says.{runsTo, stepSays};
+ghost use Rattle.answers.specs.Answer.{refusedAnswer, answerRead};
 
 // The codes of the verbs, as in model::Step.
 const NEXT: u8 = 0;
@@ -52,12 +52,6 @@ struct StepsRead {
     answer: Answer,
 }
 
-fn wide(x: u8) -> u32
-    ensures { λ r. ⌜ r ≡ x ⌝ }
-{
-    x as u32
-}
-
 // What follows `step=finish,`.
 fn step_id(s: &[u8], at: usize, verb: u8) -> StepLine
     ensures { λ r. ⌜ Reads (now (s .entry)) (stepSays r) (stepId verb (drop at (now (s .entry)))) ⌝ }
@@ -87,7 +81,7 @@ fn step_number(s: &[u8], at: usize, verb: u8, greatest: u8) -> StepLine
     if 31 < a {
         return StepLine::Refused(3);
     }
-    if wide(greatest) < b {
+    if texts::wide(greatest) < b {
         return StepLine::Refused(3);
     }
     let id = a as u8;
@@ -123,128 +117,49 @@ pub fn step_line(s: &[u8]) -> StepLine
     StepLine::Refused(2)
 }
 
-// A line that was not read stops the reading with its number.
-fn step_went(line: StepLine) -> Went
-    ensures { λ r. ⌜ r ≡ stepWent line ⌝ }
+// The number of a line's refusal, 0 where the line was read.
+pub fn step_refusal(line: StepLine) -> u8
+    ensures { λ r. ⌜ r ≡ refusal (stepSays line) ⌝ }
 {
     match line {
-        StepLine::Got(_, _) => Went::On,
-        StepLine::Refused(k) => Went::Stop(k),
+        StepLine::Got(_, _) => 0,
+        StepLine::Refused(k) => k,
     }
 }
 
-// One slot filled; past the last slot nothing changes.
-fn with_step(old: Answer, slot: usize, step: Step) -> Answer
-    ensures { λ r. ⌜ r ≡ withStep old slot step ⌝ }
-{
-    let mut next = old;
-    if slot < 1024 {
-        next.steps[slot] = step;
-    }
-    next
-}
-
-// One step line, at a place of the text: the part from there on, and the next line's place.
-fn step_at(text: &[u8], start: usize, slot: usize, old: Answer) -> StepsRead
-    ensures { λ r. ⌜ ReadsTo (now (text .entry)) old (r .went) (r .at) (r .answer) (stepAt slot old (drop start (now (text .entry)))) ⌝ }
-{
-    let at = texts::place_in(text, start);
-    let line = step_line(&text[at..]);
-    let StepLine::Got(step, used) = line else {
-        let went = step_went(line);
-        return StepsRead {
-            went,
-            at,
-            answer: old,
-        };
-    };
-    let next = at + used;
-    let answer = with_step(old, slot, step);
-    let went = Went::On;
-    StepsRead {
-        went,
-        at: next,
-        answer,
-    }
-}
-
-// So many step lines, from the place start on.
-fn read_steps(text: &[u8], start: usize, count: usize, old: Answer) -> StepsRead
-    ensures { λ r. ⌜ ReadsTo (now (text .entry)) old (r .went) (r .at) (r .answer) (each stepAt count 0 old (drop start (now (text .entry)))) ⌝ }
+// So many step lines, from the place start on, each read from the part of the text that starts with it.
+fn read_steps(text: &[u8], start: usize, count: usize) -> StepsRead
+    requires { ⌜ count ≤ 1024 ⌝ }
+    ensures { λ r. ⌜ RunsTo (now (text .entry)) (r .went) (r .at) (r .answer) (each stepAt count 0 (answerOf count) (drop start (now (text .entry)))) ⌝ }
 {
     let mut at = texts::place_in(text, start);
-    let mut answer = old;
+    let mut answer = model::no_answer();
+    answer.count = count;
     let mut i: usize = 0;
     while i < count {
-        let read = step_at(text, at, i, answer);
-        at = read.at;
-        let went = read.went;
-        let Went::On = went else {
-            return StepsRead {
-                went,
-                at,
-                answer: old,
-            };
+        let line = step_line(&text[at..]);
+        let StepLine::Got(step, used) = line else {
+            let k = step_refusal(line);
+            let went = Went::Stop(k);
+            return StepsRead { went, at, answer };
         };
-        let more = read.answer;
-        answer = more;
+        answer.steps[i] = step;
+        at = at + used;
         i = i + 1;
     }
     let went = Went::On;
     StepsRead { went, at, answer }
 }
 
-// An answer of so many steps, none of them read yet.
-fn answer_of(count: usize) -> Answer
-    ensures { λ r. ⌜ r ≡ answerOf count ⌝ }
-{
-    let mut answer = model::no_answer();
-    answer.count = count;
-    answer
-}
-
-// After a refusal nothing of what was read is handed out.
-fn unread(went: Went, at: usize) -> StepsRead
-    ensures { λ r. ⌜ r ≡ unread went at ⌝ }
+// Beside a refusal nothing of what was read is handed out.
+fn refused_answer(refused: u8, place: usize) -> AnswerRead
+    ensures { λ r. ⌜ r ≡ refusedAnswer refused place ⌝ }
 {
     let answer = model::no_answer();
-    StepsRead { went, at, answer }
-}
-
-// All lines of an answer.
-fn read_lines(text: &[u8]) -> StepsRead
-    ensures { λ r. ⌜ ReadsTo (now (text .entry)) noAnswer (r .went) (r .at) (r .answer) (answer (now (text .entry))) ⌝ }
-{
-    let Due::Past(steps_at) = lines::due_at(text, 0, b"answer=", 1) else {
-        let went = Went::Stop(2);
-        return unread(went, 0);
-    };
-    let line = lines::count_at(text, steps_at, b"steps=", Limit::Steps);
-    let Count::Got(n, next) = line else {
-        let went = lines::count_went(line);
-        return unread(went, steps_at);
-    };
-    let count = n as usize;
-    let empty = answer_of(count);
-    let read = read_steps(text, next, count, empty);
-    let went = read.went;
-    let at = read.at;
-    let Went::On = went else {
-        return unread(went, at);
-    };
-    let end = lines::at_end(text, at);
-    let Went::On = end else {
-        return unread(end, at);
-    };
-    read
-}
-
-fn refusal(went: Went) -> u8
-    ensures { λ r. ⌜ r ≡ refusalOf went ⌝ }
-{
-    match went {
-        Went::On => 0,
-        Went::Stop(k) => k,
+    AnswerRead {
+        refused,
+        place,
+        answer,
     }
 }
 
@@ -253,20 +168,33 @@ pub fn read_answer(text: &[u8]) -> AnswerRead
     ensures { λ r. ⌜ r ≡ answerRead (now (text .entry)) ⌝ }
 {
     if 32768 < text.len() {
-        let answer = model::no_answer();
-        return AnswerRead {
-            refused: 1,
-            place: 0,
-            answer,
-        };
+        return refused_answer(1, 0);
     }
-    let read = read_lines(text);
+    let Due::Past(at) = lines::due_at(text, 0, b"answer=", 1) else {
+        return refused_answer(2, 0);
+    };
+    let line = lines::count_at(text, at, b"steps=", Limit::Steps);
+    let Line::Got(n, next) = line else {
+        let k = lines::line_refusal(line);
+        return refused_answer(k, at);
+    };
+    let count = n as usize;
+    let read = read_steps(text, next, count);
     let went = read.went;
-    let refused = refusal(went);
+    let place = read.at;
+    let Went::On = went else {
+        let k = lines::refusal(went);
+        return refused_answer(k, place);
+    };
+    let end = lines::at_end(text, place);
+    let Went::On = end else {
+        let k = lines::refusal(end);
+        return refused_answer(k, place);
+    };
     let answer = read.answer;
     AnswerRead {
-        refused,
-        place: read.at,
+        refused: 0,
+        place,
         answer,
     }
 }

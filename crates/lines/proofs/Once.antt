@@ -1,47 +1,26 @@
--- That no other answer fits the promise of a count line, of the end of a text, or of a run of lines.
+-- That no other answer fits the promise of a count line or of the end of a text.
 -- Assumes nothing.
 use Prim.Native.Nat.{ℕ}
 use mathlib.Core.List.{List}
 use mathlib.Core.Path.{_≡_, refl, sym, _∙_}
 use native.Mathlib.Omega.{arith}
-use lib.ListN.{drop}
 use Rattle.reading.specs.Lines.{Run}
 use Rattle.texts.specs.Reads.{past, fault, NoOther}
-use Rattle.texts.proofs.Once.{place-once, no-other}
-use Rattle.lines.specs.declared.Count.the-variants as count
+use Rattle.texts.proofs.Once.{no-other}
+use Rattle.lines.specs.declared.Line.the-variants as line
 use Rattle.lines.specs.declared.Went.{Went}
 use Rattle.lines.specs.declared.Went.the-variants.{On, Stop}
-use Rattle.lines.specs.Counts.{countSays}
-use Rattle.lines.specs.Runs.{run, Kept, ReadsTo}
+use Rattle.lines.specs.Counts.{lineSays}
+use Rattle.lines.specs.Runs.{run}
 
-pub count-once : NoOther countSays
-count-once = no-other countSays (elim [ past a n ↦ count.Got a n | fault k ↦ count.Refused k ]) (elim [ count.Got a n ↦ refl | count.Refused k ↦ refl ])
+pub line-once : NoOther lineSays
+line-once = no-other lineSays (elim [ past a n ↦ line.Got a n | fault k ↦ line.Refused k ]) (elim [ line.Got a n ↦ refl | line.Refused k ↦ refl ])
 
--- ---- runs that are equal
-same-went : {A : Type 0} (w v : Went) (a b : A) (s r : List ℕ) → run w a s ≡ run v b r → w ≡ v
-same-went On On a b s r e = refl
-same-went On (Stop k) a b s r e = let z : _≡_ {A = ℕ} 0 1 = cc in absurd (omega arith)
-same-went (Stop j) On a b s r e = let z : _≡_ {A = ℕ} 0 1 = cc in absurd (omega arith)
-same-went (Stop j) (Stop k) a b s r e = cc
-
-same-rest : {A : Type 0} (w : Went) (a b : A) (s r : List ℕ) → run w a s ≡ run w b r → s ≡ r
-same-rest On a b s r e = cc
-same-rest (Stop k) a b s r e = cc
-
-same-group : {A : Type 0} (w : Went) (old a b : A) (s r : List ℕ) → Kept w old a → Kept w old b → run w a s ≡ run w b r → a ≡ b
-same-group On old a b s r h g e = cc
-same-group (Stop k) old a b s r h g e = h ∙ sym g
+same-went : (w v : Went) (s : List ℕ) → _≡_ {A = Run (Unit {0})} (run w tt s) (run v tt s) → w ≡ v
+same-went On On s e = refl
+same-went On (Stop k) s e = let z : _≡_ {A = ℕ} 0 1 = cc in absurd (omega arith)
+same-went (Stop j) On s e = let z : _≡_ {A = ℕ} 0 1 = cc in absurd (omega arith)
+same-went (Stop j) (Stop k) s e = cc
 
 pub end-once : (w v : Went) (s : List ℕ) (m : Run (Unit {0})) → run w tt s ≡ m → run v tt s ≡ m → w ≡ v
-end-once w v s m h g = same-went w v tt tt s s (h ∙ sym g)
-
-module _ {A : Type 0} (s : List ℕ) (old : A) where
-  pub run-once : (w v : Went) (n k : ℕ) (a b : A) (m : Run A) → ReadsTo s old w n a m → ReadsTo s old v k b m → (w ≡ v) × (n ≡ k) × (a ≡ b)
-  run-once w v n k a b m h g =
-      let q = same-went w v a b (drop n s) (drop k s) (h .same ∙ sym (g .same)) in
-      let f = rw (sym q) at g in
-      let e = h .same ∙ sym (f .same) in (
-        q,
-        place-once s n k (h .within) (g .within) (same-rest w a b (drop n s) (drop k s) e),
-        same-group w old a b (drop n s) (drop k s) (h .kept) (f .kept) e,
-      )
+end-once w v s m h g = same-went w v s (h ∙ sym g)

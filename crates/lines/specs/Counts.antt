@@ -8,8 +8,8 @@ use Rattle.reading.specs.Limits.{depthOk, typesOk, placesOk, transitionsOk, beh
 use Rattle.texts.specs.Reads.{Outcome, past, fault, Reads}
 use Rattle.lines.specs.declared.Limit.{Limit}
 use Rattle.lines.specs.declared.Limit.the-variants as limit
-use Rattle.lines.specs.declared.Count.{Count}
-use Rattle.lines.specs.declared.Count.the-variants as count
+use Rattle.lines.specs.declared.Line.{Line}
+use Rattle.lines.specs.declared.Line.the-variants as line
 
 -- the limit's test, and the numbers that it lies between
 abbrev pub limitOk : Limit → ℕ → Bool
@@ -46,19 +46,19 @@ greatest limit.Steps = 1024
 abbrev pub between : ℕ → ℕ → ℕ → Bool
 between a b n = leb a n && leb n b
 
-abbrev pub countSays : Count → Outcome ℕ
-countSays (count.Got a n) = past a n
-countSays (count.Refused k) = fault k
+abbrev pub lineSays : Line → Outcome ℕ
+lineSays (line.Got a n) = past a n
+lineSays (line.Refused k) = fault k
 
-abbrev pub Lies : ℕ → ℕ → Count → Type 0
-Lies a b (count.Got x n) = (a ≤ x) × (x ≤ b)
-Lies a b (count.Refused k) = Unit
+abbrev pub Lies : ℕ → ℕ → Line → Type 0
+Lies a b (line.Got x n) = (a ≤ x) × (x ≤ b)
+Lies a b (line.Refused k) = Unit
 
 -- the answer r is what a definition that replies m says of the text s, and a count that was read lies from a to b
-pub record CountsIn (s : List ℕ) (a b : ℕ) (r : Count) (m : Reply ℕ) : Type 0 where
-  pub reads : Reads s (countSays r) m
+pub record CountsIn (s : List ℕ) (a b : ℕ) (r : Line) (m : Reply ℕ) : Type 0 where
+  pub reads : Reads s (lineSays r) m
   pub limited : Lies a b r
 
 -- the same for a count with a limit's name
-abbrev pub Counts : List ℕ → Limit → Count → Reply ℕ → Type 0
+abbrev pub Counts : List ℕ → Limit → Line → Reply ℕ → Type 0
 Counts s l r m = CountsIn s (least l) (greatest l) r m

@@ -4,8 +4,6 @@ use mathlib.Core.List.{List}
 use mathlib.Core.Path.{_≡_}
 use lib.ListN.{length, drop}
 use Rattle.reading.specs.Lines.{Run, on, stop}
-use Rattle.lines.specs.declared.Count.{Count}
-use Rattle.lines.specs.declared.Count.the-variants.{Got, Refused}
 use Rattle.lines.specs.declared.Went.{Went}
 use Rattle.lines.specs.declared.Went.the-variants.{On, Stop}
 
@@ -24,19 +22,3 @@ refusalOf (Stop k) = k
 pub record RunsTo {A : Type 0} (s : List ℕ) (w : Went) (at : ℕ) (a : A) (m : Run A) : Type 0 where
   pub within : at ≤ length s
   pub same : run w a (drop at s) ≡ m
-
--- after a refusal the group is as it was
-abbrev pub Kept : {A : Type 0} → Went → A → A → Type 0
-Kept On old a = Unit
-Kept (Stop n) old a = a ≡ old
-
--- the same, and after a refusal the group is the old one
-pub record ReadsTo {A : Type 0} (s : List ℕ) (old : A) (w : Went) (at : ℕ) (a : A) (m : Run A) : Type 0 where
-  pub within : at ≤ length s
-  pub same : run w a (drop at s) ≡ m
-  pub kept : Kept w old a
-
--- a count line went on, or stopped with its number
-abbrev pub countWent : Count → Went
-countWent (Got a n) = On
-countWent (Refused k) = Stop k

@@ -5,13 +5,13 @@ use texts::Due;
 use texts::Number;
 ghost use mathlib.Core.Path.{_≡_};
 ghost use lib.ListN.{length, drop};
-ghost use Rattle.texts.specs.Reads.{Reads};
+ghost use Rattle.texts.specs.Reads.{Reads, refusal};
 ghost use Rattle.texts.specs.Says.{most, dueSays};
 ghost use Rattle.reading.specs.Kinds.{dueLine, countLineIn, countLine};
 ghost use Rattle.reading.specs.Lines.{atEnd};
 ghost use Rattle.reading.specs.Place.{upToLf, lineNumber, lineStart};
-ghost use Rattle.lines.specs.Counts.{limitOk, least, greatest, between, CountsIn, Counts};
-ghost use Rattle.lines.specs.Runs.{run, refusalOf, countWent};
+ghost use Rattle.lines.specs.Counts.{lineSays, limitOk, least, greatest, between, CountsIn, Counts};
+ghost use Rattle.lines.specs.Runs.{run, refusalOf};
 
 // The limits of the counts, by the counts' names.
 pub enum Limit {
@@ -25,8 +25,8 @@ pub enum Limit {
     Steps,
 }
 
-// A count and the place past its line, or the number of the refusal.
-pub enum Count {
+// The one number of a line, or its list as a set, and the place past the line; or the number of the refusal.
+pub enum Line {
     Got(u32, usize),
     Refused(u8),
 }
@@ -81,23 +81,23 @@ fn greatest(limit: Limit) -> u32
 }
 
 // The line of a key and a number from the least to the greatest.
-pub fn within_line(s: &[u8], key: &[u8], digits: Digits, least: u32, greatest: u32) -> Count
+pub fn within_line(s: &[u8], key: &[u8], digits: Digits, least: u32, greatest: u32) -> Line
     ensures { λ r. ⌜ CountsIn (now (s .entry)) least greatest r (countLineIn (most digits) (now (key .entry)) (between least greatest) (now (s .entry))) ⌝ }
 {
     let Number::Got(a, used) = texts::number_line(s, key, digits) else {
-        return Count::Refused(2);
+        return Line::Refused(2);
     };
     if a < least {
-        return Count::Refused(3);
+        return Line::Refused(3);
     }
     if greatest < a {
-        return Count::Refused(3);
+        return Line::Refused(3);
     }
-    Count::Got(a, used)
+    Line::Got(a, used)
 }
 
 // The line of a key and a number within its limit.
-pub fn count_line(s: &[u8], key: &[u8], limit: Limit) -> Count
+pub fn count_line(s: &[u8], key: &[u8], limit: Limit) -> Line
     ensures { λ r. ⌜ Counts (now (s .entry)) limit r (countLine (now (key .entry)) (limitOk limit) (now (s .entry))) ⌝ }
 {
     within_line(s, key, Digits::Five, least(limit), greatest(limit))
@@ -122,34 +122,34 @@ pub fn within_at(
     digits: Digits,
     least: u32,
     greatest: u32,
-) -> Count
+) -> Line
     ensures { λ r. ⌜ CountsIn (now (text .entry)) least greatest r (countLineIn (most digits) (now (key .entry)) (between least greatest) (drop at (now (text .entry)))) ⌝ }
 {
     let start = texts::place_in(text, at);
-    let count = within_line(&text[start..], key, digits, least, greatest);
-    let Count::Got(a, used) = count else {
-        return count;
+    let line = within_line(&text[start..], key, digits, least, greatest);
+    let Line::Got(a, used) = line else {
+        return line;
     };
     let next = start + used;
-    Count::Got(a, next)
+    Line::Got(a, next)
 }
 
-pub fn count_at(text: &[u8], at: usize, key: &[u8], limit: Limit) -> Count
+pub fn count_at(text: &[u8], at: usize, key: &[u8], limit: Limit) -> Line
     ensures { λ r. ⌜ Counts (now (text .entry)) limit r (countLine (now (key .entry)) (limitOk limit) (drop at (now (text .entry)))) ⌝ }
 {
     within_at(text, at, key, Digits::Five, least(limit), greatest(limit))
 }
 
-pub fn count_went(count: Count) -> Went
-    ensures { λ r. ⌜ r ≡ countWent count ⌝ }
+// The number of a line's refusal, 0 where the line was read; and of a run's, 0 where it went on.
+pub fn line_refusal(line: Line) -> u8
+    ensures { λ r. ⌜ r ≡ refusal (lineSays line) ⌝ }
 {
-    match count {
-        Count::Got(_, _) => Went::On,
-        Count::Refused(k) => Went::Stop(k),
+    match line {
+        Line::Got(_, _) => 0,
+        Line::Refused(k) => k,
     }
 }
 
-// The number of a run's refusal, 0 where it went on.
 pub fn refusal(went: Went) -> u8
     ensures { λ r. ⌜ r ≡ refusalOf went ⌝ }
 {

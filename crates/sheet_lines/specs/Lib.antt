@@ -1,3 +1,3 @@
--- What each case of the enums says (Says), and what follows the kind of a port (Port).
+-- What each case of the enums says (Says), and the rows of a type by their kind (Rows).
 pub mod Says
-pub mod Port
+pub mod Rows

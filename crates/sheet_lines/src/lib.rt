@@ -1,5 +1,7 @@
 // The kinds of lines that only a sheet has, each read from the part of the text that starts with it, and held to its limits.
 // Promised: each answers what its definition in crate reading replies to that part: the values and the bytes used, or 01's number.
+use lines::Line;
+use model::ComponentType;
 use model::Instruction;
 use texts::Digits;
 use texts::Due;
@@ -10,27 +12,33 @@ use texts::TwoLists;
 use texts::TwoNumbers;
 ghost use mathlib.Core.Path.{_≡_};
 ghost use lib.ListN.{drop};
-ghost use Rattle.texts.specs.Reads.{Reads};
+ghost use Rattle.texts.specs.Reads.{Reads, refusal};
+ghost use Rattle.lines.specs.Counts.{lineSays};
 ghost use Rattle.reading.specs.Limits.{typeOk};
-ghost use Rattle.reading.specs.Kinds.{initialLine, tranLine, behaviorLine, portLine, doId, doNumber, doEnds, doLine};
-ghost use Rattle.sheet_lines.specs.Says.{refusal, membersSays, endsSays, portSays, instructionSays};
-ghost use Rattle.sheet_lines.specs.Port.{portAfter};
+ghost use Rattle.reading.specs.Kinds.{initialLine, doId, doNumber, doEnds, doLine};
+ghost use Rattle.sheet_lines.specs.declared.Rows.the-variants.{Transitions, Behaviors, Ports};
+ghost use Rattle.sheet_lines.specs.Says.{rowSays, instructionSays};
+ghost use Rattle.sheet_lines.specs.Rows.{portAfter, rowLine};
 
-// A list as a mask, and the bytes used.
-pub enum Members {
-    Got(u32, usize),
-    Refused(u8),
+// The rows that a type has.
+pub enum Rows {
+    Transitions,
+    Behaviors,
+    Ports,
 }
 
-// A transition's source and destination.
-pub enum Ends {
-    Got(u8, u8, usize),
-    Refused(u8),
+// The numbers that the line of a row has, and 0 for those that it has not: a transition its ends, a behavior its transitions,
+// a port 1 for use and 0 for provide, and its group.
+pub struct Row {
+    pub source: u8,
+    pub destination: u8,
+    pub uses: u8,
+    pub places: u32,
+    pub transitions: u32,
 }
 
-// A port: 1 for use and 0 for provide, and its group's places and transitions.
-pub enum Port {
-    Got(u8, u32, u32, usize),
+pub enum RowLine {
+    Got(Row, usize),
     Refused(u8),
 }
 
@@ -39,97 +47,124 @@ pub enum Do {
     Refused(u8),
 }
 
-fn wide(x: u8) -> u32
-    ensures { λ r. ⌜ r ≡ x ⌝ }
-{
-    x as u32
-}
-
 // `initial=` list, in a type of so many places.
-pub fn initial_line(s: &[u8], places: u8) -> Members
-    ensures { λ r. ⌜ Reads (now (s .entry)) (membersSays r) (initialLine places (now (s .entry))) ⌝ }
+pub fn initial_line(s: &[u8], places: u8) -> Line
+    ensures { λ r. ⌜ Reads (now (s .entry)) (lineSays r) (initialLine places (now (s .entry))) ⌝ }
 {
     let OneList::Got(mask, top, used) = texts::list_line(s, b"initial=", Digits::Five) else {
-        return Members::Refused(2);
+        return Line::Refused(2);
     };
-    let most = wide(places);
+    let most = texts::wide(places);
     if most < top {
-        return Members::Refused(3);
+        return Line::Refused(3);
     }
     if top == 0 {
-        return Members::Refused(4);
+        return Line::Refused(4);
     }
-    Members::Got(mask, used)
+    Line::Got(mask, used)
 }
 
-// `tran=source,destination`, in a type of so many places.
-pub fn tran_line(s: &[u8], places: u8) -> Ends
-    ensures { λ r. ⌜ Reads (now (s .entry)) (endsSays r) (tranLine places (now (s .entry))) ⌝ }
+// `tran=source,destination`, in a type of which so much is known.
+fn tran_line(s: &[u8], known: ComponentType) -> RowLine
+    ensures { λ r. ⌜ Reads (now (s .entry)) (rowSays r) (rowLine Transitions known (now (s .entry))) ⌝ }
 {
     let TwoNumbers::Got(a, b, used) = texts::two_numbers_line(s, b"tran=", Digits::Five) else {
-        return Ends::Refused(2);
+        return RowLine::Refused(2);
     };
-    let below = wide(places);
+    let below = texts::wide(known.places);
     if below <= a {
-        return Ends::Refused(3);
+        return RowLine::Refused(3);
     }
     if below <= b {
-        return Ends::Refused(3);
+        return RowLine::Refused(3);
     }
     if a == b {
-        return Ends::Refused(4);
+        return RowLine::Refused(4);
     }
     let source = a as u8;
     let destination = b as u8;
-    Ends::Got(source, destination, used)
+    let row = Row {
+        source,
+        destination,
+        uses: 0,
+        places: 0,
+        transitions: 0,
+    };
+    RowLine::Got(row, used)
 }
 
-// `behavior=` list of transitions, in a type of so many.
-pub fn behavior_line(s: &[u8], transitions: u8) -> Members
-    ensures { λ r. ⌜ Reads (now (s .entry)) (membersSays r) (behaviorLine transitions (now (s .entry))) ⌝ }
+// `behavior=` list of transitions.
+fn behavior_line(s: &[u8], known: ComponentType) -> RowLine
+    ensures { λ r. ⌜ Reads (now (s .entry)) (rowSays r) (rowLine Behaviors known (now (s .entry))) ⌝ }
 {
     let OneList::Got(mask, top, used) = texts::list_line(s, b"behavior=", Digits::Five) else {
-        return Members::Refused(2);
+        return RowLine::Refused(2);
     };
-    let count = wide(transitions);
+    let count = texts::wide(known.transitions);
     if count < top {
-        return Members::Refused(3);
+        return RowLine::Refused(3);
     }
-    Members::Got(mask, used)
+    let row = Row {
+        source: 0,
+        destination: 0,
+        uses: 0,
+        places: 0,
+        transitions: mask,
+    };
+    RowLine::Got(row, used)
 }
 
 // What follows `port=use,` or `port=provide,`. A provide port may have initial places: it is held to none of them.
-fn port_after(s: &[u8], at: usize, uses: u8, places: u8, transitions: u8, initial: u32) -> Port
-    ensures { λ r. ⌜ Reads (now (s .entry)) (portSays r) (portAfter uses places transitions initial (drop at (now (s .entry)))) ⌝ }
+fn port_after(s: &[u8], at: usize, uses: u8, known: ComponentType, initial: u32) -> RowLine
+    ensures { λ r. ⌜ Reads (now (s .entry)) (rowSays r) (portAfter uses (known .places) (known .transitions) initial (drop at (now (s .entry)))) ⌝ }
 {
-    let TwoLists::Got(a, m, b, n, used) = texts::two_lists(s, at, Digits::Five) else {
-        return Port::Refused(2);
+    let TwoLists::Got(places, m, transitions, n, used) = texts::two_lists(s, at, Digits::Five)
+    else {
+        return RowLine::Refused(2);
     };
-    let most_places = wide(places);
-    let most_transitions = wide(transitions);
+    let most_places = texts::wide(known.places);
+    let most_transitions = texts::wide(known.transitions);
     if most_places < m {
-        return Port::Refused(3);
+        return RowLine::Refused(3);
     }
     if most_transitions < n {
-        return Port::Refused(3);
+        return RowLine::Refused(3);
     }
-    if sets::overlaps(initial, a) {
-        return Port::Refused(4);
+    if sets::overlaps(initial, places) {
+        return RowLine::Refused(4);
     }
-    Port::Got(uses, a, b, used)
+    let row = Row {
+        source: 0,
+        destination: 0,
+        uses,
+        places,
+        transitions,
+    };
+    RowLine::Got(row, used)
 }
 
-// `port=`, in a type of so many places and transitions, and with these initial places.
-pub fn port_line(s: &[u8], places: u8, transitions: u8, initial: u32) -> Port
-    ensures { λ r. ⌜ Reads (now (s .entry)) (portSays r) (portLine places transitions initial (now (s .entry))) ⌝ }
+// `port=`
+fn port_line(s: &[u8], known: ComponentType) -> RowLine
+    ensures { λ r. ⌜ Reads (now (s .entry)) (rowSays r) (rowLine Ports known (now (s .entry))) ⌝ }
 {
     if let Due::Past(i) = texts::past_key(s, 0, b"port=use,") {
-        return port_after(s, i, 1, places, transitions, initial);
+        return port_after(s, i, 1, known, known.initial);
     }
     if let Due::Past(i) = texts::past_key(s, 0, b"port=provide,") {
-        return port_after(s, i, 0, places, transitions, 0);
+        return port_after(s, i, 0, known, 0);
     }
-    Port::Refused(2)
+    RowLine::Refused(2)
+}
+
+// The line of a row, in a type of which so much is known.
+pub fn row_line(s: &[u8], rows: Rows, known: ComponentType) -> RowLine
+    ensures { λ r. ⌜ Reads (now (s .entry)) (rowSays r) (rowLine rows known (now (s .entry))) ⌝ }
+{
+    match rows {
+        Rows::Transitions => tran_line(s, known),
+        Rows::Behaviors => behavior_line(s, known),
+        Rows::Ports => port_line(s, known),
+    }
 }
 
 // What follows `do=del,` and `do=wait,`.
@@ -160,7 +195,7 @@ fn do_number(s: &[u8], at: usize, verb: u8, below: u8) -> Do
     let TwoNumbers::Got(a, b, used) = texts::two_numbers(s, at, Digits::Five) else {
         return Do::Refused(2);
     };
-    let count = wide(below);
+    let count = texts::wide(below);
     if 31 < a {
         return Do::Refused(3);
     }
@@ -238,30 +273,12 @@ pub fn do_line(s: &[u8], types: u8) -> Do
 }
 
 // The number of a line's refusal, 0 where the line was read.
-pub fn members_refusal(line: Members) -> u8
-    ensures { λ r. ⌜ r ≡ refusal (membersSays line) ⌝ }
+pub fn row_refusal(line: RowLine) -> u8
+    ensures { λ r. ⌜ r ≡ refusal (rowSays line) ⌝ }
 {
     match line {
-        Members::Got(_, _) => 0,
-        Members::Refused(k) => k,
-    }
-}
-
-pub fn ends_refusal(line: Ends) -> u8
-    ensures { λ r. ⌜ r ≡ refusal (endsSays line) ⌝ }
-{
-    match line {
-        Ends::Got(_, _, _) => 0,
-        Ends::Refused(k) => k,
-    }
-}
-
-pub fn port_refusal(line: Port) -> u8
-    ensures { λ r. ⌜ r ≡ refusal (portSays line) ⌝ }
-{
-    match line {
-        Port::Got(_, _, _, _) => 0,
-        Port::Refused(k) => k,
+        RowLine::Got(_, _) => 0,
+        RowLine::Refused(k) => k,
     }
 }
 

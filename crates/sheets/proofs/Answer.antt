@@ -1,55 +1,39 @@
--- A type past the last, what a reading of all lines answers, and that no other answer fits.
+-- What the lines of a sheet come to, and that no other answer fits.
 -- Assumes nothing.
-use Prim.Native.Nat.{ℕ, _-_, _≤_, _<_}
+use Prim.Native.Nat.{ℕ, _≤_, _<_}
 use mathlib.Core.List.{List}
 use mathlib.Core.Bool.{true}
-use mathlib.Core.Path.{_≡_, refl, sym, ap, _∙_}
+use mathlib.Core.Path.{_≡_, refl, sym, _∙_}
 use native.Mathlib.Omega.{arith}
-use lib.ListN.{length, drop, length-drop}
-use lib.Seq.{set-out}
-use borrow.Author.Tests.{lt-leb}
-use Rattle.model.specs.declared.ComponentType.{ComponentType}
-use Rattle.model.specs.declared.Transitions.{Transitions}
-use Rattle.model.specs.declared.Ports.{Ports}
+use lib.ListN.{length}
+use borrow.Author.Tests.{lt-leb, le-leb}
 use Rattle.model.specs.declared.Tables.{Tables}
 use Rattle.model.specs.declared.Program.{Program}
 use Rattle.model.specs.Empty.{noTables, noProgram}
 use Rattle.forms.proofs.Tests.{by-test}
 use Rattle.reading.specs.Limits.{lengthOk}
 use Rattle.reading.specs.Lines.{Run, on, stop}
-use Rattle.reading.specs.Fill.{withType}
 use Rattle.reading.specs.Texts.{sheet}
 use Rattle.reading.proofs.Lawful.{sheet-stops}
 use Rattle.lines.specs.declared.Went.{Went}
 use Rattle.lines.specs.declared.Went.the-variants.{On, Stop}
-use Rattle.lines.specs.Runs.{ReadsTo}
+use Rattle.lines.specs.Runs.{refusalOf, RunsTo}
+use Rattle.lines.proofs.Runs.{place-is}
 use Rattle.sheets.specs.declared.Sheet.{Sheet}
-use Rattle.sheets.specs.Sheet.{refusalOf, refusedSheet, answered, sheetRead, NoOtherSheet}
-
-pub no-type : (t : Tables) (i : ℕ) (c : ComponentType) (xs : Transitions) (bs : List ℕ) (qs : Ports) → length (t .types) ≤ i
-    → withType t i c xs bs qs ≡ record { depth = t .depth; count = t .count; types = t .types; transitions = xs; behaviors = bs; ports = qs }
-unfolding withType
-no-type t i c xs bs qs h = rw (set-out (t .types) i c h)
-
--- a place of the text is told by how long the rest is
-place-is : (s : List ℕ) (at : ℕ) → at ≤ length s → at ≡ length s - length (drop at s)
-place-is s at h = rw (length-drop at s) (omega arith)
-
-abbrev made : Went → ℕ → Tables → Program → Sheet
-made w at t p = record { refused = refusalOf w; place = at; tables = t; program = p }
-
-lines-answered : (s : List ℕ) (w : Went) (at : ℕ) (t : Tables) (p : Program) {m : Run (Tables × Program)} → ReadsTo s (noTables, noProgram) w at (t, p) m → made w at t p ≡ answered s m
-lines-answered s On at t p h = rw (sym (h .same)) (ap (λ (n : ℕ). made On n t p) (place-is s at (h .within)))
-lines-answered s (Stop k) at t p h =
-    rw (sym (h .same), ap (λ x. x .0) (h .kept), ap (λ x. x .1) (h .kept)) (ap (λ (n : ℕ). made (Stop k) n noTables noProgram) (place-is s at (h .within)))
-
-pub lines-read : (s : List ℕ) (w : Went) (at : ℕ) (t : Tables) (p : Program) → lengthOk (length s) ≡ true → ReadsTo s (noTables, noProgram) w at (t, p) (sheet s) → made w at t p ≡ sheetRead s
-unfolding sheetRead
-lines-read s w at t p l h = rw (l, sheetRead) (lines-answered s w at t p h)
+use Rattle.sheets.specs.Sheet.{refusedSheet, answered, sheetRead, NoOtherSheet}
 
 pub too-long : (s : List ℕ) → 32768 < length s → refusedSheet 1 0 ≡ sheetRead s
 unfolding sheetRead
 too-long s h = rw (lt-leb (length s) 32768 h, sheetRead)
+
+module _ (s : List ℕ) (l : length s ≤ 32768) {at : ℕ} where
+  pub sheet-refused : {w : Went} {k : ℕ} → RunsTo s w at (noTables, noProgram) (sheet s) → w ≡ Stop k → refusedSheet (refusalOf w) at ≡ sheetRead s
+  unfolding sheetRead
+  sheet-refused h e = let g = rw e at h in rw (e, le-leb (length s) 32768 l, sheetRead, sym (g .same), place-is s at (g .within))
+
+  pub sheet-told : {t : Tables} {p : Program} → RunsTo s On at (t, p) (sheet s) → record { refused = 0; place = at; tables = t; program = p } ≡ sheetRead s
+  unfolding sheetRead
+  sheet-told h = rw (le-leb (length s) 32768 l, sheetRead, sym (h .same), place-is s at (h .within))
 
 pub sheet-once : NoOtherSheet
 unfolding NoOtherSheet

@@ -1,2 +1,3 @@
--- A type and a sheet by their last lines, the answer of a reading, and that no other fits (Answer).
+-- The laws that the readers of a sheet cite: the rows and halves of a sheet (Parts), what its lines come to (Answer).
+pub mod Parts
 pub mod Answer

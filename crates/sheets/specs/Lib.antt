@@ -1,3 +1,4 @@
--- What reading a sheet answers (Sheet), and the same lines from one of a type's or a sheet's lines on (Onward).
+-- What reading a sheet answers (Sheet), the tables as the lines fill them (Filled), and the lines of a type and of a sheet in parts (Onward).
+pub mod Filled
 pub mod Onward
 pub mod Sheet

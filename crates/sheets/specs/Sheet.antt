@@ -10,20 +10,9 @@ use Rattle.model.specs.Empty.{noTables, noProgram}
 use Rattle.reading.specs.Limits.{lengthOk}
 use Rattle.reading.specs.Lines.{Run, on, stop}
 use Rattle.reading.specs.Texts.{sheet}
-use Rattle.lines.specs.declared.Went.{Went}
-use Rattle.lines.specs.declared.Went.the-variants.{On, Stop}
-use Rattle.sheets.specs.declared.LinesRead.{LinesRead}
 use Rattle.sheets.specs.declared.Sheet.{Sheet}
 
--- 01's number: 0 where the reading went on to the end
-abbrev pub refusalOf : Went → ℕ
-refusalOf On = 0
-refusalOf (Stop k) = k
-
 -- nothing is handed out beside a refusal
-abbrev pub unread : Went → ℕ → LinesRead
-unread w at = record { went = w; at = at; tables = noTables; program = noProgram }
-
 abbrev pub refusedSheet : ℕ → ℕ → Sheet
 refusedSheet k at = record { refused = k; place = at; tables = noTables; program = noProgram }
 

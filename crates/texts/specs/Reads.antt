@@ -19,6 +19,11 @@ abbrev pub place : {A : Type 0} → Outcome A → ℕ
 place (past a n) = n
 place (fault k) = 0
 
+-- the number of a refusal, 0 where there is none
+abbrev pub refusal : {A : Type 0} → Outcome A → ℕ
+refusal (past a n) = 0
+refusal (fault k) = k
+
 -- on the text s, o is what a definition that replies m says
 pub record Reads {A : Type 0} (s : List ℕ) (o : Outcome A) (m : Reply A) : Type 0 where
   pub within : place o ≤ length s

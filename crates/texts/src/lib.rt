@@ -116,7 +116,7 @@ fn most(digits: Digits) -> usize
     }
 }
 
-fn wide(x: u8) -> u32
+pub fn wide(x: u8) -> u32
     ensures { λ r. ⌜ r ≡ x ⌝ }
 {
     x as u32

@@ -1,77 +1,46 @@
-use Prim.Native.Nat.{_+_, _-_, _≤_}
+-- i steps have been read, up to the place at; what is left of the count falls.
+use Prim.Native.Nat.{_-_}
+use mathlib.Core.Path.{_≡_, refl, sym}
 use native.Mathlib.Nat.{zero-add}
 use native.Mathlib.Omega.{arith}
-use mathlib.Core.Path.{_≡_, refl, sym, ap, _∙_}
 use borrow.Author.Needs.{needs}
-use lib.ListN.{length, drop}
-use Rattle.texts.proofs.Laws.{from-end}
-use Rattle.reading.specs.Lines.{each}
+use Rattle.reading.specs.Kinds.{stepLine}
+use Rattle.reading.specs.Fill.{answerOf, withStep}
 use Rattle.reading.specs.Texts.{stepAt}
-use Rattle.lines.proofs.Lines.{each-start, each-turn, each-stop, each-end, run-on, run-stop}
+use Rattle.lines.proofs.Runs.{Upto, upto-start, upto-end, fill-turn, fill-stop}
+use Rattle.answers.specs.Says.{stepSays}
 use Rattle.answers.proofs.read_steps.Statement.{statement}
 use Rattle.answers.proofs.read_steps.Tie as tie
 
 abbrev Inv-loop : tie.InvT-loop
-Inv-loop text start count old at₀ answer₀ i₀ at answer i = (at ≤ length text) × (each stepAt (count - i) (0 + i) answer (drop at text) ≡ each stepAt count 0 old (drop start text))
+Inv-loop text start count at₀ answer₀ i₀ at answer i = Upto stepAt count 0 (answerOf count) text start i at answer
 
 abbrev μ-loop : tie.MeasureT-loop
-μ-loop text start count old at₀ answer₀ i₀ at answer i = count - i
-
-place-in-requires : tie.Need-place-in-requires Inv-loop μ-loop
-place-in-requires c κs = search needs
+μ-loop text start count at₀ answer₀ i₀ at answer i = count - i
 
 loop-holds : tie.Need-loop-holds Inv-loop μ-loop
-loop-holds c =
-    let a = c .before .before .args in
-    rw (c .place-in .ensures) (omega arith, each-start stepAt (a .count) 0 (a .old) _ ∙ ap (each stepAt (a .count) 0 (a .old)) (from-end (a .text .now) (a .start)))
-
-step-at-requires : tie.Need-step-at-requires Inv-loop μ-loop
-step-at-requires c κs = search needs
-
-enum-told : tie.Need-enum-told Inv-loop μ-loop
-enum-told c = search needs
-
-enum-told-2 : tie.Need-enum-told-2 Inv-loop μ-loop
-enum-told-2 c = search needs
+unfolding answerOf
+loop-holds c = rw (c .no-answer .ensures) (upto-start _ _ _ _ _ _ _ (c .before .place-in .ensures))
 
 returns : tie.Need-returns Inv-loop μ-loop
+unfolding stepAt
 returns c =
-    let l = c .before .before .before .before .loop in
-    let r = c .before .before .step-at in
-    let e = run-stop (r .ensures) (c .enum-told2 .given .1) in
-    rw (c .enum-told2 .given .1) (record { within = r .ensures .within; same = sym (each-stop stepAt _ 0 (l .i) (l .answer) _ _ _ (c .before .before .before .loop-test .taken) (rw zero-add e)) ∙ l .inv .1; kept = refl })
-
-add-i : tie.Need-add-i Inv-loop μ-loop
-add-i c = search needs
-
-loop-less : tie.Need-loop-less Inv-loop μ-loop
-loop-less c = search needs
+    let line = c .before .before .before in
+    let l = line .before .before .before .loop in
+    fill-stop stepSays stepLine withStep _ 0 _ _ _ (l .inv) (line .before .before .loop-test .taken) (l .i) (sym (zero-add _)) _ (line .step-line .ensures) (c .before .enum-told .given .1) refl (c .step-refusal .ensures)
 
 loop-again : tie.Need-loop-again Inv-loop μ-loop
+unfolding stepAt withStep
 loop-again c =
-    let l = c .before .before .before .before .before .loop in
-    let r = c .before .before .before .step-at in
-    let e = run-on (r .ensures) (c .before .enum-told .given .1) in
-    (r .ensures .within, sym (each-turn stepAt _ 0 (l .i) (l .answer) _ _ _ (c .before .before .before .before .loop-test .taken) (rw zero-add e)) ∙ l .inv .1)
-
-returns-2 : tie.Need-returns-2 Inv-loop μ-loop
-returns-2 c =
-    let l = c .before .loop in
-    record { within = l .inv .0; same = sym (each-end stepAt _ 0 (l .i) (l .answer) _ (c .loop-test .left)) ∙ l .inv .1; kept = tt }
+    let line = c .before .before .before in
+    let l = line .before .before .before .loop in
+    fill-turn stepSays stepLine withStep _ 0 _ _ _ (l .inv) (line .before .before .loop-test .taken) (l .i) (sym (zero-add _)) _ (line .step-line .ensures) (c .before .line .given .1) refl
 
 pub read-steps-spec : {M : Type 1} → statement M
 read-steps-spec =
     tie.close
     (tie.spec
-    Inv-loop
-    μ-loop
-    place-in-requires
-    loop-holds
-    step-at-requires
-    enum-told
-    enum-told-2
-    returns
-    add-i
-    loop-less
-    loop-again
-    returns-2)
+    Inv-loop μ-loop (λ c κs. search needs) (λ c κs. search needs) loop-holds (λ c. omega (arith, c .before .loop .inv .within))
+    (λ c. omega (arith, c .before .loop .inv .within)) (λ c. search needs) (λ c κs. search needs) (λ c. search needs) (λ c. search needs)
+    (λ c κs. search needs) returns (λ c. search needs) (λ c. search needs) (λ c. omega (arith, loop-again c .within))
+    (λ c. search needs) (λ c. omega arith) loop-again (λ c. upto-end _ _ _ _ _ _ (c .before .loop .inv) (c .loop-test .left)))

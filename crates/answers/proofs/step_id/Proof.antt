@@ -8,15 +8,6 @@ use borrow.Author.Needs.{needs}
 use Rattle.answers.proofs.step_id.Statement.{statement}
 use Rattle.answers.proofs.step_id.Tie as tie
 
-one-number-requires : tie.Need-one-number-requires
-one-number-requires c κs = search needs
-
-enum-known-a : tie.Need-enum-known-a
-enum-known-a c = search needs
-
-enum-told : tie.Need-enum-told
-enum-told c = search needs
-
 returns : tie.Need-returns
 unfolding stepId
 returns c =
@@ -29,9 +20,6 @@ returns-2 c =
     let h = told numberSays _ (c .before .before .before .before .one-number .ensures) (c .before .before .a .given .1) in
     record { within = zero-le; same = sym (rw (sym (h .same), lt-leb _ _ (c .if1 .taken), stepId)) }
 
-cast-id : tie.Need-cast-id
-cast-id c = search needs
-
 returns-3 : tie.Need-returns-3
 unfolding stepId
 returns-3 c =
@@ -41,4 +29,5 @@ returns-3 c =
 pub step-id-spec : {M : Type 1} → statement M
 step-id-spec =
     tie.close
-    (tie.spec one-number-requires enum-known-a enum-told returns returns-2 cast-id returns-3)
+    (tie.spec
+    (λ c κs. search needs) (λ c. search needs) (λ c. search needs) returns returns-2 (λ c. search needs) returns-3)

@@ -9,26 +9,11 @@ use Rattle.lines.proofs.Lines.{line-told}
 use Rattle.lines.proofs.due_at.Statement.{statement}
 use Rattle.lines.proofs.due_at.Tie as tie
 
-place-in-requires : tie.Need-place-in-requires
-place-in-requires c κs = search needs
-
 sub-due-line : tie.Need-sub-due-line
 sub-due-line c = omega (arith, c .place-in .ensures)
 
 part-due-line-start : tie.Need-part-due-line-start
 part-due-line-start c = omega (arith, c .place-in .ensures)
-
-part-due-line-end : tie.Need-part-due-line-end
-part-due-line-end c = search needs
-
-due-line-requires : tie.Need-due-line-requires
-due-line-requires c κs = search needs
-
-enum-known-used : tie.Need-enum-known-used
-enum-known-used c = search needs
-
-enum-told : tie.Need-enum-told
-enum-told c = search needs
 
 returns : tie.Need-returns
 returns c =
@@ -50,13 +35,5 @@ pub due-at-spec : {M : Type 1} → statement M
 due-at-spec =
     tie.close
     (tie.spec
-    place-in-requires
-    sub-due-line
-    part-due-line-start
-    part-due-line-end
-    due-line-requires
-    enum-known-used
-    enum-told
-    returns
-    add-next
-    returns-2)
+    (λ c κs. search needs) sub-due-line part-due-line-start (λ c. search needs) (λ c κs. search needs) (λ c. search needs)
+    (λ c. search needs) returns add-next returns-2)

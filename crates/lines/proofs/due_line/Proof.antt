@@ -8,15 +8,6 @@ use borrow.Author.Needs.{needs}
 use Rattle.lines.proofs.due_line.Statement.{statement}
 use Rattle.lines.proofs.due_line.Tie as tie
 
-number-line-requires : tie.Need-number-line-requires
-number-line-requires c κs = search needs
-
-enum-known-a : tie.Need-enum-known-a
-enum-known-a c = search needs
-
-enum-told : tie.Need-enum-told
-enum-told c = search needs
-
 returns : tie.Need-returns
 unfolding dueLine
 returns c =
@@ -36,5 +27,4 @@ returns-3 c =
     record { within = h .within; same = sym (keyed-got _ _ _ h ∙ rw (eq-eqb _ _ (c .if1 .left))) }
 
 pub due-line-spec : {M : Type 1} → statement M
-due-line-spec =
-    tie.close (tie.spec number-line-requires enum-known-a enum-told returns returns-2 returns-3)
+due-line-spec = tie.close (tie.spec (λ c κs. search needs) (λ c. search needs) (λ c. search needs) returns returns-2 returns-3)

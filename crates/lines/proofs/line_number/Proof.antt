@@ -14,33 +14,15 @@ Inv-loop s at end number₀ i₀ number i = (end ≤ length s) × (i ≤ end) ×
 abbrev μ-loop : tie.MeasureT-loop
 μ-loop s at end number₀ i₀ number i = end - i
 
-place-in-requires : tie.Need-place-in-requires Inv-loop μ-loop
-place-in-requires c κs = search needs
-
 loop-holds : tie.Need-loop-holds Inv-loop μ-loop
 unfolding lfs
 loop-holds c = omega (arith, c .place-in .ensures)
 
-shared-slice-read-if1 : tie.Need-shared-slice-read-if1 Inv-loop μ-loop
-shared-slice-read-if1 c = search needs
-
 add-number : tie.Need-add-number Inv-loop μ-loop
 add-number c = omega (arith, lfs-few (take (c .before .before .before .loop .i) (c .before .before .before .before .before .before .args .s .now)), length-take (c .before .before .before .loop .i) (c .before .before .before .before .before .before .args .s .now))
 
-add-i : tie.Need-add-i Inv-loop μ-loop
-add-i c = search needs
-
-loop-less : tie.Need-loop-less Inv-loop μ-loop
-loop-less c = search needs
-
 loop-again : tie.Need-loop-again Inv-loop μ-loop
 loop-again c = omega (arith, lfs-more (c .before .before .before .before .before .before .args .s .now) (c .before .before .before .loop .i) (search needs) (c .if1 .taken))
-
-add-i-2 : tie.Need-add-i-2 Inv-loop μ-loop
-add-i-2 c = search needs
-
-loop-less-2 : tie.Need-loop-less-2 Inv-loop μ-loop
-loop-less-2 c = search needs
 
 loop-again-2 : tie.Need-loop-again-2 Inv-loop μ-loop
 loop-again-2 c = omega (arith, lfs-same (c .before .before .before .before .before .before .args .s .now) (c .before .before .before .loop .i) (search needs) (c .if1 .left))
@@ -56,16 +38,5 @@ pub line-number-spec : {M : Type 1} → statement M
 line-number-spec =
     tie.close
     (tie.spec
-    Inv-loop
-    μ-loop
-    place-in-requires
-    loop-holds
-    shared-slice-read-if1
-    add-number
-    add-i
-    loop-less
-    loop-again
-    add-i-2
-    loop-less-2
-    loop-again-2
-    returns)
+    Inv-loop μ-loop (λ c κs. search needs) loop-holds (λ c. search needs) add-number (λ c. search needs) (λ c. search needs)
+    loop-again (λ c. search needs) (λ c. search needs) loop-again-2 returns)

@@ -14,23 +14,8 @@ Inv-loop s at i₀ size₀ i size = (size ≤ i) × (size + length (upToLf (drop
 abbrev μ-loop : tie.MeasureT-loop
 μ-loop s at i₀ size₀ i size = length s - i
 
-loop-holds : tie.Need-loop-holds Inv-loop μ-loop
-loop-holds c = omega arith
-
-shared-slice-read-if1 : tie.Need-shared-slice-read-if1 Inv-loop μ-loop
-shared-slice-read-if1 c = search needs
-
 returns : tie.Need-returns Inv-loop μ-loop
 returns c = omega (arith, size-lf (c .before .before .before .before .args .s .now) (c .before .before .before .loop .i) (search needs) (c .if1 .taken))
-
-add-size : tie.Need-add-size Inv-loop μ-loop
-add-size c = search needs
-
-add-i : tie.Need-add-i Inv-loop μ-loop
-add-i c = search needs
-
-loop-less : tie.Need-loop-less Inv-loop μ-loop
-loop-less c = search needs
 
 loop-again : tie.Need-loop-again Inv-loop μ-loop
 loop-again c = omega (arith, size-more (c .before .before .before .before .args .s .now) (c .before .before .before .loop .i) (search needs) (c .if1 .left))
@@ -42,13 +27,5 @@ pub line-size-spec : {M : Type 1} → statement M
 line-size-spec =
     tie.close
     (tie.spec
-    Inv-loop
-    μ-loop
-    loop-holds
-    shared-slice-read-if1
-    returns
-    add-size
-    add-i
-    loop-less
-    loop-again
-    returns-2)
+    Inv-loop μ-loop (λ c. omega arith) (λ c. search needs) returns (λ c. search needs) (λ c. search needs) (λ c. search needs)
+    loop-again returns-2)

@@ -14,9 +14,6 @@ Inv-loop s lines left₀ i₀ left i = i + lineStart left (drop i s) ≡ lineSta
 abbrev μ-loop : tie.MeasureT-loop
 μ-loop s lines left₀ i₀ left i = length s - i
 
-loop-holds : tie.Need-loop-holds Inv-loop μ-loop
-loop-holds c = omega arith
-
 returns : tie.Need-returns Inv-loop μ-loop
 returns c =
     let l = c .before .before .loop in
@@ -24,26 +21,8 @@ returns c =
     let e : lineStart (l .left) (drop (l .i) s) ≡ 0 = rw (c .if1 .taken) (start-here (drop (l .i) s)) in
     omega arith
 
-shared-slice-read-if2 : tie.Need-shared-slice-read-if2 Inv-loop μ-loop
-shared-slice-read-if2 c = search needs
-
-sub-left : tie.Need-sub-left Inv-loop μ-loop
-sub-left c = search needs
-
-add-i : tie.Need-add-i Inv-loop μ-loop
-add-i c = search needs
-
-loop-less : tie.Need-loop-less Inv-loop μ-loop
-loop-less c = search needs
-
 loop-again : tie.Need-loop-again Inv-loop μ-loop
 loop-again c = omega (arith, start-lf (c .before .before .before .before .before .args .s .now) (c .before .before .before .before .loop .i) (c .before .before .before .before .loop .left) (c .before .before .if1 .left) (search needs) (c .if2 .taken))
-
-add-i-2 : tie.Need-add-i-2 Inv-loop μ-loop
-add-i-2 c = search needs
-
-loop-less-2 : tie.Need-loop-less-2 Inv-loop μ-loop
-loop-less-2 c = search needs
 
 loop-again-2 : tie.Need-loop-again-2 Inv-loop μ-loop
 loop-again-2 c = omega (arith, start-more (c .before .before .before .before .before .args .s .now) (c .before .before .before .before .loop .i) (c .before .before .before .before .loop .left) (c .before .before .if1 .left) (search needs) (c .if2 .left))
@@ -55,16 +34,5 @@ pub line-start-spec : {M : Type 1} → statement M
 line-start-spec =
     tie.close
     (tie.spec
-    Inv-loop
-    μ-loop
-    loop-holds
-    returns
-    shared-slice-read-if2
-    sub-left
-    add-i
-    loop-less
-    loop-again
-    add-i-2
-    loop-less-2
-    loop-again-2
-    returns-2)
+    Inv-loop μ-loop (λ c. omega arith) returns (λ c. search needs) (λ c. search needs) (λ c. search needs) (λ c. search needs)
+    loop-again (λ c. search needs) (λ c. search needs) loop-again-2 returns-2)

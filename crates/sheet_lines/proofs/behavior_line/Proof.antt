@@ -1,52 +1,33 @@
+use mathlib.Core.Path.{refl}
 use borrow.Author.Needs.{needs}
 use borrow.Author.Tests.{lt-leb, le-leb}
 use Rattle.texts.specs.Says.{listSays}
 use Rattle.texts.proofs.Laws.{told}
 use Rattle.reading.specs.Kinds.{behaviorLine}
-use Rattle.sheet_lines.proofs.Limits.{form-fault, limit-fault, limit-kept, whole-line}
+use Rattle.texts.proofs.Limits.{form-fault, limit-fault, limit-kept, whole-line}
+use Rattle.sheet_lines.specs.Rows.{rowLine}
 use Rattle.sheet_lines.proofs.behavior_line.Statement.{statement}
 use Rattle.sheet_lines.proofs.behavior_line.Tie as tie
 
-slice-aggregate-list-line : tie.Need-slice-aggregate-list-line
-slice-aggregate-list-line c = search needs
-
-list-line-requires : tie.Need-list-line-requires
-list-line-requires c κs = search needs
-
-enum-known-mask : tie.Need-enum-known-mask
-enum-known-mask c = search needs
-
-enum-told : tie.Need-enum-told
-enum-told c = search needs
-
 returns : tie.Need-returns
-unfolding behaviorLine
-returns c = whole-line _ _ _ (form-fault _ _ (told listSays _ (c .before .before .list-line .ensures) (c .enum-told .given .1)))
-
-wide-requires : tie.Need-wide-requires
-wide-requires c κs = search needs
+unfolding rowLine behaviorLine
+returns c = form-fault _ _ (whole-line _ _ _ (form-fault _ _ (told listSays _ (c .before .before .list-line .ensures) (c .enum-told .given .1))))
 
 returns-2 : tie.Need-returns-2
-unfolding behaviorLine
+unfolding rowLine behaviorLine
 returns-2 c =
     let h = told listSays _ (c .before .before .before .before .before .list-line .ensures) (c .before .before .before .mask .given .1) in
-    whole-line _ _ _ (limit-fault _ _ h (rw (lt-leb _ _ (rw (c .before .wide .ensures) at (c .if1 .taken)))))
+    form-fault _ _ (whole-line _ _ _ (limit-fault _ _ h (rw (lt-leb _ _ (rw (c .before .wide .ensures) at (c .if1 .taken))))))
 
 returns-3 : tie.Need-returns-3
-unfolding behaviorLine
+unfolding rowLine behaviorLine
 returns-3 c =
     let h = told listSays _ (c .before .before .before .before .before .list-line .ensures) (c .before .before .before .mask .given .1) in
-    whole-line _ _ _ (limit-kept _ _ h (rw (le-leb _ _ (rw (c .before .wide .ensures) at (c .if1 .left)))))
+    limit-kept _ _ (whole-line _ _ _ (limit-kept _ _ h (rw (le-leb _ _ (rw (c .before .wide .ensures) at (c .if1 .left)))))) refl
 
 pub behavior-line-spec : {M : Type 1} → statement M
 behavior-line-spec =
     tie.close
     (tie.spec
-    slice-aggregate-list-line
-    list-line-requires
-    enum-known-mask
-    enum-told
-    returns
-    wide-requires
-    returns-2
+    (λ c. search needs) (λ c κs. search needs) (λ c. search needs) (λ c. search needs) returns (λ c κs. search needs) returns-2
     returns-3)

@@ -3,18 +3,9 @@ use borrow.Author.Tests.{lt-leb, le-leb}
 use Rattle.texts.specs.Says.{fourSays}
 use Rattle.texts.proofs.Laws.{told}
 use Rattle.reading.specs.Kinds.{doEnds}
-use Rattle.sheet_lines.proofs.Limits.{form-fault, limit-fault, limit-kept}
+use Rattle.texts.proofs.Limits.{form-fault, limit-fault, limit-kept}
 use Rattle.sheet_lines.proofs.do_ends.Statement.{statement}
 use Rattle.sheet_lines.proofs.do_ends.Tie as tie
-
-four-numbers-requires : tie.Need-four-numbers-requires
-four-numbers-requires c κs = search needs
-
-enum-known-a : tie.Need-enum-known-a
-enum-known-a c = search needs
-
-enum-told : tie.Need-enum-told
-enum-told c = search needs
 
 returns : tie.Need-returns
 unfolding doEnds
@@ -44,18 +35,6 @@ returns-5 c =
     let h = told fourSays _ (c .before .before .before .before .before .before .before .four-numbers .ensures) (c .before .before .before .before .before .a .given .1) in
     limit-fault _ _ h (rw (le-leb _ _ (c .before .before .before .if1 .left), le-leb _ _ (c .before .before .if2 .left), le-leb _ _ (c .before .if3 .left), lt-leb _ _ (c .if4 .taken)))
 
-cast-id : tie.Need-cast-id
-cast-id c = search needs
-
-cast-number : tie.Need-cast-number
-cast-number c = search needs
-
-cast-provider : tie.Need-cast-provider
-cast-provider c = search needs
-
-cast-provideport : tie.Need-cast-provideport
-cast-provideport c = search needs
-
 returns-6 : tie.Need-returns-6
 unfolding doEnds
 returns-6 c =
@@ -66,16 +45,5 @@ pub do-ends-spec : {M : Type 1} → statement M
 do-ends-spec =
     tie.close
     (tie.spec
-    four-numbers-requires
-    enum-known-a
-    enum-told
-    returns
-    returns-2
-    returns-3
-    returns-4
-    returns-5
-    cast-id
-    cast-number
-    cast-provider
-    cast-provideport
-    returns-6)
+    (λ c κs. search needs) (λ c. search needs) (λ c. search needs) returns returns-2 returns-3 returns-4 returns-5
+    (λ c. search needs) (λ c. search needs) (λ c. search needs) (λ c. search needs) returns-6)

@@ -3,18 +3,9 @@ use borrow.Author.Tests.{lt-leb, le-leb}
 use Rattle.texts.specs.Says.{numberSays}
 use Rattle.texts.proofs.Laws.{told}
 use Rattle.reading.specs.Kinds.{doId}
-use Rattle.sheet_lines.proofs.Limits.{form-fault, limit-fault, limit-kept}
+use Rattle.texts.proofs.Limits.{form-fault, limit-fault, limit-kept}
 use Rattle.sheet_lines.proofs.do_id.Statement.{statement}
 use Rattle.sheet_lines.proofs.do_id.Tie as tie
-
-one-number-requires : tie.Need-one-number-requires
-one-number-requires c κs = search needs
-
-enum-known-a : tie.Need-enum-known-a
-enum-known-a c = search needs
-
-enum-told : tie.Need-enum-told
-enum-told c = search needs
 
 returns : tie.Need-returns
 unfolding doId
@@ -26,9 +17,6 @@ returns-2 c =
     let h = told numberSays _ (c .before .before .before .before .one-number .ensures) (c .before .before .a .given .1) in
     limit-fault _ _ h (rw (lt-leb _ _ (c .if1 .taken)))
 
-cast-id : tie.Need-cast-id
-cast-id c = search needs
-
 returns-3 : tie.Need-returns-3
 unfolding doId
 returns-3 c =
@@ -39,10 +27,4 @@ pub do-id-spec : {M : Type 1} → statement M
 do-id-spec =
     tie.close
     (tie.spec
-    one-number-requires
-    enum-known-a
-    enum-told
-    returns
-    returns-2
-    cast-id
-    returns-3)
+    (λ c κs. search needs) (λ c. search needs) (λ c. search needs) returns returns-2 (λ c. search needs) returns-3)

@@ -3,25 +3,13 @@ use borrow.Author.Tests.{lt-leb, le-leb, lt-ltb, le-ltb}
 use Rattle.texts.specs.Says.{twoSays}
 use Rattle.texts.proofs.Laws.{told}
 use Rattle.reading.specs.Kinds.{doNumber}
-use Rattle.sheet_lines.proofs.Limits.{form-fault, limit-fault, limit-kept}
+use Rattle.texts.proofs.Limits.{form-fault, limit-fault, limit-kept}
 use Rattle.sheet_lines.proofs.do_number.Statement.{statement}
 use Rattle.sheet_lines.proofs.do_number.Tie as tie
-
-two-numbers-requires : tie.Need-two-numbers-requires
-two-numbers-requires c κs = search needs
-
-enum-known-a : tie.Need-enum-known-a
-enum-known-a c = search needs
-
-enum-told : tie.Need-enum-told
-enum-told c = search needs
 
 returns : tie.Need-returns
 unfolding doNumber
 returns c = form-fault _ _ (told twoSays _ (c .before .before .two-numbers .ensures) (c .enum-told .given .1))
-
-wide-requires : tie.Need-wide-requires
-wide-requires c κs = search needs
 
 returns-2 : tie.Need-returns-2
 unfolding doNumber
@@ -36,12 +24,6 @@ returns-3 c =
     let b = le-ltb _ _ (rw (c .before .before .wide .ensures) at (c .if2 .taken)) in
     limit-fault _ _ h (rw (le-leb _ _ (c .before .if1 .left), b))
 
-cast-id : tie.Need-cast-id
-cast-id c = search needs
-
-cast-number : tie.Need-cast-number
-cast-number c = search needs
-
 returns-4 : tie.Need-returns-4
 unfolding doNumber
 returns-4 c =
@@ -53,13 +35,5 @@ pub do-number-spec : {M : Type 1} → statement M
 do-number-spec =
     tie.close
     (tie.spec
-    two-numbers-requires
-    enum-known-a
-    enum-told
-    returns
-    wide-requires
-    returns-2
-    returns-3
-    cast-id
-    cast-number
-    returns-4)
+    (λ c κs. search needs) (λ c. search needs) (λ c. search needs) returns (λ c κs. search needs) returns-2 returns-3
+    (λ c. search needs) (λ c. search needs) returns-4)

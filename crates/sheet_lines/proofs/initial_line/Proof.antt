@@ -3,28 +3,13 @@ use borrow.Author.Tests.{lt-leb, le-leb, eq-eqb, ne-eqb}
 use Rattle.texts.specs.Says.{listSays}
 use Rattle.texts.proofs.Laws.{told}
 use Rattle.reading.specs.Kinds.{initialLine}
-use Rattle.sheet_lines.proofs.Limits.{form-fault, limit-fault, limit-kept, whole-line}
+use Rattle.texts.proofs.Limits.{form-fault, limit-fault, limit-kept, whole-line}
 use Rattle.sheet_lines.proofs.initial_line.Statement.{statement}
 use Rattle.sheet_lines.proofs.initial_line.Tie as tie
-
-slice-aggregate-list-line : tie.Need-slice-aggregate-list-line
-slice-aggregate-list-line c = search needs
-
-list-line-requires : tie.Need-list-line-requires
-list-line-requires c κs = search needs
-
-enum-known-mask : tie.Need-enum-known-mask
-enum-known-mask c = search needs
-
-enum-told : tie.Need-enum-told
-enum-told c = search needs
 
 returns : tie.Need-returns
 unfolding initialLine
 returns c = whole-line _ _ _ (form-fault _ _ (told listSays _ (c .before .before .list-line .ensures) (c .enum-told .given .1)))
-
-wide-requires : tie.Need-wide-requires
-wide-requires c κs = search needs
 
 returns-2 : tie.Need-returns-2
 unfolding initialLine
@@ -50,12 +35,5 @@ pub initial-line-spec : {M : Type 1} → statement M
 initial-line-spec =
     tie.close
     (tie.spec
-    slice-aggregate-list-line
-    list-line-requires
-    enum-known-mask
-    enum-told
-    returns
-    wide-requires
-    returns-2
-    returns-3
-    returns-4)
+    (λ c. search needs) (λ c κs. search needs) (λ c. search needs) (λ c. search needs) returns (λ c κs. search needs) returns-2
+    returns-3 returns-4)

@@ -1,35 +1,48 @@
+use mathlib.Core.Path.{refl}
 use borrow.Author.Needs.{needs}
-use mathlib.Core.Path.{sym}
-use borrow.Author.Tests.{le-leb}
-use Rattle.sheets.proofs.Answer.{too-long, lines-read}
+use Rattle.lines.proofs.Runs.{went-on, run-refused, run-then}
+use Rattle.sheets.proofs.Parts.{halves}
+use Rattle.sheets.proofs.Answer.{too-long, sheet-refused, sheet-told}
 use Rattle.sheets.proofs.read_sheet.Statement.{statement}
 use Rattle.sheets.proofs.read_sheet.Tie as tie
 
-no-tables-requires : tie.Need-no-tables-requires
-no-tables-requires c κs = search needs
-
-no-program-requires : tie.Need-no-program-requires
-no-program-requires c κs = search needs
-
 returns : tie.Need-returns
-returns c = rw (c .no-program .ensures, c .before .no-tables .ensures) (too-long (c .before .before .before .before .args .text .now) (c .before .before .if1 .taken))
-
-read-lines-requires : tie.Need-read-lines-requires
-read-lines-requires c κs = search needs
-
-refusal-requires : tie.Need-refusal-requires
-refusal-requires c κs = search needs
+returns c = rw (c .refused-sheet .ensures) (too-long _ (c .before .if1 .taken))
 
 returns-2 : tie.Need-returns-2
-returns-2 c = rw (c .before .before .refusal .ensures) (lines-read (c .before .before .before .before .before .before .args .text .now) _ _ _ _ (le-leb _ _ (c .before .before .before .before .if1 .left)) (c .before .before .before .read-lines .ensures))
+returns-2 c =
+    let tables = c .before .before .before .before in
+    let s = tables .before .before .before .args .text .now in
+    let e = c .before .before .enum-told2 .given .1 in
+    rw (c .refused-sheet2 .ensures, c .before .refusal .ensures)
+    (sheet-refused s (tables .before .if1 .left) (rw (halves s) (run-refused _ _ (tables .read-tables .ensures) e)) e)
+
+returns-3 : tie.Need-returns-3
+returns-3 c =
+    let program = c .before .before .before .before in
+    let on = program .before .before .before in
+    let tables = on .before .before in
+    let s = tables .before .before .before .args .text .now in
+    let e = c .before .before .enum-told4 .given .1 in
+    rw (c .refused-sheet3 .ensures, c .before .refusal2 .ensures)
+    (sheet-refused s (tables .before .if1 .left)
+    (rw (halves s) (run-then _ _ (tables .read-tables .ensures) (on .enum-told .given .1) (run-refused _ _ (program .read-program .ensures) e))) e)
+
+returns-4 : tie.Need-returns-4
+returns-4 c =
+    let program = c .before .before .before in
+    let on = program .before .before .before in
+    let tables = on .before .before in
+    let s = tables .before .before .before .args .text .now in
+    rw (program .before .tables-of .ensures)
+    (sheet-told s (tables .before .if1 .left)
+    (rw (halves s) (run-then _ _ (tables .read-tables .ensures) (on .enum-told .given .1)
+    (run-then _ _ (program .read-program .ensures) (c .before .enum-told3 .given .1) (went-on (program .read-program .ensures .within) refl)))))
 
 pub read-sheet-spec : {M : Type 1} → statement M
 read-sheet-spec =
     tie.close
     (tie.spec
-    no-tables-requires
-    no-program-requires
-    returns
-    read-lines-requires
-    refusal-requires
-    returns-2)
+    (λ c κs. search needs) returns (λ c κs. search needs) (λ c. search needs) (λ c. search needs) (λ c κs. search needs) (λ c κs. search needs)
+    returns-2 (λ c κs. search needs) (λ c κs. search needs) (λ c. search needs) (λ c. search needs) (λ c κs. search needs)
+    (λ c κs. search needs) returns-3 returns-4)

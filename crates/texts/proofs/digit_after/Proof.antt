@@ -11,23 +11,15 @@ use Rattle.texts.proofs.Laws.{most-few, not-digit, small-below, small-m
 use Rattle.texts.proofs.digit_after.Statement.{statement}
 use Rattle.texts.proofs.digit_after.Tie as tie
 
--- src/lib.rt:130:9
 returns : tie.Need-returns
 returns c = not-digit _ _ _ _ (λ w. omega (arith, w .low))
 
--- src/lib.rt:133:9
 returns-2 : tie.Need-returns-2
 returns-2 c = not-digit _ _ _ _ (λ w. omega (arith, w .high))
 
--- src/lib.rt:135:8
-most-requires : tie.Need-most-requires
-most-requires c κs = search needs
-
--- src/lib.rt:136:9
 returns-3 : tie.Need-returns-3
 returns-3 c = not-digit _ _ _ _ (λ w. omega (arith, w .few, c .before .most .ensures))
 
--- src/lib.rt:140:13
 returns-4 : tie.Need-returns-4
 returns-4 c = not-digit _ _ _ _ (λ w. w .leads (ne-eqb (c .before .before .before .before .before .before .args .count) 0 (λ e. omega arith)) (c .if5 .taken))
 
@@ -38,23 +30,16 @@ fewer c = omega (arith, most-few (c .before .before .before .before .before .arg
 leads : (c : tie.Joined4) → eqb (c .before .before .before .before .before .args .count) 0 ≡ false → c .before .before .before .before .before .args .value ≡ 0 → ⊥
 leads c z e = ⊎-elim (λ w. w .1 .left e) (λ w. eqb-false (c .before .before .before .before .before .args .count) 0 z (omega (arith, w .left))) (c .if4 .came)
 
--- src/lib.rt:143:16
 mul-more : tie.Need-mul-more
 mul-more c =
     let a = c .before .before .before .before .before .args in
     omega (arith, small-below (a .count) (a .value) (c .before .before .before .before .before .pre) (fewer c))
 
--- src/lib.rt:143:29
-wide-requires : tie.Need-wide-requires
-wide-requires c κs = search needs
-
--- src/lib.rt:143:16
 add-more : tie.Need-add-more
 add-more c =
     let a = c .before .before .before .before .before .before .args in
     omega (arith, small-below (a .count) (a .value) (c .before .before .before .before .before .before .pre) (fewer (c .before)), c .wide .ensures)
 
--- src/lib.rt:125:1
 returns-5 : tie.Need-returns-5
 returns-5 c =
     let a = c .before .before .before .before .before .before .args in
@@ -68,12 +53,4 @@ pub digit-after-spec : {M : Type 1} → statement M
 digit-after-spec =
     tie.close
     (tie.spec
-    returns
-    returns-2
-    most-requires
-    returns-3
-    returns-4
-    mul-more
-    wide-requires
-    add-more
-    returns-5)
+    returns returns-2 (λ c κs. search needs) returns-3 returns-4 mul-more (λ c κs. search needs) add-more returns-5)

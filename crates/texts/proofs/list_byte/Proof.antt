@@ -8,15 +8,6 @@ use borrow.Author.Needs.{needs}
 use Rattle.texts.proofs.list_byte.Statement.{statement}
 use Rattle.texts.proofs.list_byte.Tie as tie
 
-member-after-requires : tie.Need-member-after-requires
-member-after-requires c κs = search needs
-
-enum-known-mask : tie.Need-enum-known-mask
-enum-known-mask c = search needs
-
-enum-told : tie.Need-enum-told
-enum-told c = search needs
-
 returns : tie.Need-returns
 returns c =
     let o = rw (c .enum-told .given .1) at (c .before .before .member-after .ensures) in
@@ -27,15 +18,6 @@ returns-2 c =
     let m = rw (c .before .mask .given .1) at (c .before .before .before .member-after .ensures) in
     record { small = tt; same = λ s. rw (m .1, m .2, add-one) (sym (list-end _ _ _ _ _ _ _ s (eq-eqb _ _ (c .before .before .before .before .if1 .taken)) (m .0))) }
 
-member-after-requires-2 : tie.Need-member-after-requires-2
-member-after-requires-2 c κs = search needs
-
-enum-known-mask-2 : tie.Need-enum-known-mask-2
-enum-known-mask-2 c = search needs
-
-enum-told-2 : tie.Need-enum-told-2
-enum-told-2 c = search needs
-
 returns-3 : tie.Need-returns-3
 returns-3 c =
     let o = rw (c .enum-told2 .given .1) at (c .before .before .member-after2 .ensures) in
@@ -45,15 +27,6 @@ returns-4 : tie.Need-returns-4
 returns-4 c =
     let m = rw (c .before .mask2 .given .1) at (c .before .before .before .member-after2 .ensures) in
     record { small = small-none; same = λ s. rw (m .1, m .2, add-one) (sym (list-plus _ _ _ _ _ _ _ s (ne-eqb _ _ (c .before .before .before .before .before .if1 .left)) (eq-eqb _ _ (c .before .before .before .before .if2 .taken)) (m .0))) }
-
-digit-after-requires : tie.Need-digit-after-requires
-digit-after-requires c κs = search needs
-
-enum-known-value : tie.Need-enum-known-value
-enum-known-value c = search needs
-
-enum-told-3 : tie.Need-enum-told-3
-enum-told-3 c = search needs
 
 returns-5 : tie.Need-returns-5
 returns-5 c =
@@ -72,19 +45,6 @@ pub list-byte-spec : {M : Type 1} → statement M
 list-byte-spec =
     tie.close
     (tie.spec
-    member-after-requires
-    enum-known-mask
-    enum-told
-    returns
-    returns-2
-    member-after-requires-2
-    enum-known-mask-2
-    enum-told-2
-    returns-3
-    returns-4
-    digit-after-requires
-    enum-known-value
-    enum-told-3
-    returns-5
-    add-count
+    (λ c κs. search needs) (λ c. search needs) (λ c. search needs) returns returns-2 (λ c κs. search needs) (λ c. search needs)
+    (λ c. search needs) returns-3 returns-4 (λ c κs. search needs) (λ c. search needs) (λ c. search needs) returns-5 add-count
     returns-6)

@@ -7,16 +7,10 @@ use borrow.Author.Needs.{needs}
 use Rattle.texts.proofs.member_after.Statement.{statement}
 use Rattle.texts.proofs.member_after.Tie as tie
 
-returns : tie.Need-returns
-returns c = search needs
-
 returns-2 : tie.Need-returns-2
 returns-2 c =
     let f = c .before .before .before .before .args .f in
     not-follows (f .count) (f .top) (f .value) (λ w. omega (arith, w .1))
-
-with-requires : tie.Need-with-requires
-with-requires c κs = search needs
 
 add-top : tie.Need-add-top
 add-top c = omega (arith, small-fits (c .before .before .before .before .before .before .args .f .count) (c .before .before .before .before .before .before .args .f .value) (c .before .before .before .before .before .before .pre))
@@ -27,4 +21,4 @@ returns-3 c =
     (true-follows (f .count) (f .top) (f .value) (ne-eqb (f .count) 0 (c .before .before .before .before .if1 .left)) (c .before .before .if2 .left), c .before .with .ensures, refl)
 
 pub member-after-spec : {M : Type 1} → statement M
-member-after-spec = tie.close (tie.spec returns returns-2 with-requires add-top returns-3)
+member-after-spec = tie.close (tie.spec (λ c. search needs) returns-2 (λ c κs. search needs) add-top returns-3)

@@ -16,12 +16,6 @@ Inv-loop s at end digits i₀ f₀ i f = Small (f .count) (f .value) × (members
 abbrev μ-loop : tie.MeasureT-loop
 μ-loop s at end digits i₀ f₀ i f = length s - i
 
-loop-holds : tie.Need-loop-holds Inv-loop μ-loop
-loop-holds c = search needs
-
-shared-slice-read-c : tie.Need-shared-slice-read-c Inv-loop μ-loop
-shared-slice-read-c c = search needs
-
 list-byte-requires : tie.Need-list-byte-requires Inv-loop μ-loop
 list-byte-requires c κs = c .before .before .loop .inv .0
 
@@ -34,26 +28,11 @@ turned c =
     let a = c .before .before .before .before .before .args in
     c .list-byte .ensures .same _ ∙ sym (ap (members (most (a .digits)) (a .end) (l .f)) (from (a .s .now) (l .i) (search needs))) ∙ l .inv .1
 
-add-next : tie.Need-add-next Inv-loop μ-loop
-add-next c = search needs
-
-enum-known-turn : tie.Need-enum-known-turn Inv-loop μ-loop
-enum-known-turn c = search needs
-
-loop-less : tie.Need-loop-less Inv-loop μ-loop
-loop-less c = search needs
-
 loop-again : tie.Need-loop-again Inv-loop μ-loop
 loop-again c = (rw (c .before .turn .given .1) at (c .before .before .before .list-byte .ensures .small), ap (turnReply _ _ _) (sym (c .before .turn .given .1)) ∙ turned (c .before .before .before))
 
-enum-known-turn-2 : tie.Need-enum-known-turn-2 Inv-loop μ-loop
-enum-known-turn-2 c = search needs
-
 returns : tie.Need-returns Inv-loop μ-loop
 returns c = record { within = omega arith; same = ap (turnReply _ _ _) (sym (c .before .turn2 .given .1)) ∙ turned (c .before .before .before) }
-
-enum-told : tie.Need-enum-told Inv-loop μ-loop
-enum-told c = search needs
 
 returns-2 : tie.Need-returns-2 Inv-loop μ-loop
 returns-2 c = record { within = search needs; same = ap (turnReply _ _ _) (sym (c .enum-told .given .1)) ∙ turned (c .before .before) }
@@ -65,17 +44,5 @@ pub members-then-spec : {M : Type 1} → statement M
 members-then-spec =
     tie.close
     (tie.spec
-    Inv-loop
-    μ-loop
-    loop-holds
-    shared-slice-read-c
-    list-byte-requires
-    add-next
-    enum-known-turn
-    loop-less
-    loop-again
-    enum-known-turn-2
-    returns
-    enum-told
-    returns-2
-    returns-3)
+    Inv-loop μ-loop (λ c. search needs) (λ c. search needs) list-byte-requires (λ c. search needs) (λ c. search needs)
+    (λ c. search needs) loop-again (λ c. search needs) returns (λ c. search needs) returns-2 returns-3)

@@ -21,12 +21,6 @@ Inv-loop s at end digits i₀ count₀ value₀ i count value =
 abbrev μ-loop : tie.MeasureT-loop
 μ-loop s at end digits i₀ count₀ value₀ i count value = length s - i
 
-loop-holds : tie.Need-loop-holds Inv-loop μ-loop
-loop-holds c = search needs
-
-shared-slice-read-c : tie.Need-shared-slice-read-c Inv-loop μ-loop
-shared-slice-read-c c = search needs
-
 -- at a byte: the number from there on is the number from the start
 here : (c : tie.After-shared-slice-known2 Inv-loop μ-loop) →
     numberFrom (most (c .before .before .before .before .args .digits)) (c .before .before .before .before .args .end) (c .before .before .loop .count) (c .before .before .loop .value) (getD (c .before .before .before .before .args .s .now) (c .before .before .loop .i) 0 ∷ drop (c .before .before .loop .i + 1) (c .before .before .before .before .args .s .now))
@@ -40,21 +34,12 @@ returns : tie.Need-returns Inv-loop μ-loop
 returns c =
     record { within = search needs; same = sym (number-none _ _ _ _ _ _ (eq-eqb _ _ (c .before .if1 .taken)) (eq-eqb _ _ (c .if2 .taken))) ∙ here (c .before .before) }
 
-add-next : tie.Need-add-next Inv-loop μ-loop
-add-next c = search needs
-
 returns-2 : tie.Need-returns-2 Inv-loop μ-loop
 returns-2 c =
     record { within = omega arith; same = sym (number-end _ _ _ _ _ _ (eq-eqb _ _ (c .before .if1 .taken)) (ne-eqb _ _ (c .if2 .left))) ∙ here (c .before .before) }
 
 digit-after-requires : tie.Need-digit-after-requires Inv-loop μ-loop
 digit-after-requires c κs = c .before .before .before .loop .inv .0
-
-enum-known-more : tie.Need-enum-known-more Inv-loop μ-loop
-enum-known-more c = search needs
-
-enum-told : tie.Need-enum-told Inv-loop μ-loop
-enum-told c = search needs
 
 returns-3 : tie.Need-returns-3 Inv-loop μ-loop
 returns-3 c =
@@ -63,12 +48,6 @@ returns-3 c =
 
 add-count : tie.Need-add-count Inv-loop μ-loop
 add-count c = omega (arith, c .before .before .before .before .before .before .before .loop .inv .0)
-
-add-i : tie.Need-add-i Inv-loop μ-loop
-add-i c = search needs
-
-loop-less : tie.Need-loop-less Inv-loop μ-loop
-loop-less c = search needs
 
 loop-again : tie.Need-loop-again Inv-loop μ-loop
 loop-again c =
@@ -83,19 +62,5 @@ pub number-then-spec : {M : Type 1} → statement M
 number-then-spec =
     tie.close
     (tie.spec
-    Inv-loop
-    μ-loop
-    loop-holds
-    shared-slice-read-c
-    returns
-    add-next
-    returns-2
-    digit-after-requires
-    enum-known-more
-    enum-told
-    returns-3
-    add-count
-    add-i
-    loop-less
-    loop-again
-    returns-4)
+    Inv-loop μ-loop (λ c. search needs) (λ c. search needs) returns (λ c. search needs) returns-2 digit-after-requires
+    (λ c. search needs) (λ c. search needs) returns-3 add-count (λ c. search needs) (λ c. search needs) loop-again returns-4)

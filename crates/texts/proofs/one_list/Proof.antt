@@ -3,12 +3,9 @@ use borrow.Author.Needs.{needs}
 use Rattle.texts.proofs.one_list.Statement.{statement}
 use Rattle.texts.proofs.one_list.Tie as tie
 
-list-then-requires : tie.Need-list-then-requires
-list-then-requires c κs = search needs
-
 returns : tie.Need-returns
 unfolding set
 returns c = c .list-then .ensures
 
 pub one-list-spec : {M : Type 1} → statement M
-one-list-spec = tie.close (tie.spec list-then-requires returns)
+one-list-spec = tie.close (tie.spec (λ c κs. search needs) returns)

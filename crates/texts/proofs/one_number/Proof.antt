@@ -3,12 +3,9 @@ use borrow.Author.Needs.{needs}
 use Rattle.texts.proofs.one_number.Statement.{statement}
 use Rattle.texts.proofs.one_number.Tie as tie
 
-number-then-requires : tie.Need-number-then-requires
-number-then-requires c κs = search needs
-
 returns : tie.Need-returns
 unfolding one
 returns c = c .number-then .ensures
 
 pub one-number-spec : {M : Type 1} → statement M
-one-number-spec = tie.close (tie.spec number-then-requires returns)
+one-number-spec = tie.close (tie.spec (λ c κs. search needs) returns)

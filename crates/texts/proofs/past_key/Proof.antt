@@ -14,9 +14,6 @@ Inv-loop s at due i₀ j₀ i j = (i ≤ length s) × (key (drop j due) (drop i 
 abbrev μ-loop : tie.MeasureT-loop
 μ-loop s at due i₀ j₀ i j = length due - j
 
-place-in-requires : tie.Need-place-in-requires Inv-loop μ-loop
-place-in-requires c κs = search needs
-
 loop-holds : tie.Need-loop-holds Inv-loop μ-loop
 loop-holds c =
     let a = c .before .before .before .args in
@@ -28,26 +25,11 @@ returns c =
     let a = c .before .before .before .before .before .before .args in
     record { within = search needs; same = sym (key-over (a .due .now) (a .s .now) (l .j) (l .i) (search needs) (c .if1 .taken)) ∙ l .inv .1 }
 
-shared-slice-read-if2 : tie.Need-shared-slice-read-if2 Inv-loop μ-loop
-shared-slice-read-if2 c = search needs
-
-shared-slice-read-if2-2 : tie.Need-shared-slice-read-if2-2 Inv-loop μ-loop
-shared-slice-read-if2-2 c = search needs
-
 returns-2 : tie.Need-returns-2 Inv-loop μ-loop
 returns-2 c =
     let l = c .before .before .before .before .before .loop in
     let a = c .before .before .before .before .before .before .before .before .before .args in
     record { within = search needs; same = sym (key-other (a .due .now) (a .s .now) (l .j) (l .i) (search needs) (search needs) (c .if2 .taken)) ∙ l .inv .1 }
-
-add-i : tie.Need-add-i Inv-loop μ-loop
-add-i c = search needs
-
-add-j : tie.Need-add-j Inv-loop μ-loop
-add-j c = search needs
-
-loop-less : tie.Need-loop-less Inv-loop μ-loop
-loop-less c = search needs
 
 loop-again : tie.Need-loop-again Inv-loop μ-loop
 loop-again c =
@@ -65,16 +47,5 @@ pub past-key-spec : {M : Type 1} → statement M
 past-key-spec =
     tie.close
     (tie.spec
-    Inv-loop
-    μ-loop
-    place-in-requires
-    loop-holds
-    returns
-    shared-slice-read-if2
-    shared-slice-read-if2-2
-    returns-2
-    add-i
-    add-j
-    loop-less
-    loop-again
-    returns-3)
+    Inv-loop μ-loop (λ c κs. search needs) loop-holds returns (λ c. search needs) (λ c. search needs) returns-2 (λ c. search needs)
+    (λ c. search needs) (λ c. search needs) loop-again returns-3)

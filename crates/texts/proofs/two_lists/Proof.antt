@@ -5,26 +5,8 @@ use borrow.Author.Needs.{needs}
 use Rattle.texts.proofs.two_lists.Statement.{statement}
 use Rattle.texts.proofs.two_lists.Tie as tie
 
-list-then-requires : tie.Need-list-then-requires
-list-then-requires c κs = search needs
-
-enum-known-first : tie.Need-enum-known-first
-enum-known-first c = search needs
-
-enum-told : tie.Need-enum-told
-enum-told c = search needs
-
 returns : tie.Need-returns
 returns c = rw sets-is (first-fault _ _ _ (told listSays _ (c .before .before .list-then .ensures) (c .enum-told .given .1)))
-
-one-list-requires : tie.Need-one-list-requires
-one-list-requires c κs = search needs
-
-enum-known-second : tie.Need-enum-known-second
-enum-known-second c = search needs
-
-enum-told-2 : tie.Need-enum-told-2
-enum-told-2 c = search needs
 
 returns-2 : tie.Need-returns-2
 returns-2 c =
@@ -44,12 +26,5 @@ pub two-lists-spec : {M : Type 1} → statement M
 two-lists-spec =
     tie.close
     (tie.spec
-    list-then-requires
-    enum-known-first
-    enum-told
-    returns
-    one-list-requires
-    enum-known-second
-    enum-told-2
-    returns-2
-    returns-3)
+    (λ c κs. search needs) (λ c. search needs) (λ c. search needs) returns (λ c κs. search needs) (λ c. search needs)
+    (λ c. search needs) returns-2 returns-3)

@@ -1,2 +1,0 @@
--- What it is that no other answer fits the promise of a run of lines (Once).
-pub mod Once
