@@ -12,7 +12,7 @@ use model::Transitions;
 use model::no_program;
 use model::no_tables;
 use model::start;
-ghost use Prim.Native.Nat.{_+_, _*_, _≤_};
+ghost use Prim.Native.Nat.{_+_, _*_, _≤_, _<_};
 ghost use lib.ListN.{length};
 
 pub const BYTES: usize = 6254;
@@ -157,14 +157,6 @@ fn instance_at(bytes: &[u8; BYTES], at: usize) -> Instance
     }
 }
 
-fn with_instances(c: Configuration, bytes: &[u8; BYTES]) -> Configuration {
-    let mut next = c;
-    for i in 0..32usize {
-        next.instances[i] = instance_at(bytes, 5254 + i * 15);
-    }
-    next
-}
-
 fn connection_at(bytes: &[u8; BYTES], at: usize) -> Connection
     requires { ⌜ at ≤ 6250 ⌝ }
 {
@@ -176,16 +168,28 @@ fn connection_at(bytes: &[u8; BYTES], at: usize) -> Connection
     }
 }
 
-fn with_connections(c: Configuration, bytes: &[u8; BYTES]) -> Configuration {
+// Instance i and connection i.
+fn with_row(c: Configuration, bytes: &[u8; BYTES], i: usize) -> Configuration
+    requires { ⌜ i < 64 ⌝ }
+{
+    let mut next = c;
+    if i < 32 {
+        next.instances[i] = instance_at(bytes, 5254 + i * 15);
+    }
+    next.connections[i] = connection_at(bytes, 5990 + i * 4);
+    next
+}
+
+fn with_rows(c: Configuration, bytes: &[u8; BYTES]) -> Configuration {
     let mut next = c;
     for i in 0..64usize {
-        next.connections[i] = connection_at(bytes, 5990 + i * 4);
+        next = with_row(next, bytes, i);
     }
     next
 }
 
 pub(crate) fn configuration_of(bytes: &[u8; BYTES]) -> Configuration {
-    let c = with_connections(with_instances(start(), bytes), bytes);
+    let c = with_rows(start(), bytes);
     let instances = c.instances;
     let connections = c.connections;
     let mut queue = [0u8; 256];

@@ -7,7 +7,7 @@ use model::Configuration;
 use model::Connection;
 use model::Instance;
 use model::wide;
-ghost use Prim.Native.Nat.{_≤_};
+ghost use Prim.Native.Nat.{_≤_, _<_};
 
 const BYTES: usize = 997;
 
@@ -48,18 +48,6 @@ fn put_instance(out: &mut [u8; BYTES], at: usize, v: Instance)
     put_byte(out, at + 14, v.queued);
 }
 
-fn put_instances(out: &mut [u8; BYTES], c: Configuration) {
-    for i in 0..32usize {
-        put_instance(out, i * 15, c.instances[i]);
-    }
-}
-
-fn put_queue(out: &mut [u8; BYTES], c: Configuration) {
-    for i in 0..256usize {
-        put_byte(out, 480 + i, c.queue[i]);
-    }
-}
-
 fn put_connection(out: &mut [u8; BYTES], at: usize, k: Connection)
     requires { ⌜ at ≤ 990 ⌝ }
 {
@@ -69,16 +57,23 @@ fn put_connection(out: &mut [u8; BYTES], at: usize, k: Connection)
     put_byte(out, at + 3, k.provideport);
 }
 
-fn put_connections(out: &mut [u8; BYTES], c: Configuration) {
-    for i in 0..64usize {
+// Queue slot i, instance i and connection i.
+fn put_row(out: &mut [u8; BYTES], c: Configuration, i: usize)
+    requires { ⌜ i < 256 ⌝ }
+{
+    put_byte(out, 480 + i, c.queue[i]);
+    if i < 32 {
+        put_instance(out, i * 15, c.instances[i]);
+    }
+    if i < 64 {
         put_connection(out, 736 + i * 4, c.connections[i]);
     }
 }
 
 fn put_configuration(out: &mut [u8; BYTES], c: Configuration) {
-    put_instances(out, c);
-    put_queue(out, c);
-    put_connections(out, c);
+    for i in 0..256usize {
+        put_row(out, c, i);
+    }
     put_byte(out, 992, c.count);
     put_long(out, 993, c.done);
 }

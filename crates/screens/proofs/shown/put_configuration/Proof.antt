@@ -1,7 +1,7 @@
 use Prim.Native.Nat.{_-_}
 use borrow.Author.Needs.{needs}
-use Rattle.screens.proofs.shown.put_queue.Statement.{statement}
-use Rattle.screens.proofs.shown.put_queue.Tie as tie
+use Rattle.screens.proofs.shown.put_configuration.Statement.{statement}
+use Rattle.screens.proofs.shown.put_configuration.Tie as tie
 
 abbrev Inv-loop : tie.InvT-loop
 Inv-loop out₀ c i₀ out i = Unit {0}
@@ -12,14 +12,8 @@ abbrev μ-loop : tie.MeasureT-loop
 loop-holds : tie.Need-loop-holds Inv-loop μ-loop
 loop-holds c = search needs
 
-add-put-byte : tie.Need-add-put-byte Inv-loop μ-loop
-add-put-byte c = search needs
-
-element-copy-out-put-byte : tie.Need-element-copy-out-put-byte Inv-loop μ-loop
-element-copy-out-put-byte c = search needs
-
-put-byte-requires : tie.Need-put-byte-requires Inv-loop μ-loop
-put-byte-requires c κs = search needs
+put-row-requires : tie.Need-put-row-requires Inv-loop μ-loop
+put-row-requires c κs = search needs
 
 add-i : tie.Need-add-i Inv-loop μ-loop
 add-i c = search needs
@@ -30,20 +24,26 @@ loop-less c = search needs
 loop-again : tie.Need-loop-again Inv-loop μ-loop
 loop-again c = search needs
 
+put-byte-requires : tie.Need-put-byte-requires Inv-loop μ-loop
+put-byte-requires c κs = search needs
+
+put-long-requires : tie.Need-put-long-requires Inv-loop μ-loop
+put-long-requires c κs = search needs
+
 returns : tie.Need-returns Inv-loop μ-loop
 returns c = search needs
 
-pub put-queue-spec : {M : Type 1} → statement M
-put-queue-spec =
+pub put-configuration-spec : {M : Type 1} → statement M
+put-configuration-spec =
     tie.close
     (tie.spec
     Inv-loop
     μ-loop
     loop-holds
-    add-put-byte
-    element-copy-out-put-byte
-    put-byte-requires
+    put-row-requires
     add-i
     loop-less
     loop-again
+    put-byte-requires
+    put-long-requires
     returns)
