@@ -1,0 +1,9 @@
+-- "Refusals: 40 bad row or key, text over 32,768 bytes, ended early or going on past its last row; 41 number beyond its limit; 42 pair
+-- listed twice; in this order within a line, a too long text first." The readers' own numbers are 1 for the length, 2 for the form,
+-- 3 for a limit, 4 for a clause and 5 past the end: a text of times gives them these names.
+use Prim.Native.Nat.{ℕ}
+use mathlib.Core.Bool.{cond}
+use lib.Dec.{eqb}
+
+unfoldable pub timesNumber : ℕ → ℕ
+timesNumber n = cond (eqb n 3) 41 (cond (eqb n 4) 42 40)
