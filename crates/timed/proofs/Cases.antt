@@ -1,0 +1,143 @@
+-- What is computed from three texts, all of it under one line: the cases, and what tells the shams from the mark.
+-- Assumes nothing.
+use Prim.Native.Nat.{ℕ, zero, suc}
+use mathlib.Core.List.{List, [], _∷_}
+use mathlib.Core.Bool.{false}
+use mathlib.Core.Path.{_≡_, refl, sym, _∙_}
+use mathlib.Core.Logic.{_≢_}
+use native.Mathlib.Omega.{arith}
+use borrow.Author.Tests.{ne-eqb}
+use Rattle.forms.specs.Read.{key, digit, numberFrom, membersFrom, list, one, two, three, four, set, sets}
+use Rattle.forms.specs.Write.{digitsIn, numberText, membersBelow, moreText, listText, maskText, inTurn, oneText, twoText, threeText, fourText, setText, setsText}
+use Rattle.judged.specs.Course.{short, read, both, course}
+use Rattle.judged.specs.Judged.{faultLine, faultPlace, afterFault, noRoom, stepPlace, afterWalk, inRoom, ending, judged, over, printing, printed}
+use Rattle.model.specs.Empty.{noTables, noProgram, noAnswer, start}
+use Rattle.model.specs.View.{listOf, queueOf, put, withQueue, withConnections, withDone}
+use Rattle.reading.specs.Fill.{headed, withType, withTransition, withPort, programOf, withInstruction, answerOf, withStep}
+use Rattle.reading.specs.Kinds.{dueLine, countLineIn, initialLine, tranLine, behaviorLine, group, portLine, doId, doNumber, doEnds, doLine, stepId, stepNumber, stepLine}
+use Rattle.reading.specs.Lines.{each}
+use Rattle.reading.specs.Place.{upToLf, lfs, lineNumber, lineStart}
+use Rattle.reading.specs.Texts.{tran, behavior, port, type, instruct, sheet, stepAt, answer}
+use Rattle.report.specs.Faults.{textText, faultText}
+use Rattle.report.specs.Report.{tally, countText, instanceText, connectionText, instanceAt, connectionAt, instancesText, connectionsText, report}
+use Rattle.rules.specs.Action.{Action, add, pushb, fire, end, instruction, move, check, effect}
+use Rattle.rules.specs.Add.{addCheck, added}
+use Rattle.rules.specs.Closing.{down, closed, zeroed, renewed}
+use Rattle.rules.specs.Con.{isOf, isUsePort, isProvidePort, conCheck, connected}
+use Rattle.rules.specs.DCon.{sameConnection, first, dconCheck, disconnected}
+use Rattle.rules.specs.Del.{namedBy, delCheck, deleted}
+use Rattle.rules.specs.End.{endCheck, endTo}
+use Rattle.rules.specs.Enter.{enterRow, enterCheck, enterTo}
+use Rattle.rules.specs.Finish.{mayLeave, finishRow, finishCheck, finished}
+use Rattle.rules.specs.Fire.{fireRow, fireCheck, fireTo}
+use Rattle.rules.specs.Instance.{active, current, endsAt, leaving, entering, fired, endedBy, entered, withQueued}
+use Rattle.rules.specs.Ports.{someConnection, wouldLeave, refusing, serves, blocks, employs, failsUnserved, failsRefusing, failsInUse, portCheck}
+use Rattle.rules.specs.PushB.{pushbCheck, pushed}
+use Rattle.rules.specs.Step.{line, action, number, after, step}
+use Rattle.rules.specs.Wait.{waitCheck}
+use Rattle.rules.specs.Walk.{oneMore, walk, walkAnswer}
+use Rattle.sets.specs.Mask.{member, collect}
+use Rattle.sets.specs.Test.{all, any}
+use Rattle.demands.specs.Agree.{names, deeds, naming}
+use Rattle.demands.specs.OnTexts.{tablesIn, programIn, stepsIn, AllAllowed}
+use Rattle.timed.specs.Order.{OrderMayAlterTheMark}
+use Rattle.timed.specs.Cases.{twins, together, oneByOne, seconds, table, AllMet}
+use Rattle.timed.specs.Clock.{atStart, notes, tick, clockFrom, clockOf}
+use Rattle.timed.specs.Mark.{nearest, markOf, markAfter}
+use Rattle.timed.specs.Shams.{alwaysFull, halvesUp, roundsEachStep, shamCourse, given, ToldApart, ShamsToldApart, RoundingLifts}
+use Rattle.timed.specs.Timed.{clocked, timedCourse, markedReport, markInRoom, timedEnding, timed, timedPrinting, timedPrinted}
+use Rattle.times.specs.Refusal.{timesNumber}
+use Rattle.times.specs.Row.{timeLine}
+use Rattle.times.specs.Text.{time, times}
+use Rattle.times.specs.View.{timesOf, withTime}
+
+-- the texts that tell the shams apart: half the clock, a half in the last place, and a share that hundredths lift
+abbrev halfTheClock : List ℕ
+halfTheClock = seconds "15" "20" "30"
+
+abbrev aHalf : List ℕ
+aHalf = seconds "1" "8" "8"
+
+abbrev underAPass : List ℕ
+underAPass = seconds "62" "25" "100"
+
+-- what comes of an answer and times: no refusal, the mark, and the mark that f gives
+record Marks (f : ℕ → ℕ → ℕ) (a x : List ℕ) (mark sham : ℕ) : Type 0 where
+  allowed : timed twins a x 8192 .judgement .verdict .refused ≡ 0
+  mark-is : timed twins a x 8192 .mark ≡ mark
+  sham-is : given (shamCourse f twins a x) ≡ sham
+
+-- what the two answers do: the four instructions, then the moves of both
+abbrev instructions : List Action → List Action
+instructions moves = add 0 0 ∷ add 1 0 ∷ pushb 0 0 ∷ pushb 1 0 ∷ moves
+
+abbrev togetherDoes : List Action
+togetherDoes = instructions (fire 0 0 ∷ fire 1 0 ∷ end 0 0 ∷ end 1 0 ∷ [])
+
+abbrev oneByOneDoes : List Action
+oneByOneDoes = instructions (fire 0 0 ∷ end 0 0 ∷ fire 1 0 ∷ end 1 0 ∷ [])
+
+-- a component that nothing names
+abbrev Unnamed : ℕ → List Action → Type 0
+Unnamed i [] = Unit
+Unnamed i (a ∷ rest) = (names a i ≡ false) × Unnamed i rest
+
+none-named : (i : ℕ) (does : List Action) → Unnamed i does → naming i does ≡ []
+unfolding naming
+none-named i [] h = refl
+none-named i (a ∷ rest) h = rw (h .0, naming) (none-named i rest (h .1))
+
+-- each component's are the same: component 0's, component 1's, and no other has any
+projections-alike : (i : ℕ) → naming i togetherDoes ≡ naming i oneByOneDoes
+unfolding naming names
+projections-alike zero = refl
+projections-alike (suc zero) = refl
+projections-alike (suc (suc i)) =
+    let z = ne-eqb 0 (suc (suc i)) (omega arith) in
+    let o = ne-eqb 1 (suc (suc i)) (omega arith) in
+    none-named (suc (suc i)) togetherDoes (z, (o, (z, (o, (z, (o, (z, (o, tt)))))))) ∙ sym (none-named (suc (suc i)) oneByOneDoes (z, (o, (z, (o, (z, (z, (o, (o, tt)))))))))
+
+record Ordered : Type 0 where
+  first : AllAllowed twins together
+  second : AllAllowed twins oneByOne
+  together-does : deeds (programIn twins) 0 (stepsIn together) ≡ togetherDoes
+  one-by-one-does : deeds (programIn twins) 0 (stepsIn oneByOne) ≡ oneByOneDoes
+  quick : timed twins together halfTheClock 8192 .mark ≡ 500
+  slow : timed twins oneByOne halfTheClock 8192 .mark ≡ 300
+
+record Computed : Type 0 where
+  cases : AllMet table
+  order : Ordered
+  full : Marks alwaysFull together halfTheClock 500 1000
+  up : Marks halvesUp oneByOne aHalf 62 63
+  each-step : Marks roundsEachStep oneByOne underAPass 496 500
+
+computed : Computed
+unfolding member collect all any noTables noProgram noAnswer start listOf queueOf put withQueue withConnections withDone key digit numberFrom membersFrom list one two three four set sets digitsIn numberText membersBelow moreText listText maskText inTurn oneText twoText threeText fourText setText setsText headed withType withTransition withPort programOf withInstruction answerOf withStep dueLine countLineIn initialLine tranLine behaviorLine group portLine doId doNumber doEnds doLine stepId stepNumber stepLine each upToLf lfs lineNumber lineStart tran behavior port type instruct sheet stepAt answer instruction move check effect addCheck added down closed zeroed renewed isOf isUsePort isProvidePort conCheck connected sameConnection first dconCheck disconnected namedBy delCheck deleted endCheck endTo enterRow enterCheck enterTo mayLeave finishRow finishCheck finished fireRow fireCheck fireTo active current endsAt leaving entering fired endedBy entered withQueued someConnection wouldLeave refusing serves blocks employs failsUnserved failsRefusing failsInUse portCheck pushbCheck pushed line action number after step waitCheck oneMore walk walkAnswer textText faultText tally countText instanceText connectionText instanceAt connectionAt instancesText connectionsText report short read both course faultLine faultPlace afterFault noRoom stepPlace afterWalk inRoom ending judged over printing printed timesNumber timeLine time times timesOf withTime atStart notes tick clockFrom clockOf nearest markOf markAfter halvesUp roundsEachStep shamCourse clocked timedCourse markedReport markInRoom timedEnding timed timedPrinting timedPrinted names deeds naming tablesIn programIn stepsIn
+computed = record {
+  cases = ((refl, refl), ((refl, refl), ((refl, refl), ((refl, refl), ((refl, refl), ((refl, refl), ((refl, refl), ((refl, refl), ((refl, refl), ((refl, refl), ((refl, refl), ((refl, refl), ((refl, refl), ((refl, refl), ((refl, refl), ((refl, refl), tt))))))))))))))));
+  order = record { first = refl; second = refl; together-does = refl; one-by-one-does = refl; quick = refl; slow = refl };
+  full = record { allowed = refl; mark-is = refl; sham-is = refl };
+  up = record { allowed = refl; mark-is = refl; sham-is = refl };
+  each-step = record { allowed = refl; mark-is = refl; sham-is = refl };
+}
+
+pub cases-met : AllMet table
+cases-met = computed .cases
+
+told-apart : {f : ℕ → ℕ → ℕ} {a x : List ℕ} {mark sham : ℕ} → Marks f a x mark sham → sham ≢ mark → ToldApart f
+told-apart {a = a} {x = x} h g = (twins, a, x, h .allowed, λ q. g (sym (h .sham-is) ∙ q ∙ h .mark-is))
+
+pub shams-told-apart : ShamsToldApart
+unfolding ShamsToldApart
+shams-told-apart = (told-apart (computed .full) (omega arith), told-apart (computed .up) (omega arith), told-apart (computed .each-step) (omega arith))
+
+pub rounding-lifts : RoundingLifts
+unfolding RoundingLifts
+rounding-lifts = let h = computed .each-step in (twins, oneByOne, underAPass, omega (arith, h .mark-is), omega (arith, h .sham-is))
+
+pub order-may-alter-the-mark : OrderMayAlterTheMark
+unfolding OrderMayAlterTheMark
+order-may-alter-the-mark =
+    let h = computed .order in
+    (twins, together, oneByOne, halfTheClock, h .first, h .second, λ i. rw (h .together-does, h .one-by-one-does) (projections-alike i), λ q. omega (arith, q, h .quick, h .slow))
