@@ -1,0 +1,29 @@
+-- What reading a text of times answers, as one function of the text.
+use Prim.Native.Nat.{ℕ, _-_}
+use mathlib.Core.List.{List}
+use mathlib.Core.Bool.{true, false}
+use mathlib.Core.Path.{_≡_}
+use lib.ListN.{length}
+use Rattle.reading.specs.Limits.{lengthOk}
+use Rattle.reading.specs.Lines.{Run, on, stop}
+use Rattle.times.specs.declared.Times.{Times}
+use Rattle.times.specs.View.{noTimes}
+use Rattle.times.specs.Text.{times}
+use Rattle.time_rows.specs.declared.TimesRead.{TimesRead}
+
+-- nothing is handed out beside a refusal
+abbrev pub refusedTimes : ℕ → ℕ → TimesRead
+refusedTimes k at = record { refused = k; place = at; times = noTimes }
+
+-- the place is where the rest starts: the line at fault, or the text's end
+abbrev pub answered : List ℕ → Run Times → TimesRead
+answered s (on ts r) = record { refused = 0; place = length s - length r; times = ts }
+answered s (stop k r) = refusedTimes k (length s - length r)
+
+-- "a too long text first": 1, at its start; then the lines
+unfoldable pub timesRead : List ℕ → TimesRead
+timesRead s = elim (lengthOk (length s)) [ true ↦ answered s (times s) | false ↦ refusedTimes 1 0 ]
+
+-- no other answer fits the promise
+unfoldable pub NoOtherTimes : Type 0
+NoOtherTimes = (s : List ℕ) (r q : TimesRead) → r ≡ timesRead s → q ≡ timesRead s → r ≡ q
