@@ -1,0 +1,66 @@
+-- What is printed: after 1 to 5 and 40 to 42 the three lines, which have room, and else the bytes of the report with its mark.
+-- Assumes nothing.
+use Prim.Native.Nat.{ℕ, _≤_, zero-le}
+use mathlib.Core.List.{List}
+use mathlib.Core.Path.{_≡_, refl}
+use mathlib.Core.Logic.{_⊎_, ⊎-elim, inl, inr}
+use native.Mathlib.Omega.{arith}
+use lib.Dec.{eqb}
+use lib.ListN.{length}
+use Rattle.forms.proofs.Tests.{by-test}
+use Rattle.model.specs.declared.Walked.{Walked}
+use Rattle.model.specs.declared.Text.{Text}
+use Rattle.model.specs.declared.Text.the-variants as text
+use Rattle.report.specs.Faults.{faultText}
+use Rattle.judged.specs.declared.Verdict.{Verdict}
+use Rattle.judged.specs.Course.{Course}
+use Rattle.judged.specs.Judged.{faultLine, afterFault, over}
+use Rattle.inks.specs.Written.{Written}
+use Rattle.judging.proofs.Order.{walked-numbers}
+use Rattle.judging.proofs.Printed.{fault-short, Chosen, walk-chosen, Prints, report-printed, lines-printed}
+use Rattle.times.specs.Refusal.{timesNumber}
+use Rattle.timed.specs.Timed.{timedCourse, markedReport, numbered, timedEnding, timed, timedVerdict, timedBuffer, timedPrinting, timedPrinted}
+use Rattle.timed.proofs.Same.{Few, Alike, in-sheet, in-answer, in-times, marked, courses-alike, all-read}
+use Rattle.timekeeping.proofs.Order.{TimedTold, sheet-fault, answer-fault, times-fault, clocked-walk, timed-told}
+
+-- of the sheet or the answer, or of the times
+abbrev OfText : ℕ → Type 0
+OfText n = ((1 ≤ n) × (n ≤ 5)) ⊎ ((40 ≤ n) × (n ≤ 42))
+
+text-few : (n : ℕ) → OfText n → n ≤ 99
+text-few n h = ⊎-elim (λ z. omega (arith, z)) (λ z. omega (arith, z)) h
+
+of-times : (n : ℕ) → OfText (timesNumber n)
+unfolding timesNumber
+of-times n =
+    inr (by-test (eqb n 3) (λ e. rw (e, timesNumber) (omega arith)) (λ e. rw (e, timesNumber) (by-test (eqb n 4) (λ f. rw f (omega arith)) (λ f. rw f (omega arith)))))
+
+fault-chosen : (k : Text) (n at m : ℕ) (s : List ℕ) → OfText m → faultLine n at s ≤ 32769 → Chosen OfText (numbered m (afterFault k n at s)) (faultText k (faultLine n at s) m)
+unfolding afterFault
+fault-chosen k n at m s h l = record {
+  three-lines = λ _. (refl, refl, fault-short k (faultLine n at s) m l (text-few m h));
+  the-report = λ g. absurd (g h);
+  written-is = refl;
+  has-room = zero-le;
+}
+
+chosen : (s a x : List ℕ) → Chosen OfText (timed s a x 8192 .judgement) (timedPrinted s a x)
+unfolding timed timedEnding timedPrinted timedPrinting
+chosen s a x = go (timedCourse s a x) refl (courses-alike s a x) (timed-told s a x)
+  where
+    go : {y : Course Walked} (z : Course (Walked × ℕ)) → timedCourse s a x ≡ z → Alike y z → TimedTold s a x z → Chosen OfText (timedEnding s a x 8192 z .judgement) (timedPrinting s a x z)
+    go _ e (in-sheet l) (sheet-fault {n} {at} f) = fault-chosen text.Sheet n at n s (inl l) (f .few)
+    go _ e (in-answer l) (answer-fault {n} {at} f) = fault-chosen text.Answer n at n a (inl l) (f .few)
+    go _ e (in-times l) (times-fault {n} {at} f) = fault-chosen text.Times n at (timesNumber n) x (of-times n) (f .few)
+    go _ e (marked l) (clocked-walk {w} {m}) =
+        let h = walked-numbers s a w (all-read s a x w m e .0) .refused .range in
+        walk-chosen OfText w (markedReport w m) a
+        (⊎-elim (λ g. ⊎-elim (λ z. omega (arith, g, z)) (λ z. omega (arith, g, z)) h) (λ g. ⊎-elim (λ z. omega (arith, g, z)) (λ z. omega (arith, g, z)) h))
+        (⊎-elim (λ g. omega (arith, g)) (λ g. omega (arith, g)))
+
+module _ (s a x old : List ℕ) {v : Verdict} {mid : List ℕ} (long : length old ≡ 8192) (is : v ≡ timedVerdict s a x (length old) .verdict) (after : mid ≡ timedBuffer s a x old) where
+  pub report-prints : (OfText (v .refused) → ⊥) → Prints (timedPrinted s a x) old mid (v .written)
+  report-prints = report-printed (chosen s a x) old long (rw long at is) (rw long at after)
+
+  pub lines-print : {new : List ℕ} {used : ℕ} → OfText (v .refused) → Written mid (faultText (v .text) (v .line) (v .refused)) new 0 used → Prints (timedPrinted s a x) old new used
+  lines-print = lines-printed (chosen s a x) old long (rw long at is) (rw long at after)

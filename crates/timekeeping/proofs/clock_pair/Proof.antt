@@ -1,0 +1,22 @@
+use mathlib.Core.Path.{_∙_}
+use Rattle.judged.specs.Course.{reached}
+use Rattle.timekeeping.proofs.Order.{clocks-told}
+use borrow.Author.Needs.{needs}
+use Rattle.timekeeping.proofs.clock_pair.Statement.{statement}
+use Rattle.timekeeping.proofs.clock_pair.Tie as tie
+
+returns : tie.Need-returns
+returns c = let d = c .before .before in c .come-to .ensures ∙ clocks-told _ _ _ _ (d .before .before .read-times .ensures) .faults (d .if1 .taken)
+
+returns-2 : tie.Need-returns-2
+returns-2 c =
+    let d = c .before .before .before .before .before .before in
+    let w = c .before .walk-timed .ensures in
+    c .come-to2 .ensures ∙ (λ i. reached (w .0 i, w .1 i)) ∙ clocks-told _ _ _ _ (d .before .before .read-times .ensures) .reaches (d .if1 .left)
+
+pub clock-pair-spec : {M : Type 1} → statement M
+clock-pair-spec =
+    tie.close
+    (tie.spec
+    (λ c κs. search needs) (λ c κs. search needs) (λ c κs. search needs) returns (λ c κs. search needs) (λ c κs. search needs)
+    returns-2)

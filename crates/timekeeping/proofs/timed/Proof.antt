@@ -1,0 +1,40 @@
+use Rattle.model.specs.declared.Text.the-variants as text
+use Rattle.judged.specs.Judged.{afterFault}
+use Rattle.timekeeping.proofs.Timing.{fault-answers, walk-answers}
+use borrow.Author.Needs.{needs}
+use Rattle.timekeeping.proofs.timed.Statement.{statement}
+use Rattle.timekeeping.proofs.timed.Tie as tie
+
+returns : tie.Need-returns
+unfolding afterFault
+returns c =
+    let d = c .before .before .before in
+    fault-answers _ _ _ _ text.Sheet _ _ (rw (d .outcome .given .1) at (d .before .before .before .course .ensures)) (rw (c .unmarked .ensures, c .before .after-fault .ensures))
+
+returns-2 : tie.Need-returns-2
+unfolding afterFault
+returns-2 c =
+    let d = c .before .before .before in
+    fault-answers _ _ _ _ text.Answer _ _ (rw (d .outcome2 .given .1) at (d .before .before .before .course .ensures)) (rw (c .unmarked2 .ensures, c .before .after-fault2 .ensures))
+
+returns-3 : tie.Need-returns-3
+unfolding afterFault
+returns-3 c =
+    let d = c .before .before .before in
+    fault-answers _ _ _ _ text.Times _ _ (rw (d .outcome3 .given .1) at (d .before .before .before .course .ensures)) (rw (c .unmarked3 .ensures, c .before .after-times-fault .ensures))
+
+returns-4 : tie.Need-returns-4
+returns-4 c =
+    let d = c .before .before in
+    let e = d .before .before in
+    let x = e .before .before .before .before .before .before .before .before .args in
+    let h = d .after-walk .ensures in
+    walk-answers _ _ _ (x .report .now) _ _ (rw (e .enum-told .given .1) at (e .before .before .before .course .ensures)) (h .0 (x .answer .now)) (h .1 .0) (h .1 .1 (x .answer .now))
+
+pub timed-spec : {M : Type 1} → statement M
+timed-spec =
+    tie.close
+    (tie.spec
+    (λ c κs. search needs) (λ c. search needs) (λ c κs. search needs) (λ c κs. search needs) (λ c. search needs) (λ c κs. search needs)
+    (λ c κs. search needs) (λ c. search needs) (λ c κs. search needs) (λ c κs. search needs) (λ c. search needs) (λ c κs. search needs)
+    returns returns-2 returns-3 (λ c. search needs) returns-4)

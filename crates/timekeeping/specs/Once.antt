@@ -1,0 +1,22 @@
+-- "That no other outcome fits the promise is itself proved": of each public function, two results that meet its promise are one. For the
+-- verdict, the buffer and the place: timed/specs/Once.
+use Prim.Native.Nat.{ℕ}
+use mathlib.Core.List.{List}
+use mathlib.Core.Path.{_≡_}
+use lib.ListN.{length}
+use denote.Ref.{RefT}
+use Rattle.judged.specs.declared.Place.{Place}
+use Rattle.judged.specs.Judged.{over}
+use Rattle.timed.specs.Timed.{timedPrinted}
+use Rattle.timekeeping.specs.Part.{PartOf}
+
+unfoldable pub NoOtherTimedPart : Type 0
+NoOtherTimedPart =
+    (p : Place) (s a x r q : RefT (List ℕ)) → PartOf p s a x r → PartOf p s a x q → (r .ptr ≡ q .ptr) × (r .now ≡ q .now)
+
+unfoldable pub NoOtherTimedPrint : Type 0
+NoOtherTimedPrint =
+    (s a x old b c : List ℕ) (n m : ℕ)
+    → (n ≡ length (timedPrinted s a x)) × (b ≡ over (timedPrinted s a x) old)
+    → (m ≡ length (timedPrinted s a x)) × (c ≡ over (timedPrinted s a x) old)
+    → (n ≡ m) × (b ≡ c)
