@@ -16,7 +16,7 @@ use lib.Seq.{take-all, getD-drop, getD-set-same, getD-set-other}
 use Rattle.forms.proofs.Tests.{by-test}
 use Rattle.forms.specs.Write.{when, inTurn}
 use Rattle.sets.specs.Mask.{member, with}
-use Rattle.sets.proofs.Laws.{member-none, member-with}
+use Rattle.sets.proofs.Laws.{member-past, member-with}
 use Rattle.model.specs.declared.Instance.{Instance}
 use Rattle.model.specs.declared.Connection.{Connection}
 use Rattle.model.specs.declared.Configuration.{Configuration}
@@ -89,7 +89,7 @@ module _ (c : Configuration) (u : ℕ) where
 
   pub by-port-line : (n q : ℕ) → q < 16 → connectionAt c n u q ≡ lineBy (byPort c u n) q
   unfolding connectionAt byPort noted
-  by-port-line zero q h = rw (member-none q)
+  by-port-line zero q h = rw (member-past 0 q 0 (omega arith) (omega arith))
   by-port-line (suc n) q h =
       let k = connection c n in
       let old = byPort c u n in
