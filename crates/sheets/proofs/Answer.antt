@@ -19,7 +19,6 @@ use Rattle.lines.specs.declared.Went.{Went}
 use Rattle.lines.specs.declared.Went.the-variants.{On, Stop}
 use Rattle.lines.specs.Runs.{refusalOf, RunsTo}
 use Rattle.lines.proofs.Runs.{place-is}
-use Rattle.sheets.specs.declared.Sheet.{Sheet}
 use Rattle.sheets.specs.Sheet.{refusedSheet, answered, sheetRead, NoOtherSheet}
 
 pub too-long : (s : List ℕ) → 32768 < length s → refusedSheet 1 0 ≡ sheetRead s

@@ -10,8 +10,6 @@ use Rattle.forms.specs.Reader as reader
 use Rattle.model.specs.declared.ComponentType.{ComponentType}
 use Rattle.model.specs.declared.Transitions.{Transitions}
 use Rattle.model.specs.declared.Ports.{Ports}
-use Rattle.model.specs.declared.Tables.{Tables}
-use Rattle.model.specs.declared.Program.{Program}
 use Rattle.reading.specs.Limits.{depthOk, typesOk, programOk}
 use Rattle.reading.specs.Lines.{Run, Lines, next, give, lineOf, line, each, atEnd}
 use Rattle.reading.specs.Kinds.{dueLine, countLine, tranLine, behaviorLine, portLine}
@@ -22,9 +20,9 @@ use Rattle.lines.proofs.Runs.{next-same, next-next, each-seen}
 use Rattle.sheet_lines.specs.declared.Row.{Row}
 use Rattle.sheet_lines.specs.declared.Rows.{Rows}
 use Rattle.sheet_lines.specs.declared.Rows.the-variants as rows
-use Rattle.sheet_lines.specs.Rows.{transitionRow, behaviorRow, portRow, rowLine}
+use Rattle.sheet_lines.specs.Rows.{rowLine}
 use Rattle.sheets.specs.declared.Filled.{Filled}
-use Rattle.sheets.specs.Filled.{transitionsOf, portsOf, tablesOf, fill, slots, perType, rowsKey, rowsLimit, putRow, row, rowsOf}
+use Rattle.sheets.specs.Filled.{transitionsOf, portsOf, tablesOf, fill, slots, perType, rowsKey, rowsLimit, row, rowsOf}
 use Rattle.sheets.specs.Onward.{fromPorts, fromBehaviors, fromRows, tablesRun, programRun}
 
 -- the slots of a type lie within those of all types

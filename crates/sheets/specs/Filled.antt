@@ -12,12 +12,14 @@ use Rattle.reading.specs.Lines.{Lines, _>>=_, give, line, each}
 use Rattle.reading.specs.Kinds.{countLine}
 use Rattle.lines.specs.declared.Limit.{Limit}
 use Rattle.lines.specs.declared.Limit.the-variants as limit
+use Rattle.lines.specs.declared.Went.the-variants.{Stop}
 use Rattle.lines.specs.Counts.{limitOk}
 use Rattle.sheet_lines.specs.declared.Row.{Row}
 use Rattle.sheet_lines.specs.declared.Rows.{Rows}
 use Rattle.sheet_lines.specs.declared.Rows.the-variants as rows
 use Rattle.sheet_lines.specs.Rows.{rowLine}
 use Rattle.sheets.specs.declared.Filled.{Filled}
+use Rattle.sheets.specs.declared.CountedRead.{CountedRead}
 
 abbrev pub transitionsOf : Filled → Transitions
 transitionsOf f = record { source = f .source; destination = f .destination }
@@ -54,6 +56,10 @@ nothingFilled = record {
   places = replicate 256 0;
   transitions = replicate 256 0;
 }
+
+-- beside a refusal the count is 0
+abbrev pub stoppedAt : ℕ → ℕ → Filled → CountedRead
+stoppedAt k at f = record { went = Stop k; at = at; count = 0; filled = f }
 
 -- how many slots all types have, and each type
 abbrev pub slots : Rows → ℕ

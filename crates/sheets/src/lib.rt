@@ -22,7 +22,7 @@ ghost use Rattle.reading.specs.Fill.{programOf};
 ghost use Rattle.reading.specs.Texts.{type, instruct};
 ghost use Rattle.lines.specs.Counts.{lineSays, limitOk, Counts};
 ghost use Rattle.lines.specs.Runs.{RunsTo};
-ghost use Rattle.sheets.specs.Filled.{tablesOf, nothingFilled, slots, perType, rowsKey, rowsLimit, row, rowsOf};
+ghost use Rattle.sheets.specs.Filled.{tablesOf, nothingFilled, stoppedAt, slots, perType, rowsKey, rowsLimit, row, rowsOf};
 ghost use Rattle.sheets.specs.Onward.{fromRows, tablesRun, programRun};
 ghost use Rattle.sheets.specs.Sheet.{refusedSheet, sheetRead};
 
@@ -188,6 +188,18 @@ fn per_type(rows: Rows) -> usize
     }
 }
 
+fn stopped(refused: u8, at: usize, filled: Filled) -> CountedRead
+    ensures { λ r. ⌜ r ≡ stoppedAt refused at filled ⌝ }
+{
+    let went = Went::Stop(refused);
+    CountedRead {
+        went,
+        at,
+        count: 0,
+        filled,
+    }
+}
+
 // The rows of one kind of a type: how many, and as many.
 fn read_kind(
     text: &[u8],
@@ -203,14 +215,8 @@ fn read_kind(
     let line = rows_at(text, start, rows);
     let Line::Got(n, next) = line else {
         let k = lines::line_refusal(line);
-        let went = Went::Stop(k);
         let at = texts::place_in(text, start);
-        return CountedRead {
-            went,
-            at,
-            count: 0,
-            filled,
-        };
+        return stopped(k, at, filled);
     };
     let count = n as u8;
     let first = model::wide(kind) * per_type(rows);
@@ -336,36 +342,18 @@ fn read_tables(text: &[u8]) -> CountedRead
 {
     let mut empty = nothing_filled();
     let Due::Past(at) = lines::due_at(text, 0, b"sheet=", 1) else {
-        let went = Went::Stop(2);
-        return CountedRead {
-            went,
-            at: 0,
-            count: 0,
-            filled: empty,
-        };
+        return stopped(2, 0, empty);
     };
     let line = lines::count_at(text, at, b"depth=", Limit::Depth);
     let Line::Got(depth, next) = line else {
         let k = lines::line_refusal(line);
-        let went = Went::Stop(k);
-        return CountedRead {
-            went,
-            at,
-            count: 0,
-            filled: empty,
-        };
+        return stopped(k, at, empty);
     };
     let at = next;
     let line = lines::count_at(text, at, b"types=", Limit::Types);
     let Line::Got(n, next) = line else {
         let k = lines::line_refusal(line);
-        let went = Went::Stop(k);
-        return CountedRead {
-            went,
-            at,
-            count: 0,
-            filled: empty,
-        };
+        return stopped(k, at, empty);
     };
     let count = n as u8;
     empty.depth = depth as u8;

@@ -12,8 +12,9 @@ use Rattle.sheets.proofs.read_kind.Tie as tie
 returns : tie.Need-returns
 unfolding rowsOf
 returns c =
-    let line = c .before .before in
-    head-refused lineSays _ _ _ _ _ _ (c .place-in .ensures) (line .before .before .rows-at .ensures .reads) (line .enum-told .given .1) refl (c .before .line-refusal .ensures)
+    let line = c .before .before .before in
+    rw (c .stopped .ensures)
+    (head-refused lineSays _ _ _ _ _ _ (c .before .place-in .ensures) (line .before .before .rows-at .ensures .reads) (line .enum-told .given .1) refl (c .before .before .line-refusal .ensures))
 
 cast-count : tie.Need-cast-count
 cast-count c =
@@ -48,5 +49,5 @@ pub read-kind-spec : {M : Type 1} → statement M
 read-kind-spec =
     tie.close
     (tie.spec
-    (λ c κs. search needs) (λ c. search needs) (λ c. search needs) (λ c κs. search needs) (λ c κs. search needs) returns cast-count
-    (λ c κs. search needs) (λ c κs. search needs) mul-first (λ c κs. search needs) read-rows-requires returns-2)
+    (λ c κs. search needs) (λ c. search needs) (λ c. search needs) (λ c κs. search needs) (λ c κs. search needs) (λ c κs. search needs)
+    returns cast-count (λ c κs. search needs) (λ c κs. search needs) mul-first (λ c κs. search needs) read-rows-requires returns-2)

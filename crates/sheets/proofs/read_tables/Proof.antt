@@ -15,31 +15,33 @@ use Rattle.sheets.proofs.read_tables.Tie as tie
 
 returns : tie.Need-returns
 unfolding tablesRun
-returns c = line-refused _ _ _ zero-le refl (told dueSays _ (c .before .before .due-at .ensures) (c .enum-told .given .1))
+returns c = rw (c .stopped .ensures) (line-refused _ _ _ zero-le refl (told dueSays _ (c .before .before .before .due-at .ensures) (c .before .enum-told .given .1)))
 
 returns-2 : tie.Need-returns-2
 unfolding tablesRun
 returns-2 c =
-    let depth = c .before .before .before in
+    let depth = c .before .before .before .before in
     let at = depth .before .before .before in
     let due = at .before .before in
     let s = told dueSays _ (due .due-at .ensures) (at .at .given .1) in
-    line-then _ _ _ s
-    (head-refused lineSays _ _ _ _ _ _ (place-within (due .before .before .before .before .args .text .now) _ (s .within)) (depth .count-at .ensures .reads) (c .before .enum-told2 .given .1) refl (c .line-refusal .ensures))
+    rw (c .stopped2 .ensures)
+    (line-then _ _ _ s
+    (head-refused lineSays _ _ _ _ _ _ (place-within (due .before .before .before .before .args .text .now) _ (s .within)) (depth .count-at .ensures .reads) (c .before .before .enum-told2 .given .1) refl (c .before .line-refusal .ensures)))
 
 returns-3 : tie.Need-returns-3
 unfolding tablesRun
 returns-3 c =
-    let types = c .before .before .before in
+    let types = c .before .before .before .before in
     let line = types .before .before .before in
     let depth = line .before .before in
     let at = depth .before .before .before in
     let due = at .before .before in
     let s = told dueSays _ (due .due-at .ensures) (at .at .given .1) in
     let d = told lineSays _ (depth .count-at .ensures .reads) (line .line .given .1) in
-    line-then _ _ _ s
+    rw (c .stopped3 .ensures)
+    (line-then _ _ _ s
     (line-then _ _ _ d
-    (head-refused lineSays _ _ _ _ _ _ (place-within (due .before .before .before .before .args .text .now) _ (d .within)) (types .count-at2 .ensures .reads) (c .before .enum-told3 .given .1) refl (c .line-refusal2 .ensures)))
+    (head-refused lineSays _ _ _ _ _ _ (place-within (due .before .before .before .before .args .text .now) _ (d .within)) (types .count-at2 .ensures .reads) (c .before .before .enum-told3 .given .1) refl (c .before .line-refusal2 .ensures))))
 
 returns-4 : tie.Need-returns-4
 unfolding tablesRun headed noTables
@@ -61,9 +63,9 @@ pub read-tables-spec : {M : Type 1} → statement M
 read-tables-spec =
     tie.close
     (tie.spec
-    (λ c κs. search needs) (λ c. search needs) (λ c κs. search needs) (λ c. search needs) (λ c. search needs) returns (λ c. search needs)
-    (λ c κs. search needs) (λ c. search needs) (λ c. search needs) (λ c κs. search needs) returns-2 (λ c. search needs)
-    (λ c κs. search needs) (λ c. search needs) (λ c. search needs) (λ c κs. search needs) returns-3
+    (λ c κs. search needs) (λ c. search needs) (λ c κs. search needs) (λ c. search needs) (λ c. search needs) (λ c κs. search needs) returns
+    (λ c. search needs) (λ c κs. search needs) (λ c. search needs) (λ c. search needs) (λ c κs. search needs) (λ c κs. search needs) returns-2
+    (λ c. search needs) (λ c κs. search needs) (λ c. search needs) (λ c. search needs) (λ c κs. search needs) (λ c κs. search needs) returns-3
     (λ c. omega (arith, rw (c .before .line2 .given .1) at (c .before .before .before .count-at2 .ensures .limited)))
     (λ c. omega (arith, rw (c .before .before .before .before .before .before .line .given .1) at (c .before .before .before .before .before .before .before .before .count-at .ensures .limited)))
     (λ c κs. rw (c .before .line2 .given .1) at (c .before .before .before .count-at2 .ensures .limited) .1) returns-4)
