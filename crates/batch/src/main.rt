@@ -157,7 +157,7 @@ fn write_text(out: &mut [u8], at: usize, text: Text) -> usize {
     match text {
         Text::Sheet => inks::write_key(out, at, b" sheet "),
         Text::Answer => inks::write_key(out, at, b" answer "),
-        Text::Neither => inks::write_key(out, at, b" - "),
+        _ => inks::write_key(out, at, b" - "),
     }
 }
 

@@ -12,6 +12,7 @@ which-short : (x : Text) → length (whichText x) ≤ 6
 which-short text.Neither = omega arith
 which-short text.Sheet = omega arith
 which-short text.Answer = omega arith
+which-short text.Times = omega arith
 
 pub places-fit : PlacesFit
 unfolding PlacesFit placeText

@@ -12,6 +12,7 @@ abbrev pub whichText : Text → List ℕ
 whichText text.Neither = bytes "-"
 whichText text.Sheet = bytes "sheet"
 whichText text.Answer = bytes "answer"
+whichText text.Times = bytes "times"
 
 unfoldable pub placeText : Place → List ℕ
 placeText p = bytes "place=" ++ whichText (p .text) ++ bytes "," ++ numberText (p .start) ++ bytes "," ++ numberText (p .size) ++ bytes "\n"

@@ -97,6 +97,7 @@ fn write_which(t: &mut [u8], at: usize, text: Text) -> usize
     match text {
         Text::Sheet => inks::write_key(t, at, b"sheet"),
         Text::Answer => inks::write_key(t, at, b"answer"),
+        Text::Times => inks::write_key(t, at, b"times"),
         Text::Neither => inks::write_key(t, at, b"-"),
     }
 }
