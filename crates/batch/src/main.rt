@@ -2,6 +2,7 @@
 // `REFUSED ACCEPTED NEXT TEXT LINE WHICH START LEN REPORTLEN` and the report. Promised by `judging`: what each line says, and the report's bytes.
 use judged::Place;
 use judged::Verdict;
+use judging::Judged;
 use libc::STDIN_FILENO;
 use libc::STDOUT_FILENO;
 use model::Text;
@@ -186,10 +187,10 @@ fn write_place(out: &mut [u8], at: usize, place: Place, written: usize) -> usize
     inks::write_byte(out, d, b'\n')
 }
 
-fn judge(sheet: &[u8], answer: &[u8], report: &mut [u8]) -> Verdict
-    ensures { λ r. ⌜ Counts (r .written) (now (report .exit)) ⌝ }
+fn judge(sheet: &[u8], answer: &[u8], report: &mut [u8]) -> Judged
+    ensures { λ r. ⌜ Counts (r .verdict .written) (now (report .exit)) ⌝ }
 {
-    judging::judge(sheet, answer, report)
+    judging::judge_and_place(sheet, answer, report)
 }
 
 // The line and the report of one pair, with as much room as `report` has.
@@ -200,9 +201,10 @@ fn judge_pair(
     out: &mut [u8],
     used: usize,
 ) -> usize {
-    let verdict = judge(sheet, answer, report);
+    let judged = judge(sheet, answer, report);
+    let verdict = judged.verdict;
+    let place = judged.place;
     let written = verdict.written;
-    let place = judging::place(sheet, answer, report.len());
     let a = write_verdict(out, used, verdict);
     let b = write_place(out, a, place, written);
     inks::write_key(out, b, &report[..written])

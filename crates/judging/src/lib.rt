@@ -148,32 +148,6 @@ pub fn walk_verdict(w: Walked, written: usize) -> Verdict
     }
 }
 
-// The report, or 6 where it has no room: its length is known before its first byte is written.
-fn after_walk(w: Walked, lent: &mut [u8]) -> Verdict
-    ensures verdict { λ r. ⌜ ((a : List ℕ) → r ≡ inRoom (length (now (lent .entry))) w (report w) a .verdict) ⌝ }
-    ensures buffer { λ r. ⌜ ((a : List ℕ) → now (lent .exit) ≡ over (inRoom (length (now (lent .entry))) w (report w) a .bytes) (now (lent .entry))) ⌝ }
-{
-    if lent.len() < writers::report_length(w) {
-        return no_room();
-    }
-    let written = writers::write_report(lent, w);
-    walk_verdict(w, written)
-}
-
-// The verdict, and the report in the lent buffer.
-pub fn judge(sheet: &[u8], answer: &[u8], report: &mut [u8]) -> Verdict
-    ensures verdict { λ r. ⌜ r ≡ judged (now (sheet .entry)) (now (answer .entry)) (length (now (report .entry))) .verdict ⌝ }
-    ensures buffer { λ r. ⌜ now (report .exit) ≡ buffer (now (sheet .entry)) (now (answer .entry)) (now (report .entry)) ⌝ }
-{
-    let pair = read_both(sheet, answer);
-    let outcome = pair.outcome;
-    match outcome {
-        Outcome::InSheet(n, at) => after_fault(Text::Sheet, sheet, n, at),
-        Outcome::InAnswer(n, at) => after_fault(Text::Answer, answer, n, at),
-        Outcome::Reached => after_walk(walk_pair(pair), report),
-    }
-}
-
 fn empty_at(x: Text, at: usize) -> Place
     ensures { λ r. ⌜ r ≡ emptyAt x at ⌝ }
 {
@@ -235,6 +209,61 @@ pub fn place_in_room(w: Walked, size: usize, answer: &[u8], room: usize) -> Plac
         return empty_at(Text::Answer, 0);
     }
     step_place(w, answer)
+}
+
+// A verdict, and the place of the line at fault.
+pub struct Judged {
+    pub verdict: Verdict,
+    pub place: Place,
+}
+
+fn judge_fault(x: Text, s: &[u8], n: u8, at: usize) -> Judged
+    ensures verdict { λ r. ⌜ r .verdict ≡ afterFault x n at (now (s .entry)) .verdict ⌝ }
+    ensures place { λ r. ⌜ r .place ≡ faultPlace x n at (now (s .entry)) ⌝ }
+{
+    let verdict = after_fault(x, s, n, at);
+    let place = fault_place(x, s, n, at);
+    Judged { verdict, place }
+}
+
+// The report, or 6 where it has no room: its length is known before its first byte is written.
+fn judge_walk(w: Walked, answer: &[u8], lent: &mut [u8]) -> Judged
+    ensures verdict { λ r. ⌜ r .verdict ≡ inRoom (length (now (lent .entry))) w (report w) (now (answer .entry)) .verdict ⌝ }
+    ensures place { λ r. ⌜ r .place ≡ inRoom (length (now (lent .entry))) w (report w) (now (answer .entry)) .place ⌝ }
+    ensures buffer { λ r. ⌜ now (lent .exit) ≡ over (inRoom (length (now (lent .entry))) w (report w) (now (answer .entry)) .bytes) (now (lent .entry)) ⌝ }
+{
+    let size = writers::report_length(w);
+    let place = place_in_room(w, size, answer, lent.len());
+    if lent.len() < size {
+        let verdict = no_room();
+        return Judged { verdict, place };
+    }
+    let written = writers::write_report(lent, w);
+    let verdict = walk_verdict(w, written);
+    Judged { verdict, place }
+}
+
+// The verdict, the report in the lent buffer, and the place of the line at fault.
+pub fn judge_and_place(sheet: &[u8], answer: &[u8], report: &mut [u8]) -> Judged
+    ensures verdict { λ r. ⌜ r .verdict ≡ judged (now (sheet .entry)) (now (answer .entry)) (length (now (report .entry))) .verdict ⌝ }
+    ensures place { λ r. ⌜ r .place ≡ judged (now (sheet .entry)) (now (answer .entry)) (length (now (report .entry))) .place ⌝ }
+    ensures buffer { λ r. ⌜ now (report .exit) ≡ buffer (now (sheet .entry)) (now (answer .entry)) (now (report .entry)) ⌝ }
+{
+    let pair = read_both(sheet, answer);
+    let outcome = pair.outcome;
+    match outcome {
+        Outcome::InSheet(n, at) => judge_fault(Text::Sheet, sheet, n, at),
+        Outcome::InAnswer(n, at) => judge_fault(Text::Answer, answer, n, at),
+        Outcome::Reached => judge_walk(walk_pair(pair), answer, report),
+    }
+}
+
+// The verdict, and the report in the lent buffer.
+pub fn judge(sheet: &[u8], answer: &[u8], report: &mut [u8]) -> Verdict
+    ensures verdict { λ r. ⌜ r ≡ judged (now (sheet .entry)) (now (answer .entry)) (length (now (report .entry))) .verdict ⌝ }
+    ensures buffer { λ r. ⌜ now (report .exit) ≡ buffer (now (sheet .entry)) (now (answer .entry)) (now (report .entry)) ⌝ }
+{
+    judge_and_place(sheet, answer, report).verdict
 }
 
 // Which text held the line at fault, where the line starts, and how many bytes it has.

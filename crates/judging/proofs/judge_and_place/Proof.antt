@@ -1,0 +1,40 @@
+use mathlib.Core.Path.{ap, _∙_}
+use Rattle.model.specs.declared.Text.the-variants as text
+use Rattle.judged.specs.Course.{reached}
+use Rattle.judging.proofs.Order.{both-fault, both-walked}
+use Rattle.judging.proofs.Judgement.{fault-judges, walk-judges, fault-places, walk-places}
+use borrow.Author.Needs.{needs}
+use Rattle.judging.proofs.judge_and_place.Statement.{statement}
+use Rattle.judging.proofs.judge_and_place.Tie as tie
+
+returns : tie.Need-returns
+returns c =
+    let d = c .before .before in
+    let e = both-fault _ _ _ _ _ (rw (d .outcome .given .1) at (d .before .before .read-both .ensures .same)) in
+    let j = fault-judges _ _ _ text.Sheet _ _ e (c .judge-fault .ensures .0) in
+    (j .0, (fault-places _ _ _ text.Sheet _ _ e (c .judge-fault .ensures .1), j .1))
+
+returns-2 : tie.Need-returns-2
+returns-2 c =
+    let d = c .before .before in
+    let e = both-fault _ _ _ _ _ (rw (d .outcome2 .given .1) at (d .before .before .read-both .ensures .same)) in
+    let j = fault-judges _ _ _ text.Answer _ _ e (c .judge-fault2 .ensures .0) in
+    (j .0, (fault-places _ _ _ text.Answer _ _ e (c .judge-fault2 .ensures .1), j .1))
+
+returns-3 : tie.Need-returns-3
+returns-3 c =
+    let d = c .before .before in
+    let p = d .before .before in
+    let e = p .before in
+    let x = e .before .before .before .before .before .before .args in
+    let q = ap reached (p .walk-pair .ensures) ∙ both-walked _ _ _ _ _ (rw (e .enum-told .given .1) at (e .before .before .read-both .ensures .same)) in
+    let h = d .judge-walk .ensures in
+    let j = walk-judges _ _ (x .report .now) _ q (h .0) (h .1 .1) in
+    (j .0, (walk-places _ _ _ _ q (h .1 .0), j .1))
+
+pub judge-and-place-spec : {M : Type 1} → statement M
+judge-and-place-spec =
+    tie.close
+    (tie.spec
+    (λ c κs. search needs) (λ c. search needs) (λ c κs. search needs) (λ c. search needs) (λ c κs. search needs) (λ c. search needs)
+    (λ c κs. search needs) (λ c κs. search needs) returns returns-2 (λ c. search needs) returns-3)
