@@ -1,38 +1,7 @@
 """The pairs of texts that the program `cases` runs. What a pair must come to is said beside it: the steps accepted and the number,
 or the text, the line and the number of a fault."""
-import os
-
-
-def flat(items):
-    for x in items:
-        if isinstance(x, str):
-            yield x
-        else:
-            yield from flat(x)
-
-
-def sheet(types, program, depth=0):
-    out = ["sheet=1", f"depth={depth}", f"types={len(types)}"]
-    for i, (places, initial, trans, behaviors, ports) in enumerate(types):
-        out += [f"type={i}", f"places={places}", f"initial={initial}", f"transitions={len(trans)}"]
-        out += [f"tran={x}" for x in trans] + [f"behaviors={len(behaviors)}"] + [f"behavior={x}" for x in behaviors]
-        out += [f"ports={len(ports)}"] + [f"port={x}" for x in ports]
-    return "".join(x + "\n" for x in out + [f"program={len(program)}"] + [f"do={x}" for x in program])
-
-
-def answer(*steps):
-    steps = list(flat(steps))
-    return "".join(x + "\n" for x in ["answer=1", f"steps={len(steps)}"] + [f"step={x}" for x in steps])
-
-
-def nexts(n):
-    return ["next"] * n
-
-
-def move(i, x, source, destination):
-    """Instance i goes over transition x."""
-    return [f"fire,{i},{source}", f"end,{i},{x}", f"enter,{i},{destination}"]
-
+from notation import answer, example, flat, move, nexts, sheet
+from papers import papers
 
 provider = (2, "0", ["0,1", "1,0"], ["0", "1"], ["provide,1,-"])
 user = (2, "0", ["0,1", "1,0"], ["0", "1"], ["use,1,0"])
@@ -157,17 +126,13 @@ turns = [nexts(32 + 64)] + [nexts(32) + [y for i in range(32) for x, a, b in way
 case("all_busy", sheet([busy], adds + queues, 8), [list(flat(turns))[:1024]], 1024, 0)
 
 # ---- the example of the README
-folder = os.path.join(os.path.dirname(os.path.abspath(__file__)), "..", "..", "examples", "maintenance")
-
-
-def example(name):
-    with open(os.path.join(folder, name + ".txt"), encoding="ascii") as file:
-        return file.read()
-
-
 case("maintenance", example("sheet"), example("answer"), 50, 0)
 case("maintenance_started_before_its_server", example("sheet"), example("started-before-its-server"), 19, 34)
 case("maintenance_stopped_under_its_client", example("sheet"), example("stopped-under-its-client"), 29, 36)
+
+# ---- the worked examples of the source papers
+for row in papers:
+    case(*row)
 
 # ---- the two texts as wholes
 good = answer(A)
