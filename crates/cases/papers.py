@@ -92,7 +92,7 @@ dependency = (3, "0", ["0,1", "1,2", "2,1"], ["0+1", "2"], ["provide,1+2,1+2", "
 stations = ["0,1", "1,2", "1,3", "2,4", "3,4", "4,5", "5,6", "5,7", "6,4", "7,4"]
 configs = ["use,2+4+5+6+7,3+5+6+7+8+9", "use,3+4+5+6+7,4+5+6+7+8+9"]
 server_2 = (8, "0", stations, ["0+1+2+3+4+5", "6+7+8+9"], configs + ["use,5+6,6", "use,5+7,7"])
-# Listings 8 and 10 for two dependencies, then Listing 4: the server is 0, dep1 is 1, dep2 is 2
+# Listings 8 and 10 for two dependencies, with the server's push once and after the loop, then Listing 4: the server is 0, dep1 is 1, dep2 is 2
 listing_8 = ["add,1,0", "pushb,1,0", "add,2,0", "pushb,2,0"]
 listing_10 = ["add,0,1", "con,0,0,1,0", "con,0,2,1,1", "con,0,1,2,0", "con,0,3,2,1", "pushb,0,0"]
 listing_4 = ["pushb,1,1", "pushb,0,1", "pushb,0,0", "pushb,1,0", "wait,0"]
