@@ -1,5 +1,5 @@
 // Runs each pair of texts that an argument names, NAME.sheet and NAME.answer beside it: its name, what `judge` prints, and the place of the line at fault.
-// Promised by `judging`: every byte between the name and the place, and the place. A pair is a line of pairs.py, and make.py writes the rest.
+// Promised by `judging`: every byte between the name and the place, and the place. A pair is a line of pairs.py or papers.py, and make.py writes the rest.
 use judged::Place;
 use libc::STDOUT_FILENO;
 ghost use Rattle.io.specs.Counts.{Counts};
