@@ -225,12 +225,24 @@ pub fn write_report(t: &mut [u8], w: Walked) -> usize
     used + write_connections(&mut t[used..], c)
 }
 
-// How many bytes it has. None is cut: a number has seven digits at most, a set 32 members, a queue 255 behaviors.
-pub fn report_length(w: Walked) -> usize
+// None is cut here: a number has seven digits at most, a set 32 members, a queue 255 behaviors.
+fn long_length(w: Walked) -> usize
     ensures { λ r. ⌜ r ≡ length (report w) ⌝ }
 {
     let mut scratch = [0u8; 131072];
     write_report(&mut scratch, w)
+}
+
+// How many bytes it has. A report that a judge can reach has room in the short array; zeroing the long one would cost more than a small pair.
+pub fn report_length(w: Walked) -> usize
+    ensures { λ r. ⌜ r ≡ length (report w) ⌝ }
+{
+    let mut scratch = [0u8; 8192];
+    let used = write_report(&mut scratch, w);
+    if used < 8192 {
+        return used;
+    }
+    long_length(w)
 }
 
 // text=, nothing where neither text is at fault

@@ -1,18 +1,10 @@
 use borrow.Author.Needs.{needs}
-use Prim.Native.Nat.{_≤_}
 use native.Mathlib.Omega.{arith}
-use lib.ListN.{length}
-use Rattle.report.specs.Report.{report}
-use Rattle.inks.proofs.Laws.{fits}
-use Rattle.writers.proofs.Bounds.{queue-short, report-short}
 use Rattle.writers.proofs.report_length.Statement.{statement}
 use Rattle.writers.proofs.report_length.Tie as tie
 
-short : (s : tie.Start) → length (report (s .args .w)) ≤ 131072
-short s = let w = s .args .w in report-short w (queue-short (w .configuration .instances) _ (s .good .0 .1 .1 .1 .1 .0 .1 .1 .0 .1 .1))
-
 returns : tie.Need-returns
-returns c = omega (arith, short (c .before .before .before), c .before .write-report .ensures .to-is)
+returns c = omega (arith, c .if1 .taken, c .before .before .write-report .ensures .to-is)
 
 pub report-length-spec : {M : Type 1} → statement M
-report-length-spec = tie.close (tie.spec (λ c. search needs) (λ c κs. search needs) returns)
+report-length-spec = tie.close (tie.spec (λ c. search needs) (λ c κs. search needs) returns (λ c κs. search needs) (λ c. search needs))
