@@ -4,12 +4,12 @@ use borrow.Author.Needs.{needs}
 use Rattle.lawfulness.proofs.instruction_lawful.Statement.{statement}
 use Rattle.lawfulness.proofs.instruction_lawful.Tie as tie
 
-verb-lawful-requires : tie.Need-verb-lawful-requires
-verb-lawful-requires c κs = search needs
-
 returns : tie.Need-returns
 unfolding instructionLawful verbLawful
 returns c = rw (c .verb-lawful .ensures)
 
 pub instruction-lawful-spec : {M : Type 1} → statement M
-instruction-lawful-spec = tie.close (tie.spec verb-lawful-requires returns)
+instruction-lawful-spec =
+    tie.close
+    (tie.spec
+    (λ c κs. search needs) returns)

@@ -21,26 +21,11 @@ returns c = rw (lt-leb _ _ (c .if1 .taken))
 loop-holds : tie.Need-loop-holds Inv-loop μ-loop
 loop-holds c = none-yet _ _
 
-mul-instruction-lawful : tie.Need-mul-instruction-lawful Inv-loop μ-loop
-mul-instruction-lawful c = search needs
-
-element-copy-out-instruction-lawful : tie.Need-element-copy-out-instruction-lawful Inv-loop μ-loop
-element-copy-out-instruction-lawful c = search needs
-
-instruction-lawful-requires : tie.Need-instruction-lawful-requires Inv-loop μ-loop
-instruction-lawful-requires c κs = search needs
-
 returns-2 : tie.Need-returns-2 Inv-loop μ-loop
 unfolding programLawful
 returns-2 c =
     rw (le-leb _ _ (c .before .before .before .before .before .if1 .left))
     (one-fails _ _ (c .before .before .before .before .loop .j) _ (c .before .before .before .loop-test .taken) (c .before .instruction-lawful .ensures) (c .if2 .taken))
-
-add-j : tie.Need-add-j Inv-loop μ-loop
-add-j c = search needs
-
-loop-less : tie.Need-loop-less Inv-loop μ-loop
-loop-less c = search needs
 
 loop-again : tie.Need-loop-again Inv-loop μ-loop
 loop-again c = one-more _ _ (c .before .before .before .before .loop .j) _ (c .before .before .before .loop-test .taken) (c .before .instruction-lawful .ensures) (c .before .before .before .before .loop .inv) (c .if2 .left)
@@ -55,15 +40,5 @@ pub program-lawful-spec : {M : Type 1} → statement M
 program-lawful-spec =
     tie.close
     (tie.spec
-    Inv-loop
-    μ-loop
-    returns
-    loop-holds
-    mul-instruction-lawful
-    element-copy-out-instruction-lawful
-    instruction-lawful-requires
-    returns-2
-    add-j
-    loop-less
-    loop-again
-    returns-3)
+    Inv-loop μ-loop returns loop-holds (λ c. search needs) (λ c. search needs)
+    (λ c κs. search needs) returns-2 (λ c. search needs) (λ c. search needs) loop-again returns-3)

@@ -3,12 +3,12 @@ use borrow.Author.Needs.{needs}
 use Rattle.lawfulness.proofs.tables_lawful.Statement.{statement}
 use Rattle.lawfulness.proofs.tables_lawful.Tie as tie
 
-types-lawful-requires : tie.Need-types-lawful-requires
-types-lawful-requires c κs = search needs
-
 returns : tie.Need-returns
 unfolding tablesLawful
 returns c = rw (c .types-lawful .ensures)
 
 pub tables-lawful-spec : {M : Type 1} → statement M
-tables-lawful-spec = tie.close (tie.spec types-lawful-requires returns)
+tables-lawful-spec =
+    tie.close
+    (tie.spec
+    (λ c κs. search needs) returns)

@@ -11,15 +11,6 @@ use borrow.Author.Needs.{needs}
 use Rattle.timings.proofs.path_of.Statement.{statement}
 use Rattle.timings.proofs.path_of.Tie as tie
 
-write-key-requires : tie.Need-write-key-requires
-write-key-requires c κs = search needs
-
-write-key-requires-2 : tie.Need-write-key-requires-2
-write-key-requires-2 c κs = search needs
-
-same-length : tie.Need-same-length
-same-length c = search needs
-
 -- what is written from the start lies within the path
 counts : {old bytes new : List ℕ} {n : ℕ} → Written old bytes new 0 n → Counts n new
 counts {new = new} {n} w = let h : n ≤ length new = rw (length-written w) (within w (omega arith)) in (h, sym (length-take-le n new h))
@@ -30,4 +21,7 @@ returns c =
     counts (then (d .before .before .before .before .write-key .ensures) (d .write-key2 .ensures))
 
 pub path-of-spec : {M : Type 1} → statement M
-path-of-spec = tie.close (tie.spec write-key-requires write-key-requires-2 same-length returns)
+path-of-spec =
+    tie.close
+    (tie.spec
+    (λ c κs. search needs) (λ c κs. search needs) (λ c. search needs) returns)

@@ -3,18 +3,6 @@ use borrow.Author.Needs.{needs}
 use Rattle.lawfulness.proofs.configurations.connection_lawful.Statement.{statement}
 use Rattle.lawfulness.proofs.configurations.connection_lawful.Tie as tie
 
-wide-requires : tie.Need-wide-requires
-wide-requires c κs = search needs
-
-connection-of-requires : tie.Need-connection-of-requires
-connection-of-requires c κs = search needs
-
-ends-lawful-requires : tie.Need-ends-lawful-requires
-ends-lawful-requires c κs = search needs
-
-is-connected-before-requires : tie.Need-is-connected-before-requires
-is-connected-before-requires c κs = search needs
-
 returns : tie.Need-returns
 unfolding connectionLawful
 returns c =
@@ -26,8 +14,4 @@ pub connection-lawful-spec : {M : Type 1} → statement M
 connection-lawful-spec =
     tie.close
     (tie.spec
-    wide-requires
-    connection-of-requires
-    ends-lawful-requires
-    is-connected-before-requires
-    returns)
+    (λ c κs. search needs) (λ c κs. search needs) (λ c κs. search needs) (λ c κs. search needs) returns)

@@ -19,20 +19,11 @@ returns c = rw (lt-leb _ _ (c .if1 .taken))
 loop-holds : tie.Need-loop-holds Inv-loop μ-loop
 loop-holds c = none-yet _ _
 
-connection-lawful-requires : tie.Need-connection-lawful-requires Inv-loop μ-loop
-connection-lawful-requires c κs = search needs
-
 returns-2 : tie.Need-returns-2 Inv-loop μ-loop
 unfolding connectionsLawful
 returns-2 c =
     rw (le-leb _ _ (c .before .before .before .before .if1 .left))
     (one-fails _ _ (c .before .before .before .loop .l) _ (c .before .before .loop-test .taken) (c .before .connection-lawful .ensures) (c .if2 .taken))
-
-add-l : tie.Need-add-l Inv-loop μ-loop
-add-l c = search needs
-
-loop-less : tie.Need-loop-less Inv-loop μ-loop
-loop-less c = search needs
 
 loop-again : tie.Need-loop-again Inv-loop μ-loop
 loop-again c = one-more _ _ (c .before .before .before .loop .l) _ (c .before .before .loop-test .taken) (c .before .connection-lawful .ensures) (c .before .before .before .loop .inv) (c .if2 .left)
@@ -47,13 +38,5 @@ pub connections-lawful-spec : {M : Type 1} → statement M
 connections-lawful-spec =
     tie.close
     (tie.spec
-    Inv-loop
-    μ-loop
-    returns
-    loop-holds
-    connection-lawful-requires
-    returns-2
-    add-l
-    loop-less
-    loop-again
-    returns-3)
+    Inv-loop μ-loop returns loop-holds (λ c κs. search needs) returns-2
+    (λ c. search needs) (λ c. search needs) loop-again returns-3)

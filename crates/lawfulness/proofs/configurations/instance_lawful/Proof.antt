@@ -3,15 +3,6 @@ use borrow.Author.Needs.{needs}
 use Rattle.lawfulness.proofs.configurations.instance_lawful.Statement.{statement}
 use Rattle.lawfulness.proofs.configurations.instance_lawful.Tie as tie
 
-wide-requires : tie.Need-wide-requires
-wide-requires c κs = search needs
-
-instance-of-requires : tie.Need-instance-of-requires
-instance-of-requires c κs = search needs
-
-numbers-lawful-requires : tie.Need-numbers-lawful-requires
-numbers-lawful-requires c κs = search needs
-
 returns : tie.Need-returns
 unfolding instanceLawful
 returns c =
@@ -21,4 +12,6 @@ returns c =
 
 pub instance-lawful-spec : {M : Type 1} → statement M
 instance-lawful-spec =
-    tie.close (tie.spec wide-requires instance-of-requires numbers-lawful-requires returns)
+    tie.close
+    (tie.spec
+    (λ c κs. search needs) (λ c κs. search needs) (λ c κs. search needs) returns)

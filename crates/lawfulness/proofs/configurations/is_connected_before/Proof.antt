@@ -19,26 +19,11 @@ abbrev μ-loop : tie.MeasureT-loop
 loop-holds : tie.Need-loop-holds Inv-loop μ-loop
 loop-holds c = (search needs, any-start _)
 
-wide-requires : tie.Need-wide-requires Inv-loop μ-loop
-wide-requires c κs = search needs
-
-mul-other : tie.Need-mul-other Inv-loop μ-loop
-mul-other c = search needs
-
-element-copy-out-other : tie.Need-element-copy-out-other Inv-loop μ-loop
-element-copy-out-other c = search needs
-
 returns : tie.Need-returns Inv-loop μ-loop
 unfolding connectedBefore isOf
 returns c =
     let b = c .before .before .before .before .before .before in
     sym (any-hit _ _ (b .before .before .loop .m) (b .before .loop-test .taken) (rw (b .wide .ensures .0) at (c .if1 .taken)))
-
-add-m : tie.Need-add-m Inv-loop μ-loop
-add-m c = search needs
-
-loop-less : tie.Need-loop-less Inv-loop μ-loop
-loop-less c = search needs
 
 loop-again : tie.Need-loop-again Inv-loop μ-loop
 unfolding isOf
@@ -54,14 +39,5 @@ pub is-connected-before-spec : {M : Type 1} → statement M
 is-connected-before-spec =
     tie.close
     (tie.spec
-    Inv-loop
-    μ-loop
-    loop-holds
-    wide-requires
-    mul-other
-    element-copy-out-other
-    returns
-    add-m
-    loop-less
-    loop-again
-    returns-2)
+    Inv-loop μ-loop loop-holds (λ c κs. search needs) (λ c. search needs) (λ c. search needs)
+    returns (λ c. search needs) (λ c. search needs) loop-again returns-2)

@@ -9,9 +9,6 @@ use borrow.Author.Needs.{needs}
 use Rattle.lawfulness.proofs.types.mask_ok.Statement.{statement}
 use Rattle.lawfulness.proofs.types.mask_ok.Tie as tie
 
-shl-result : tie.Need-shl-result
-shl-result c = search needs
-
 returns : tie.Need-returns
 returns c = ap (ltb (c .before .args .m)) (shl-exact 1 (c .before .args .n) 32 (omega arith) (omega (arith, c .if1 .taken)) ∙ one-mul (2 ^ c .before .args .n))
 
@@ -19,4 +16,7 @@ returns-2 : tie.Need-returns-2
 returns-2 c = sym (lt-ltb _ _ (lt-of-lt-of-le (c .before .fits .m .fits) (pow-mono {j = c .before .args .n} (c .if1 .left))))
 
 pub mask-ok-spec : {M : Type 1} → statement M
-mask-ok-spec = tie.close (tie.spec shl-result returns returns-2)
+mask-ok-spec =
+    tie.close
+    (tie.spec
+    (λ c. search needs) returns returns-2)

@@ -3,27 +3,6 @@ use borrow.Author.Needs.{needs}
 use Rattle.lawfulness.proofs.types.transition_lawful.Statement.{statement}
 use Rattle.lawfulness.proofs.types.transition_lawful.Tie as tie
 
-wide-requires : tie.Need-wide-requires
-wide-requires c κs = search needs
-
-mul-at : tie.Need-mul-at
-mul-at c = search needs
-
-wide-requires-2 : tie.Need-wide-requires-2
-wide-requires-2 c κs = search needs
-
-add-at : tie.Need-add-at
-add-at c = search needs
-
-number-at-requires : tie.Need-number-at-requires
-number-at-requires c κs = search needs
-
-number-at-requires-2 : tie.Need-number-at-requires-2
-number-at-requires-2 c κs = search needs
-
-wide-requires-3 : tie.Need-wide-requires-3
-wide-requires-3 c κs = search needs
-
 returns : tie.Need-returns
 unfolding transitionLent
 returns c =
@@ -42,11 +21,5 @@ pub transition-lawful-spec : {M : Type 1} → statement M
 transition-lawful-spec =
     tie.close
     (tie.spec
-    wide-requires
-    mul-at
-    wide-requires-2
-    add-at
-    number-at-requires
-    number-at-requires-2
-    wide-requires-3
-    returns)
+    (λ c κs. search needs) (λ c. search needs) (λ c κs. search needs) (λ c. search needs) (λ c κs. search needs) (λ c κs. search needs)
+    (λ c κs. search needs) returns)

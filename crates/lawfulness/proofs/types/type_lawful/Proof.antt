@@ -4,24 +4,6 @@ use borrow.Author.Needs.{needs}
 use Rattle.lawfulness.proofs.types.type_lawful.Statement.{statement}
 use Rattle.lawfulness.proofs.types.type_lawful.Tie as tie
 
-wide-requires : tie.Need-wide-requires
-wide-requires c κs = search needs
-
-type-of-requires : tie.Need-type-of-requires
-type-of-requires c κs = search needs
-
-transitions-lawful-requires : tie.Need-transitions-lawful-requires
-transitions-lawful-requires c κs = search needs
-
-behaviors-lawful-requires : tie.Need-behaviors-lawful-requires
-behaviors-lawful-requires c κs = search needs
-
-ports-lawful-requires : tie.Need-ports-lawful-requires
-ports-lawful-requires c κs = search needs
-
-mask-ok-requires : tie.Need-mask-ok-requires
-mask-ok-requires c κs = search needs
-
 returns : tie.Need-returns
 unfolding typeLawful
 returns c =
@@ -46,10 +28,5 @@ pub type-lawful-spec : {M : Type 1} → statement M
 type-lawful-spec =
     tie.close
     (tie.spec
-    wide-requires
-    type-of-requires
-    transitions-lawful-requires
-    behaviors-lawful-requires
-    ports-lawful-requires
-    mask-ok-requires
+    (λ c κs. search needs) (λ c κs. search needs) (λ c κs. search needs) (λ c κs. search needs) (λ c κs. search needs) (λ c κs. search needs)
     returns)

@@ -11,45 +11,9 @@ Inv-loop line₀ from before after at₀ i₀ line at i = length line ≡ length
 abbrev μ-loop : tie.MeasureT-loop
 μ-loop line₀ from before after at₀ i₀ line at i = 997 - i
 
-loop-holds : tie.Need-loop-holds Inv-loop μ-loop
-loop-holds c = search needs
-
-element-copy-out-write-moved : tie.Need-element-copy-out-write-moved Inv-loop μ-loop
-element-copy-out-write-moved c = search needs
-
-element-copy-out-write-moved-2 : tie.Need-element-copy-out-write-moved-2 Inv-loop μ-loop
-element-copy-out-write-moved-2 c = search needs
-
-write-moved-requires : tie.Need-write-moved-requires Inv-loop μ-loop
-write-moved-requires c κs = search needs
-
-add-i : tie.Need-add-i Inv-loop μ-loop
-add-i c = search needs
-
-loop-less : tie.Need-loop-less Inv-loop μ-loop
-loop-less c = search needs
-
-loop-again : tie.Need-loop-again Inv-loop μ-loop
-loop-again c = search needs
-
-same-length : tie.Need-same-length Inv-loop μ-loop
-same-length c = search needs
-
-returns : tie.Need-returns Inv-loop μ-loop
-returns c = search needs
-
 pub write-all-moved-spec : {M : Type 1} → statement M
 write-all-moved-spec =
     tie.close
     (tie.spec
-    Inv-loop
-    μ-loop
-    loop-holds
-    element-copy-out-write-moved
-    element-copy-out-write-moved-2
-    write-moved-requires
-    add-i
-    loop-less
-    loop-again
-    same-length
-    returns)
+    Inv-loop μ-loop (λ c. search needs) (λ c. search needs) (λ c. search needs) (λ c κs. search needs)
+    (λ c. search needs) (λ c. search needs) (λ c. search needs) (λ c. search needs) (λ c. search needs))
