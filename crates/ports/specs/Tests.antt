@@ -1,12 +1,15 @@
 -- The tests of places, connections and ports, as values. Each goes to its definition in rules/specs.
-use mathlib.Core.Bool.{Bool, not, _&&_}
-use Prim.Native.Nat.{ℕ}
+use mathlib.Core.Bool.{Bool, not, _&&_, cond}
+use mathlib.Core.List.{List}
+use Prim.Native.Nat.{ℕ, zero, suc}
 use lib.Dec.{eqb}
+use lib.ListN.{getD, set}
 use Rattle.sets.specs.Test.{any}
 use Rattle.model.specs.declared.Tables.{Tables}
 use Rattle.model.specs.declared.Instance.{Instance}
 use Rattle.model.specs.declared.Connection.{Connection}
 use Rattle.model.specs.declared.Configuration.{Configuration}
+use Rattle.model.specs.View.{isUse, instance, connection, head}
 use Rattle.rules.specs.Instance.{active, current}
 use Rattle.rules.specs.Ports.{wouldLeave, refusing, serves, blocks, employs, failsUnserved, failsRefusing, failsInUse}
 use Rattle.rules.specs.Finish.{mayLeave}
@@ -33,14 +36,23 @@ endsOf ConnectionTest.Serves k = record { near = k .user; nearport = k .useport;
 endsOf ConnectionTest.Blocks k = record { near = k .user; nearport = k .useport; far = k .provider; farport = k .provideport }
 endsOf ConnectionTest.Employs k = record { near = k .provider; nearport = k .provideport; far = k .user; farport = k .useport }
 
-abbrev pub joins : Ends → ℕ → ℕ → Bool
-joins e i q = eqb (e .near) i && eqb (e .nearport) q
-
 -- what is asked of the other end, port q of v, where the head of its queue is `head`
 unfoldable pub farPasses : ConnectionTest → Tables → Instance → ℕ → ℕ → Bool
 farPasses ConnectionTest.Serves t v head q = active t v q
 farPasses ConnectionTest.Blocks t v head q = refusing t v (current t v head) q
 farPasses ConnectionTest.Employs t v head q = active t v q
+
+-- the connection is one of i, and its other end passes
+abbrev pub reaches : ConnectionTest → Tables → Configuration → ℕ → Connection → Bool
+reaches test t c i k =
+    eqb (endsOf test k .near) i && farPasses test t (instance c (endsOf test k .far)) (head c (endsOf test k .far)) (endsOf test k .farport)
+
+-- each of the first connections that does marks its port with 1
+unfoldable pub marked : ConnectionTest → Tables → Configuration → ℕ → List ℕ → ℕ → List ℕ
+marked test t c i found zero = found
+marked test t c i found (suc l) =
+    let before = marked test t c i found l in
+    cond (reaches test t c i (connection c l)) (set before (endsOf test (connection c l) .nearport) 1) before
 
 -- of port q of i, which goes from v to w
 unfoldable pub fails : PortTest → Tables → Configuration → ℕ → Instance → Instance → ℕ → Bool
@@ -54,6 +66,9 @@ wants PortTest.Unserved useport before after = useport && after
 wants PortTest.Refusing useport before after = useport && (after && not before)
 wants PortTest.InUse useport before after = not useport && (before && not after)
 
+abbrev pub wantsPort : PortTest → Tables → Instance → Instance → ℕ → Bool
+wantsPort test t v w q = wants test (isUse t (w .kind) q) (active t v q) (active t w q)
+
 -- and of its connections: a test of them, and whether it is a fault that one passes
 abbrev pub askedBy : PortTest → ConnectionTest
 askedBy PortTest.Unserved = ConnectionTest.Serves
@@ -65,7 +80,17 @@ isFault PortTest.Unserved found = not found
 isFault PortTest.Refusing found = found
 isFault PortTest.InUse found = found
 
--- 34, 35 and 36 over n ports
+-- the same as `fails`, where the ports that have a connection as asked are marked
+abbrev pub failsBy : PortTest → Tables → Instance → Instance → List ℕ → ℕ → Bool
+failsBy test t v w found q = isFault test (eqb (getD found q 0) 1) && wantsPort test t v w q
+
+-- 36 over n ports; 35, and where it passes 36; 34, 35 and 36
+abbrev pub inUseCheck : ℕ → Tables → Configuration → ℕ → Instance → Instance → ℕ
+inUseCheck n t c i v w = any n (failsInUse t c i v w) ⇒ serviceInUse ∣ allowed
+
+abbrev pub refusingCheck : ℕ → Tables → Configuration → ℕ → Instance → Instance → ℕ
+refusingCheck n t c i v w = any n (failsRefusing t c i v w) ⇒ providerRefusing ∣ inUseCheck n t c i v w
+
 unfoldable pub portsCheck : ℕ → Tables → Configuration → ℕ → Instance → Instance → ℕ
 portsCheck n t c i v w =
     any n (failsUnserved t c i w) ⇒ unserved

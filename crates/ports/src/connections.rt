@@ -1,4 +1,5 @@
 // The tests over connections: a port of instance i is joined to an active port, to a refusing one, to one that uses it.
+use crate::gap::put_slot;
 use crate::gap::slot_at;
 use crate::instance::active;
 use crate::instance::current;
@@ -10,9 +11,8 @@ use model::no_connection;
 use model::no_instance;
 ghost use mathlib.Core.Path.{_≡_};
 ghost use mathlib.Core.List.{[]};
-ghost use Rattle.rules.specs.Ports.{someConnection};
 ghost use Rattle.ports.specs.Rows.{rows};
-ghost use Rattle.ports.specs.Tests.{passes, endsOf, joins, farPasses};
+ghost use Rattle.ports.specs.Tests.{endsOf, farPasses, marked};
 
 // Use port q of i has an active provider; it has a refusing one; provide port q of i has an active user.
 pub enum ConnectionTest {
@@ -51,12 +51,6 @@ fn ends_of(test: ConnectionTest, k: Connection) -> Ends
     }
 }
 
-fn is_joined(e: Ends, i: u8, q: u8) -> bool
-    ensures { λ r. ⌜ r ≡ joins e i q ⌝ }
-{
-    (e.near == i) & (e.nearport == q)
-}
-
 // What is asked of the other end, port q of v, where `head` is the head of its queue.
 fn far_passes<'a>(
     test: ConnectionTest,
@@ -80,7 +74,8 @@ fn far_passes<'a>(
     }
 }
 
-pub fn some_connection<'a>(
+// Each port of i that a connection joins to an end that passes the test is marked with 1.
+pub fn mark<'a>(
     test: ConnectionTest,
     source: &'a [u8; 512],
     behaviors: &'a [u32; 128],
@@ -88,9 +83,10 @@ pub fn some_connection<'a>(
     transitions: &'a [u32; 256],
     c: Configuration,
     i: u8,
-    q: u8,
-) -> bool
-    ensures { λ r. ⌜ r ≡ someConnection c (passes test (rows (now (source .entry)) (now (behaviors .entry)) [] (now (places .entry)) (now (transitions .entry))) c i q) ⌝ }
+    found: &mut [u8; 256],
+)
+    ensures { λ r. ⌜ now (found .exit) ≡ marked test (rows (now (source .entry)) (now (behaviors .entry)) [] (now (places .entry)) (now (transitions .entry))) c i
+        (now (found .entry)) (c .count) ⌝ }
 {
     let n = c.count as usize;
     let mut l: usize = 0;
@@ -102,7 +98,7 @@ pub fn some_connection<'a>(
             no_connection()
         };
         let e = ends_of(test, k);
-        if is_joined(e, i, q) {
+        if e.near == i {
             let far = e.far as usize;
             let v = if far < 32 {
                 c.instances[far]
@@ -110,20 +106,11 @@ pub fn some_connection<'a>(
                 no_instance()
             };
             let head = slot_at(&c.queue, far * 8);
-            if far_passes(
-                test,
-                source,
-                behaviors,
-                places,
-                transitions,
-                v,
-                head,
-                e.farport,
-            ) {
-                return true;
+            let port = e.farport;
+            if far_passes(test, source, behaviors, places, transitions, v, head, port) {
+                put_slot(found, e.nearport as usize, 1);
             }
         }
         l += 1;
     }
-    false
 }

@@ -5,7 +5,7 @@ pub mod gap;
 pub mod instance;
 
 use connections::ConnectionTest;
-use connections::some_connection;
+use connections::mark;
 use instance::active;
 use model::Configuration;
 use model::Instance;
@@ -13,12 +13,13 @@ use model::Tables;
 use model::no_instance;
 use model::number_at;
 ghost use mathlib.Core.Path.{_≡_};
+ghost use mathlib.Core.List.{[]};
 ghost use Rattle.sets.specs.Test.{any};
 ghost use Rattle.model.specs.View.{instance, put};
 ghost use Rattle.rules.specs.Refusal.{_⇒_∣_};
 ghost use Rattle.rules.specs.Instance.{active};
 ghost use Rattle.ports.specs.Rows.{rows};
-ghost use Rattle.ports.specs.Tests.{wants, askedBy, isFault, fails, portsCheck};
+ghost use Rattle.ports.specs.Tests.{wants, wantsPort, askedBy, isFault, fails, failsBy, inUseCheck, refusingCheck, portsCheck};
 
 const UNSERVED: u8 = 34;
 
@@ -65,35 +66,88 @@ fn is_fault(test: PortTest, found: bool) -> bool
     }
 }
 
-// Port q of instance i, which goes from v to w, fails the test.
-fn fails_at<'a>(
+// Port q is one that the test is about, where its instance goes from v to w.
+fn is_wanted<'a>(
     test: PortTest,
-    source: &'a [u8; 512],
-    behaviors: &'a [u32; 128],
     uses: &'a [u8; 256],
     places: &'a [u32; 256],
     transitions: &'a [u32; 256],
-    c: Configuration,
-    i: u8,
     v: Instance,
     w: Instance,
     q: u8,
 ) -> bool
-    ensures { λ r. ⌜ r ≡ fails test (rows (now (source .entry)) (now (behaviors .entry)) (now (uses .entry)) (now (places .entry)) (now (transitions .entry))) c i v w q ⌝ }
+    ensures { λ r. ⌜ r ≡ wantsPort test (rows [] [] (now (uses .entry)) (now (places .entry)) (now (transitions .entry))) v w q ⌝ }
 {
     let useport = number_at(uses, (w.kind as usize) * 16 + q as usize) == 1;
     let before = active(places, transitions, v, q);
     let after = active(places, transitions, w, q);
-    if !wants(test, useport, before, after) {
-        return false;
-    }
-    let asked = asked_by(test);
-    let found = some_connection(asked, source, behaviors, places, transitions, c, i, q);
-    is_fault(test, found)
+    wants(test, useport, before, after)
 }
 
-// One of the first n ports of instance i, which goes from v to w, fails the test.
+// One of the first n ports is.
+fn some_wanted<'a>(
+    test: PortTest,
+    n: u8,
+    uses: &'a [u8; 256],
+    places: &'a [u32; 256],
+    transitions: &'a [u32; 256],
+    v: Instance,
+    w: Instance,
+) -> bool
+    ensures { λ r. ⌜ r ≡ any n (wantsPort test (rows [] [] (now (uses .entry)) (now (places .entry)) (now (transitions .entry))) v w) ⌝ }
+{
+    let mut q: u8 = 0;
+    while q < n {
+        if is_wanted(test, uses, places, transitions, v, w, q) {
+            return true;
+        }
+        q += 1;
+    }
+    false
+}
+
+// Port q fails the test, where the ports that a connection was found for are marked with 1.
+fn fails_at<'a>(
+    test: PortTest,
+    uses: &'a [u8; 256],
+    places: &'a [u32; 256],
+    transitions: &'a [u32; 256],
+    v: Instance,
+    w: Instance,
+    found: &'a [u8; 256],
+    q: u8,
+) -> bool
+    ensures { λ r. ⌜ r ≡ failsBy test (rows [] [] (now (uses .entry)) (now (places .entry)) (now (transitions .entry))) v w (now (found .entry)) q ⌝ }
+{
+    is_fault(test, number_at(found, q as usize) == 1)
+        && is_wanted(test, uses, places, transitions, v, w, q)
+}
+
+// One of the first n ports does.
 fn some_port<'a>(
+    test: PortTest,
+    n: u8,
+    uses: &'a [u8; 256],
+    places: &'a [u32; 256],
+    transitions: &'a [u32; 256],
+    v: Instance,
+    w: Instance,
+    found: &'a [u8; 256],
+) -> bool
+    ensures { λ r. ⌜ r ≡ any n (failsBy test (rows [] [] (now (uses .entry)) (now (places .entry)) (now (transitions .entry))) v w (now (found .entry))) ⌝ }
+{
+    let mut q: u8 = 0;
+    while q < n {
+        if fails_at(test, uses, places, transitions, v, w, found, q) {
+            return true;
+        }
+        q += 1;
+    }
+    false
+}
+
+// One of the first n ports of instance i, which goes from v to w, fails the test. Connections are looked at only where a port is wanted.
+fn port_fails<'a>(
     test: PortTest,
     n: u8,
     source: &'a [u8; 512],
@@ -108,26 +162,22 @@ fn some_port<'a>(
 ) -> bool
     ensures { λ r. ⌜ r ≡ any n (fails test (rows (now (source .entry)) (now (behaviors .entry)) (now (uses .entry)) (now (places .entry)) (now (transitions .entry))) c i v w) ⌝ }
 {
-    let mut q: u8 = 0;
-    while q < n {
-        if fails_at(
-            test,
-            source,
-            behaviors,
-            uses,
-            places,
-            transitions,
-            c,
-            i,
-            v,
-            w,
-            q,
-        ) {
-            return true;
-        }
-        q += 1;
+    if !some_wanted(test, n, uses, places, transitions, v, w) {
+        return false;
     }
-    false
+    let asked = asked_by(test);
+    let mut found = [0u8; 256];
+    mark(
+        asked,
+        source,
+        behaviors,
+        places,
+        transitions,
+        c,
+        i,
+        &mut found,
+    );
+    some_port(test, n, uses, places, transitions, v, w, &found)
 }
 
 // A row of checks, as in rules/specs/Refusal: where the test holds its number, else what follows.
@@ -135,6 +185,70 @@ pub fn refuse_if(test: bool, number: u8, rest: u8) -> u8
     ensures { λ r. ⌜ r ≡ (test ⇒ number ∣ rest) ⌝ }
 {
     if test { number } else { rest }
+}
+
+// 36, the last of the port check.
+fn in_use_check<'a>(
+    n: u8,
+    source: &'a [u8; 512],
+    behaviors: &'a [u32; 128],
+    uses: &'a [u8; 256],
+    places: &'a [u32; 256],
+    transitions: &'a [u32; 256],
+    c: Configuration,
+    i: u8,
+    v: Instance,
+    w: Instance,
+) -> u8
+    ensures { λ r. ⌜ r ≡ inUseCheck n (rows (now (source .entry)) (now (behaviors .entry)) (now (uses .entry)) (now (places .entry)) (now (transitions .entry))) c i v w ⌝ }
+{
+    let fails = port_fails(
+        PortTest::InUse,
+        n,
+        source,
+        behaviors,
+        uses,
+        places,
+        transitions,
+        c,
+        i,
+        v,
+        w,
+    );
+    refuse_if(fails, SERVICE_IN_USE, 0)
+}
+
+// 35, and where it passes 36.
+fn refusing_check<'a>(
+    n: u8,
+    source: &'a [u8; 512],
+    behaviors: &'a [u32; 128],
+    uses: &'a [u8; 256],
+    places: &'a [u32; 256],
+    transitions: &'a [u32; 256],
+    c: Configuration,
+    i: u8,
+    v: Instance,
+    w: Instance,
+) -> u8
+    ensures { λ r. ⌜ r ≡ refusingCheck n (rows (now (source .entry)) (now (behaviors .entry)) (now (uses .entry)) (now (places .entry)) (now (transitions .entry))) c i v w ⌝ }
+{
+    if port_fails(
+        PortTest::Refusing,
+        n,
+        source,
+        behaviors,
+        uses,
+        places,
+        transitions,
+        c,
+        i,
+        v,
+        w,
+    ) {
+        return PROVIDER_REFUSING;
+    }
+    in_use_check(n, source, behaviors, uses, places, transitions, c, i, v, w)
 }
 
 // The port check of a move of instance i, over n ports: v is the instance before it, and after it stands in a trial configuration beside the
@@ -151,7 +265,8 @@ pub fn port_check<'a>(
     v: Instance,
     after: Instance,
 ) -> u8
-    ensures { λ r. ⌜ r ≡ portsCheck n (rows (now (source .entry)) (now (behaviors .entry)) (now (uses .entry)) (now (places .entry)) (now (transitions .entry))) c i v (instance (put c i after) i) ⌝ }
+    ensures { λ r. ⌜ r ≡ portsCheck n (rows (now (source .entry)) (now (behaviors .entry)) (now (uses .entry)) (now (places .entry)) (now (transitions .entry))) c i v
+        (instance (put c i after) i) ⌝ }
 {
     let at = i as usize;
     let mut trial = c;
@@ -160,7 +275,7 @@ pub fn port_check<'a>(
         trial.instances[at] = after;
         w = trial.instances[at];
     }
-    if some_port(
+    if port_fails(
         PortTest::Unserved,
         n,
         source,
@@ -175,37 +290,7 @@ pub fn port_check<'a>(
     ) {
         return UNSERVED;
     }
-    if some_port(
-        PortTest::Refusing,
-        n,
-        source,
-        behaviors,
-        uses,
-        places,
-        transitions,
-        c,
-        i,
-        v,
-        w,
-    ) {
-        return PROVIDER_REFUSING;
-    }
-    if some_port(
-        PortTest::InUse,
-        n,
-        source,
-        behaviors,
-        uses,
-        places,
-        transitions,
-        c,
-        i,
-        v,
-        w,
-    ) {
-        return SERVICE_IN_USE;
-    }
-    0
+    refusing_check(n, source, behaviors, uses, places, transitions, c, i, v, w)
 }
 
 // The same as `active` of one instance, for a caller that has the tables.

@@ -22,31 +22,17 @@ tried a =
 
 returns : tie.Need-returns
 unfolding portsCheck fails
-returns c = rw (← tried (c .before .before), ← c .before .some-port .ensures, c .if2 .taken)
+returns c = rw (← tried (c .before .before), ← c .before .port-fails .ensures, c .if2 .taken)
 
 returns-2 : tie.Need-returns-2
 unfolding portsCheck fails
 returns-2 c =
-    let a = c .before .before .before in
-    rw (← tried (a .before), ← a .some-port .ensures, c .before .before .if2 .left, ← c .before .some-port2 .ensures, c .if3 .taken)
-
-returns-3 : tie.Need-returns-3
-unfolding portsCheck fails
-returns-3 c =
-    let b = c .before .before .before in
-    let a = b .before .before in
-    rw (← tried (a .before), ← a .some-port .ensures, b .before .if2 .left, ← b .some-port2 .ensures, c .before .before .if3 .left, ← c .before .some-port3 .ensures, c .if4 .taken)
-
-returns-4 : tie.Need-returns-4
-unfolding portsCheck fails
-returns-4 c =
-    let b = c .before .before .before in
-    let a = b .before .before in
-    rw (← tried (a .before), ← a .some-port .ensures, b .before .if2 .left, ← b .some-port2 .ensures, c .before .before .if3 .left, ← c .before .some-port3 .ensures, c .if4 .left)
+    let a = c .before .before in
+    rw (← tried (a .before), ← a .port-fails .ensures, c .before .if2 .left) (c .refusing-check .ensures)
 
 pub port-check-spec : {M : Type 1} → statement M
 port-check-spec =
     tie.close
     (tie.spec
     (λ c κs. search needs) (λ c. search needs) (λ c. search needs) (λ c. search needs) (λ c. search needs) (λ c κs. search needs) returns
-    (λ c κs. search needs) returns-2 (λ c κs. search needs) returns-3 returns-4)
+    (λ c κs. search needs) returns-2)

@@ -1,19 +1,20 @@
 use mathlib.Core.Path.{_≡_, sym, _∙_}
 use mathlib.Core.Bool.{false}
+use mathlib.Core.List.{[]}
 use Prim.Native.Nat.{_≤_, _-_}
 use borrow.Author.Needs.{needs}
 use Rattle.sets.specs.Test.{any}
 use Rattle.sets.proofs.Laws.{any-start, any-more, any-hit, any-end}
 use Rattle.ports.specs.Rows.{rows}
-use Rattle.ports.specs.Tests.{fails}
+use Rattle.ports.specs.Tests.{failsBy}
 use Rattle.ports.proofs.some_port.Statement.{statement}
 use Rattle.ports.proofs.some_port.Tie as tie
 
 abbrev Inv-loop : tie.InvT-loop
-Inv-loop test n source behaviors uses places transitions c i v w q₀ q = (q ≤ n) × (any q (fails test (rows source behaviors uses places transitions) c i v w) ≡ false)
+Inv-loop test n uses places transitions v w found q₀ q = (q ≤ n) × (any q (failsBy test (rows [] [] uses places transitions) v w found) ≡ false)
 
 abbrev μ-loop : tie.MeasureT-loop
-μ-loop test n source behaviors uses places transitions c i v w q₀ q = n - q
+μ-loop test n uses places transitions v w found q₀ q = n - q
 
 loop-holds : tie.Need-loop-holds Inv-loop μ-loop
 loop-holds c = (search needs, any-start _)

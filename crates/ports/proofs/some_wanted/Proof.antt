@@ -1,0 +1,37 @@
+use mathlib.Core.Path.{_≡_, sym, _∙_}
+use mathlib.Core.Bool.{false}
+use mathlib.Core.List.{[]}
+use Prim.Native.Nat.{_≤_, _-_}
+use borrow.Author.Needs.{needs}
+use Rattle.sets.specs.Test.{any}
+use Rattle.sets.proofs.Laws.{any-start, any-more, any-hit, any-end}
+use Rattle.ports.specs.Rows.{rows}
+use Rattle.ports.specs.Tests.{wantsPort}
+use Rattle.ports.proofs.some_wanted.Statement.{statement}
+use Rattle.ports.proofs.some_wanted.Tie as tie
+
+abbrev Inv-loop : tie.InvT-loop
+Inv-loop test n uses places transitions v w q₀ q = (q ≤ n) × (any q (wantsPort test (rows [] [] uses places transitions) v w) ≡ false)
+
+abbrev μ-loop : tie.MeasureT-loop
+μ-loop test n uses places transitions v w q₀ q = n - q
+
+loop-holds : tie.Need-loop-holds Inv-loop μ-loop
+loop-holds c = (search needs, any-start _)
+
+returns : tie.Need-returns Inv-loop μ-loop
+returns c =
+    let h = c .before .before in
+    sym (any-hit _ _ (h .before .loop .q) (h .loop-test .taken) (sym (c .before .is-wanted .ensures) ∙ c .if1 .taken))
+
+loop-again : tie.Need-loop-again Inv-loop μ-loop
+loop-again c = (search needs, any-more _ _ (c .before .before .before .loop .inv .1) (sym (c .before .is-wanted .ensures) ∙ c .if1 .left))
+
+returns-2 : tie.Need-returns-2 Inv-loop μ-loop
+returns-2 c = sym (any-end _ (c .before .loop .q) _ (c .before .loop .inv .0) (c .loop-test .left) (c .before .loop .inv .1))
+
+pub some-wanted-spec : {M : Type 1} → statement M
+some-wanted-spec =
+    tie.close
+    (tie.spec
+    Inv-loop μ-loop loop-holds (λ c κs. search needs) returns (λ c. search needs) (λ c. search needs) loop-again returns-2)
