@@ -1,5 +1,4 @@
 // The tests over connections: a port of instance i is joined to an active port, to a refusing one, to one that uses it.
-use crate::gap::put_slot;
 use crate::gap::slot_at;
 use crate::instance::active;
 use crate::instance::current;
@@ -21,7 +20,7 @@ pub enum ConnectionTest {
     Employs,
 }
 
-// A connection as the test sees it: the end that is to be port q of i, and the other end.
+// A connection as the test sees it: the end that is to be a port of i, and the other end.
 pub struct Ends {
     pub near: u8,
     pub nearport: u8,
@@ -74,7 +73,7 @@ fn far_passes<'a>(
     }
 }
 
-// Each port of i that a connection joins to an end that passes the test is marked with 1.
+// Each port of i that a connection joins to an end that passes the test is marked with 1. A port number is a byte, so each has its mark.
 pub fn mark<'a>(
     test: ConnectionTest,
     source: &'a [u8; 512],
@@ -108,7 +107,7 @@ pub fn mark<'a>(
             let head = slot_at(&c.queue, far * 8);
             let port = e.farport;
             if far_passes(test, source, behaviors, places, transitions, v, head, port) {
-                put_slot(found, e.nearport as usize, 1);
+                found[e.nearport as usize] = 1;
             }
         }
         l += 1;

@@ -44,8 +44,7 @@ loop-again c =
       ⊎-elim
           (λ w.
           let far = reached (record { before = record { before = record { before = c .before; if2 = w .0 }; struct-known2 = w .1 }; if3 = w .2 }) in
-          w .12 ∙ w .11 .ensures
-          ∙ marked-passed _ _ _ _ _ _ _ _ _ (read (a .before)) (a .ends-of .ensures) old _ _ _ (w .0 .taken) far (w .6 .ensures) (w .7 .ensures) (w .8 .taken))
+          w .10 ∙ marked-passed _ _ _ _ _ _ _ _ _ (read (a .before)) (a .ends-of .ensures) old _ _ _ (w .0 .taken) far (w .6 .ensures) (w .7 .ensures) (w .8 .taken))
           (⊎-elim
           (λ w.
           let far = reached (record { before = record { before = record { before = c .before; if2 = w .0 }; struct-known2 = w .1 }; if3 = w .2 }) in
@@ -63,4 +62,4 @@ mark-spec =
     (tie.spec
     Inv-loop μ-loop (λ c. search needs) loop-holds (λ c. search needs) (λ c. search needs) (λ c κs. search needs) (λ c κs. search needs)
     (λ c. search needs) (λ c. search needs) (λ c. search needs) (λ c κs. search needs) (λ c. search needs) (λ c κs. search needs)
-    (λ c κs. search needs) (λ c. search needs) (λ c κs. search needs) (λ c. search needs) (λ c. search needs) loop-again returns)
+    (λ c κs. search needs) (λ c. search needs) (λ c. search needs) (λ c. search needs) (λ c. search needs) loop-again returns)
