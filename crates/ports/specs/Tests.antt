@@ -60,14 +60,19 @@ fails PortTest.Unserved t c i v w = failsUnserved t c i w
 fails PortTest.Refusing t c i v w = failsRefusing t c i v w
 fails PortTest.InUse t c i v w = failsInUse t c i v w
 
--- what it asks of the port: a use port, active before, active after
-abbrev pub wants : PortTest → Bool → Bool → Bool → Bool
-wants PortTest.Unserved useport before after = useport && after
-wants PortTest.Refusing useport before after = useport && (after && not before)
-wants PortTest.InUse useport before after = not useport && (before && not after)
+-- what it asks of the port: a use port or not, active before and after or not
+abbrev pub wantsKind : PortTest → Bool → Bool
+wantsKind PortTest.Unserved useport = useport
+wantsKind PortTest.Refusing useport = useport
+wantsKind PortTest.InUse useport = not useport
+
+abbrev pub wantsActivity : PortTest → Bool → Bool → Bool
+wantsActivity PortTest.Unserved before after = after
+wantsActivity PortTest.Refusing before after = after && not before
+wantsActivity PortTest.InUse before after = before && not after
 
 abbrev pub wantsPort : PortTest → Tables → Instance → Instance → ℕ → Bool
-wantsPort test t v w q = wants test (isUse t (w .kind) q) (active t v q) (active t w q)
+wantsPort test t v w q = wantsKind test (isUse t (w .kind) q) && wantsActivity test (active t v q) (active t w q)
 
 -- and of its connections: a test of them, and whether it is a fault that one passes
 abbrev pub askedBy : PortTest → ConnectionTest

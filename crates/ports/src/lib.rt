@@ -19,7 +19,7 @@ ghost use Rattle.model.specs.View.{instance, put};
 ghost use Rattle.rules.specs.Refusal.{_⇒_∣_};
 ghost use Rattle.rules.specs.Instance.{active};
 ghost use Rattle.ports.specs.Rows.{rows};
-ghost use Rattle.ports.specs.Tests.{wants, wantsPort, askedBy, isFault, fails, failsBy, inUseCheck, refusingCheck, portsCheck};
+ghost use Rattle.ports.specs.Tests.{wantsKind, wantsActivity, wantsPort, askedBy, isFault, fails, failsBy, inUseCheck, refusingCheck, portsCheck};
 
 const UNSERVED: u8 = 34;
 
@@ -34,14 +34,25 @@ pub enum PortTest {
     InUse,
 }
 
-// The ports that a test is about: use ports or provide ports, active or not before and after the move.
-fn wants(test: PortTest, useport: bool, before: bool, after: bool) -> bool
-    ensures { λ r. ⌜ r ≡ wants test useport before after ⌝ }
+// The ports that a test is about are use ports or provide ports,
+fn wants_kind(test: PortTest, useport: bool) -> bool
+    ensures { λ r. ⌜ r ≡ wantsKind test useport ⌝ }
 {
     match test {
-        PortTest::Unserved => useport & after,
-        PortTest::Refusing => useport & (after & !before),
-        PortTest::InUse => !useport & (before & !after),
+        PortTest::Unserved => useport,
+        PortTest::Refusing => useport,
+        PortTest::InUse => !useport,
+    }
+}
+
+// active or not before and after the move.
+fn wants_activity(test: PortTest, before: bool, after: bool) -> bool
+    ensures { λ r. ⌜ r ≡ wantsActivity test before after ⌝ }
+{
+    match test {
+        PortTest::Unserved => after,
+        PortTest::Refusing => after & !before,
+        PortTest::InUse => before & !after,
     }
 }
 
@@ -79,9 +90,12 @@ fn is_wanted<'a>(
     ensures { λ r. ⌜ r ≡ wantsPort test (rows [] [] (now (uses .entry)) (now (places .entry)) (now (transitions .entry))) v w q ⌝ }
 {
     let useport = number_at(uses, (w.kind as usize) * 16 + q as usize) == 1;
+    if !wants_kind(test, useport) {
+        return false;
+    }
     let before = active(places, transitions, v, q);
     let after = active(places, transitions, w, q);
-    wants(test, useport, before, after)
+    wants_activity(test, before, after)
 }
 
 // One of the first n ports is.
