@@ -1,3 +1,3 @@
--- What a connection is asked by `del`, `con` and `dcon`, and the checks of `con` that look at its two ends alone.
+-- What a connection is asked by `del`, `con` and `dcon`, and what each instruction comes to.
 pub mod Passes
-pub mod Ends
+pub mod Orders

@@ -1,37 +1,25 @@
-// The six instructions, each a step by value: the number of the refusal, or 0, beside the configuration after it.
-// Promised: each answers its definition in rules/specs for every table, configuration and number, past the ends of arrays too.
+// The six instructions, each on the instance that it names: the number of its refusal, or 0, and what it changes.
+// Promised: for any instance, configuration and numbers, the plan that specs/Orders says, made of the rows and effects of rules/specs.
 mod connections;
-mod slots;
 
 use connections::ConnectionTest;
-use connections::close_gap;
-use connections::place_of;
-use connections::put_at;
 use connections::some_connection;
 use model::Configuration;
 use model::Connection;
 use model::Instance;
-use model::Stepped;
-use model::Tables;
-use model::instance_of;
 use model::no_instance;
 use model::number_at;
-use model::put_instance;
-use model::type_of;
-use model::wide;
-use slots::put_slot;
-use slots::renew;
+use plans::Joins;
+use plans::Plan;
+use plans::Slots;
+use plans::one_more;
+use ports::instance::active;
+use ports::refuse_if;
 ghost use mathlib.Core.Path.{_≡_};
-ghost use Prim.Native.Nat.{_<_};
-ghost use Rattle.model.specs.View.{isUse, instance};
-ghost use Rattle.rules.specs.Refusal.{settle};
-ghost use Rattle.rules.specs.Add.{addCheck, added};
-ghost use Rattle.rules.specs.Del.{delCheck, deleted};
-ghost use Rattle.rules.specs.PushB.{depthOf, pushbCheck, pushed};
-ghost use Rattle.rules.specs.Con.{conCheck, connected};
-ghost use Rattle.rules.specs.DCon.{dconCheck, disconnected};
-ghost use Rattle.rules.specs.Wait.{waitCheck};
-ghost use Rattle.instructions.specs.Ends.{usePort, providePort, endsCheck};
+ghost use mathlib.Core.List.{[]};
+ghost use Rattle.model.specs.View.{isUse};
+ghost use Rattle.ports.specs.Rows.{rows};
+ghost use Rattle.instructions.specs.Orders.{joining, addPlan, delPlan, pushbPlan, conPlan, dconPlan, waitPlan};
 
 const ID_ABSENT: u8 = 11;
 
@@ -55,202 +43,134 @@ const QUEUE_NOT_EMPTY: u8 = 21;
 
 const USE_PORT_ACTIVE: u8 = 22;
 
-fn refuse(number: u8, c: Configuration) -> Stepped
-    ensures { λ r. ⌜ r ≡ record { refused = number; configuration = c } ⌝ }
+// An instruction that changes the list of connections at most.
+fn joining(refused: u8, v: Instance, joins: Joins) -> Plan
+    ensures { λ r. ⌜ r ≡ joining refused v joins ⌝ }
 {
-    Stepped {
-        refused: number,
-        configuration: c,
+    let slots = Slots::Headless(0);
+    Plan {
+        refused,
+        after: v,
+        slots,
+        joins,
     }
 }
 
-fn allow(c: Configuration) -> Stepped
-    ensures { λ r. ⌜ r ≡ record { refused = 0; configuration = c } ⌝ }
+// k is the type's number, and initial are its initial places.
+pub fn add(v: Instance, k: u8, initial: u32) -> Plan
+    ensures { λ r. ⌜ r ≡ addPlan v k initial ⌝ }
 {
-    Stepped {
-        refused: 0,
-        configuration: c,
-    }
-}
-
-pub fn add(t: Tables, c: Configuration, i: usize, k: u8) -> Stepped
-    ensures { λ r. ⌜ r ≡ settle (addCheck c i) c (added t c i k) ⌝ }
-{
-    let v = instance_of(c, i);
-    if v.present {
-        return refuse(ID_PRESENT, c);
-    }
-    let kind = type_of(t, wide(k));
-    let w = Instance {
+    let after = Instance {
         present: true,
         kind: k,
-        marked: kind.initial,
+        marked: initial,
         running: 0,
         ended: 0,
         queued: 0,
     };
-    allow(renew(c, i, w))
+    let refused = refuse_if(v.present, ID_PRESENT, 0);
+    let slots = Slots::Emptied;
+    let joins = Joins::Kept;
+    Plan {
+        refused,
+        after,
+        slots,
+        joins,
+    }
 }
 
-pub fn del(c: Configuration, i: usize) -> Stepped
-    ensures { λ r. ⌜ r ≡ settle (delCheck c i) c (deleted c i) ⌝ }
+pub fn del(c: Configuration, i: u8, v: Instance) -> Plan
+    ensures { λ r. ⌜ r ≡ delPlan c i v ⌝ }
 {
-    let v = instance_of(c, i);
-    if !v.present {
-        return refuse(ID_ABSENT, c);
+    let named = some_connection(ConnectionTest::NamedBy(i), c);
+    let busy = refuse_if(!(v.queued == 0), QUEUE_NOT_EMPTY, 0);
+    let late = refuse_if(named, STILL_CONNECTED, busy);
+    let refused = refuse_if(!v.present, ID_ABSENT, late);
+    let after = no_instance();
+    let slots = Slots::Emptied;
+    let joins = Joins::Kept;
+    Plan {
+        refused,
+        after,
+        slots,
+        joins,
     }
-    if some_connection(ConnectionTest::NamedBy(i), c) {
-        return refuse(STILL_CONNECTED, c);
-    }
-    if v.queued != 0 {
-        return refuse(QUEUE_NOT_EMPTY, c);
-    }
-    allow(renew(c, i, no_instance()))
 }
 
-// How many behaviors a queue may hold: 0 stands for the default.
-fn depth_of(default: u8, t: Tables) -> u8
-    ensures { λ r. ⌜ r ≡ depthOf default t ⌝ }
+// The type has so many behaviors, and a queue holds at most `depth`.
+pub fn pushb(depth: u8, behaviors: u8, v: Instance, b: u8) -> Plan
+    ensures { λ r. ⌜ r ≡ pushbPlan depth behaviors v b ⌝ }
 {
-    if t.depth == 0 { default } else { t.depth }
+    let full = refuse_if(!(v.queued < depth), QUEUE_FULL, 0);
+    let unknown = refuse_if(!(b < behaviors), NO_SUCH, full);
+    let refused = refuse_if(!v.present, ID_ABSENT, unknown);
+    let mut after = v;
+    after.queued = one_more(v.queued);
+    let slots = Slots::Longer(v.queued, b);
+    let joins = Joins::Kept;
+    Plan {
+        refused,
+        after,
+        slots,
+        joins,
+    }
 }
 
-// Behavior b goes last into the queue of instance i, whose record is v.
-fn push(c: Configuration, i: usize, v: Instance, b: u8) -> Configuration
-    requires { ⌜ (i < 32) × ((v ≡ instance c i) × (v .queued < 255)) ⌝ }
-    ensures { λ r. ⌜ r ≡ pushed c i b ⌝ }
+fn is_use(uses: &[u8; 256], k: u8, q: u8) -> bool
+    ensures { λ r. ⌜ r ≡ isUse (rows [] [] (now (uses .entry)) [] []) k q ⌝ }
 {
-    let next = put_slot(c, i * 8 + wide(v.queued), b);
-    let mut w = v;
-    w.queued = v.queued + 1;
-    put_instance(next, i, w)
+    number_at(uses, (k as usize) * 16 + q as usize) == 1
 }
 
-pub fn pushb(default: u8, t: Tables, c: Configuration, i: usize, b: u8) -> Stepped
-    ensures { λ r. ⌜ r ≡ settle (pushbCheck default t c i b) c (pushed c i b) ⌝ }
+// v is the user and w the provider, whose types have so many ports.
+pub fn con(
+    ports: u8,
+    others: u8,
+    uses: &[u8; 256],
+    c: Configuration,
+    v: Instance,
+    w: Instance,
+    k: Connection,
+) -> Plan
+    ensures { λ r. ⌜ r ≡ conPlan ports others (rows [] [] (now (uses .entry)) [] []) c v w k ⌝ }
 {
-    let v = instance_of(c, i);
-    if !v.present {
-        return refuse(ID_ABSENT, c);
-    }
-    let kind = type_of(t, wide(v.kind));
-    if kind.behaviors <= b {
-        return refuse(NO_SUCH, c);
-    }
-    if depth_of(default, t) <= v.queued {
-        return refuse(QUEUE_FULL, c);
-    }
-    allow(push(c, i, v, b))
+    let full = refuse_if(!(c.count < 64), NO_MORE_CONNECTIONS, 0);
+    let taken = some_connection(ConnectionTest::IsOf(k.user, k.useport), c);
+    let apart = refuse_if(taken, ALREADY_CONNECTED, full);
+    let joined = refuse_if(k.user == k.provider, ONE_INSTANCE, apart);
+    let provides = (k.provideport < others) & !is_use(uses, w.kind, k.provideport);
+    let provided = refuse_if(!provides, NO_SUCH, joined);
+    let employs = (k.useport < ports) & is_use(uses, v.kind, k.useport);
+    let employed = refuse_if(!employs, NO_SUCH, provided);
+    let there = refuse_if(!w.present, ID_ABSENT, employed);
+    let refused = refuse_if(!v.present, ID_ABSENT, there);
+    let joins = Joins::With(k);
+    joining(refused, v, joins)
 }
 
-fn is_use(t: Tables, k: u8, q: u8) -> bool
-    ensures { λ r. ⌜ r ≡ isUse t k q ⌝ }
+// v is the user.
+pub fn dcon<'a>(
+    places: &'a [u32; 256],
+    transitions: &'a [u32; 256],
+    c: Configuration,
+    v: Instance,
+    k: Connection,
+) -> Plan
+    ensures { λ r. ⌜ r ≡ dconPlan (rows [] [] [] (now (places .entry)) (now (transitions .entry))) c v k ⌝ }
 {
-    number_at(&t.ports.uses, wide(k) * 16 + wide(q)) == 1
+    let needed = active(places, transitions, v, k.useport);
+    let late = refuse_if(needed, USE_PORT_ACTIVE, 0);
+    let found = some_connection(ConnectionTest::Same(k), c);
+    let refused = refuse_if(!found, NO_SUCH_CONNECTION, late);
+    let joins = Joins::Without(k);
+    joining(refused, v, joins)
 }
 
-fn is_use_port(t: Tables, v: Instance, q: u8) -> bool
-    ensures { λ r. ⌜ r ≡ usePort t v q ⌝ }
+pub fn wait(v: Instance) -> Plan
+    ensures { λ r. ⌜ r ≡ waitPlan v ⌝ }
 {
-    let kind = type_of(t, wide(v.kind));
-    (q < kind.ports) & is_use(t, v.kind, q)
-}
-
-fn is_provide_port(t: Tables, v: Instance, q: u8) -> bool
-    ensures { λ r. ⌜ r ≡ providePort t v q ⌝ }
-{
-    let kind = type_of(t, wide(v.kind));
-    (q < kind.ports) & !is_use(t, v.kind, q)
-}
-
-// The checks of `con` that look at its two ends alone.
-fn check_ends(t: Tables, user: Instance, provider: Instance, k: Connection) -> u8
-    ensures { λ r. ⌜ r ≡ endsCheck t user provider k ⌝ }
-{
-    if !user.present {
-        return ID_ABSENT;
-    }
-    if !provider.present {
-        return ID_ABSENT;
-    }
-    if !is_use_port(t, user, k.useport) {
-        return NO_SUCH;
-    }
-    if !is_provide_port(t, provider, k.provideport) {
-        return NO_SUCH;
-    }
-    if k.user == k.provider {
-        return ONE_INSTANCE;
-    }
-    0
-}
-
-// Only where there is room: the count is a byte.
-fn connect(c: Configuration, k: Connection) -> Configuration
-    requires { ⌜ c .count < 64 ⌝ }
-    ensures { λ r. ⌜ r ≡ connected c k ⌝ }
-{
-    let ks = c.connections;
-    let longer = put_at(ks, wide(c.count), k);
-    let mut next = c;
-    next.connections = longer;
-    next.count = c.count + 1;
-    next
-}
-
-pub fn con(t: Tables, c: Configuration, k: Connection) -> Stepped
-    ensures { λ r. ⌜ r ≡ settle (conCheck t c k) c (connected c k) ⌝ }
-{
-    let user = instance_of(c, wide(k.user));
-    let provider = instance_of(c, wide(k.provider));
-    let number = check_ends(t, user, provider, k);
-    if number != 0 {
-        return refuse(number, c);
-    }
-    if some_connection(ConnectionTest::IsOf(k.user, k.useport), c) {
-        return refuse(ALREADY_CONNECTED, c);
-    }
-    if c.count >= 64 {
-        return refuse(NO_MORE_CONNECTIONS, c);
-    }
-    allow(connect(c, k))
-}
-
-fn disconnect(c: Configuration, k: Connection) -> Configuration
-    requires { ⌜ 0 < c .count ⌝ }
-    ensures { λ r. ⌜ r ≡ disconnected c k ⌝ }
-{
-    let at = place_of(c, k);
-    let ks = c.connections;
-    let shorter = close_gap(ks, at, wide(c.count));
-    let mut next = c;
-    next.connections = shorter;
-    next.count = c.count - 1;
-    next
-}
-
-pub fn dcon(t: Tables, c: Configuration, k: Connection) -> Stepped
-    ensures { λ r. ⌜ r ≡ settle (dconCheck t c k) c (disconnected c k) ⌝ }
-{
-    if !some_connection(ConnectionTest::Same(k), c) {
-        return refuse(NO_SUCH_CONNECTION, c);
-    }
-    let user = instance_of(c, wide(k.user));
-    if ports::is_active(t, user, k.useport) {
-        return refuse(USE_PORT_ACTIVE, c);
-    }
-    allow(disconnect(c, k))
-}
-
-pub fn wait(c: Configuration, i: usize) -> Stepped
-    ensures { λ r. ⌜ r ≡ settle (waitCheck c i) c c ⌝ }
-{
-    let v = instance_of(c, i);
-    if !v.present {
-        return refuse(ID_ABSENT, c);
-    }
-    if v.queued != 0 {
-        return refuse(QUEUE_NOT_EMPTY, c);
-    }
-    allow(c)
+    let busy = refuse_if(!(v.queued == 0), QUEUE_NOT_EMPTY, 0);
+    let refused = refuse_if(!v.present, ID_ABSENT, busy);
+    let joins = Joins::Kept;
+    joining(refused, v, joins)
 }

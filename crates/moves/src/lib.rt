@@ -1,7 +1,10 @@
 // The four moves on one instance: fire, end, enter and finish. What they ask of ports and what becomes of the queue is for the caller.
 // Promised: for any tables, instance and numbers, the plan that specs/Plans says, made of the rows and effects of rules/specs.
 use model::Instance;
-use ports::gap::close_gap;
+use plans::Joins;
+use plans::Plan;
+use plans::Slots;
+use plans::one_less;
 use ports::instance::PlaceTest;
 use ports::instance::ending_at;
 use ports::instance::fired;
@@ -10,12 +13,11 @@ use ports::instance::some_place;
 use ports::refuse_if;
 ghost use mathlib.Core.Path.{_≡_};
 ghost use mathlib.Core.List.{[]};
-ghost use Prim.Native.Nat.{_-_};
 ghost use Rattle.sets.specs.Mask.{collect};
 ghost use Rattle.rules.specs.Instance.{endsAt, endedBy, entered};
 ghost use Rattle.ports.specs.Rows.{rows, endOf};
 ghost use Rattle.moves.specs.Rows.{firstly, row};
-ghost use Rattle.moves.specs.Plans.{firePlan, enterPlan, endPlan, finishPlan, headless};
+ghost use Rattle.moves.specs.Plans.{moved, firePlan, enterPlan, endPlan, finishPlan};
 
 const ID_ABSENT: u8 = 11;
 
@@ -48,12 +50,18 @@ fn row(xs: u32, ready: bool, taken: bool) -> u8
     refuse_if(xs == 0, NO_TRANSITION, refuse_if(!ready, NOT_READY, late))
 }
 
-// What a move comes to on its instance: the number of the refusal, or 0, before any port is looked at; the instance after it; and how many
-// queue slots lose their head, 0 where the queue stays.
-pub struct Plan {
-    pub refused: u8,
-    pub after: Instance,
-    pub closing: u8,
+// So many queue slots lose their head, none where the queue stays; a move changes no connection.
+fn plan(refused: u8, after: Instance, closing: u8) -> Plan
+    ensures { λ r. ⌜ r ≡ moved refused after closing ⌝ }
+{
+    let slots = Slots::Headless(closing);
+    let joins = Joins::Kept;
+    Plan {
+        refused,
+        after,
+        slots,
+        joins,
+    }
 }
 
 pub fn fire(source: &[u8; 512], v: Instance, m: u32, p: u8) -> Plan
@@ -64,11 +72,7 @@ pub fn fire(source: &[u8; 512], v: Instance, m: u32, p: u8) -> Plan
     let rest = row(xs, marked, sets::overlaps(xs, held(v)));
     let refused = first(v, rest);
     let after = fired(v, p as u32, xs);
-    Plan {
-        refused,
-        after,
-        closing: 0,
-    }
+    plan(refused, after, 0)
 }
 
 fn entered(v: Instance, p: u32, xs: u32) -> Instance
@@ -89,11 +93,7 @@ pub fn enter(destination: &[u8; 512], v: Instance, m: u32, p: u8) -> Plan
     let rest = row(xs, sets::within(xs, v.ended), marked);
     let refused = first(v, rest);
     let after = entered(v, p as u32, xs);
-    Plan {
-        refused,
-        after,
-        closing: 0,
-    }
+    plan(refused, after, 0)
 }
 
 fn ended_by(v: Instance, x: u32) -> Instance
@@ -111,18 +111,7 @@ pub fn end(v: Instance, x: u8) -> Plan
     let running = sets::member(v.running, x as u32);
     let refused = first(v, refuse_if(!running, NOT_READY, 0));
     let after = ended_by(v, x as u32);
-    Plan {
-        refused,
-        after,
-        closing: 0,
-    }
-}
-
-// n - 1, and 0 for 0.
-fn one_less(n: u8) -> u8
-    ensures { λ r. ⌜ r ≡ n - 1 ⌝ }
-{
-    if n == 0 { 0 } else { n - 1 }
+    plan(refused, after, 0)
 }
 
 pub fn finish<'a>(
@@ -140,20 +129,5 @@ pub fn finish<'a>(
     let refused = first(v, refuse_if(busy, TOO_EARLY, 0));
     let mut after = v;
     after.queued = one_less(v.queued);
-    Plan {
-        refused,
-        after,
-        closing: v.queued,
-    }
-}
-
-// Closes the gap that the head of instance i's queue leaves among its n slots; for 0 nothing moves.
-pub fn close_head(queue: &mut [u8; 256], i: u8, n: u8)
-    ensures { λ r. ⌜ now (queue .exit) ≡ headless (now (queue .entry)) i n ⌝ }
-{
-    if n == 0 {
-        return;
-    }
-    let at = (i as usize) * 8;
-    close_gap(queue, at, at + n as usize);
+    plan(refused, after, v.queued)
 }

@@ -18,7 +18,8 @@ pub fn slot_at(queue: &[u8], at: usize) -> u8
     if at < queue.len() { queue[at] } else { 0 }
 }
 
-fn put_slot(queue: &mut [u8], at: usize, x: u8)
+// A slot past the last takes nothing.
+pub fn put_slot(queue: &mut [u8], at: usize, x: u8)
     ensures { λ r. ⌜ now (queue .exit) ≡ set (now (queue .entry)) at x ⌝ }
 {
     if at < queue.len() {

@@ -1,4 +1,5 @@
-pub mod Settled
 pub mod Ahead
-pub mod Once
 pub mod Moves
+pub mod Orders
+pub mod Comes
+pub mod Once

@@ -1,4 +1,4 @@
--- A move as its plan and its port check, and as a step of the walk.
+-- A move as its plan and its port check: as the code makes them of the lists that it is lent, and as the rules have them.
 -- Assumes nothing.
 use mathlib.Core.Path.{_≡_, refl, sym, ap, _∙_}
 use mathlib.Core.Bool.{Bool, true, false, true≢false, cond, not}
@@ -8,33 +8,58 @@ use Prim.Native.Nat.{ℕ, _*_, _<_}
 use native.Mathlib.Nat.{add-zero}
 use native.Mathlib.Omega.{arith}
 use native.Mathlib.Decide.{ℕ-discrete, decLt}
-use borrow.Author.Tests.{eq-eqb, ne-eqb}
 use lib.Dec.{eqb}
 use lib.ListN.{length, getD}
+use borrow.Author.Tests.{eq-eqb, ne-eqb}
 use Rattle.model.specs.declared.Tables.{Tables}
-use Rattle.model.specs.declared.Program.{Program}
 use Rattle.model.specs.declared.Instance.{Instance}
 use Rattle.model.specs.declared.Step.{Step}
 use Rattle.model.specs.declared.Configuration.{Configuration}
 use Rattle.model.specs.Empty.{absent}
 use Rattle.model.specs.Verb.{fireVerb, endVerb, enterVerb}
-use Rattle.model.specs.View.{typeOf, instance, put, withQueue}
+use Rattle.model.specs.View.{typeOf, instance, head, put, withQueue, withConnections}
 use Rattle.model.proofs.View.{past-end, put-same}
 use Rattle.rules.specs.Refusal.{orElse}
 use Rattle.rules.specs.Instance.{active, current, leaving, entering}
-use Rattle.rules.specs.Ports.{behavior, portCheck, failsUnserved, failsRefusing, failsInUse, someConnection, serves, blocks, employs, refusing, wouldLeave}
 use Rattle.rules.specs.Fire.{fireRow, fireCheck, fireTo}
 use Rattle.rules.specs.End.{endCheck, endTo}
 use Rattle.rules.specs.Enter.{enterRow, enterCheck, enterTo}
-use Rattle.rules.specs.Finish.{mayLeave, finishRow, finishCheck, finished}
 use Rattle.rules.specs.Action.{move, check, effect}
-use Rattle.rules.specs.Step.{step, number, after, action}
-use Rattle.moves.specs.declared.Plan.{Plan}
-use Rattle.moves.specs.Plans.{headless}
-use Rattle.walks.specs.Moved.{ends, planned, asksPorts, Moved}
-use Rattle.walks.specs.Taken.{nextTaken}
+use Rattle.rules.specs.Ports.{behavior, portCheck, failsUnserved, failsRefusing, failsInUse, someConnection, serves, blocks, employs, refusing, wouldLeave}
+use Rattle.rules.specs.Finish.{mayLeave, finishRow, finishCheck, finished}
 use Rattle.ports.specs.Rows.{rows}
 use Rattle.ports.specs.Tests.{portsCheck}
+use Rattle.plans.specs.declared.Plan.{Plan}
+use Rattle.plans.specs.Changes.{headless, changed}
+use Rattle.walks.specs.Plans.{ends, planned, asksPorts, movePlan}
+
+-- the plan with another number
+abbrev numbered : Plan → ℕ → Plan
+numbered r n = record { refused = n; after = r .after; slots = r .slots; joins = r .joins }
+
+module _ (t : Tables) (v : Instance) (head : ℕ) (s : Step) where
+  abbrev plan : Plan
+  plan = planned t v (current t v head) s
+
+  pub plan-is : (m : ℕ) (r : Plan) → m ≡ current (rows [] (t .behaviors) [] [] []) v head
+      → r ≡ planned (ends (t .transitions .source) (t .transitions .destination)) v m s → r ≡ plan
+  unfolding planned leaving entering finishRow mayLeave current
+  plan-is m r e f = rw (← e) f
+
+  module _ (c : Configuration) (n : ℕ) (r : Plan) (is : r ≡ plan) where
+    pub move-refused : r .refused ≢ 0 → r ≡ movePlan n t c v head s
+    unfolding movePlan
+    move-refused d = rw (← is, ne-eqb (r .refused) 0 d)
+
+    pub move-alone : r .refused ≡ 0 → asksPorts (s .verb) ≡ false → r ≡ movePlan n t c v head s
+    unfolding movePlan
+    move-alone z apart = rw (← is, eq-eqb (r .refused) 0 z, apart) (ap (numbered r) z)
+
+    pub move-asked : r .refused ≡ 0 → asksPorts (s .verb) ≡ true → (k : ℕ)
+        → k ≡ portsCheck n (rows (t .transitions .source) (t .behaviors) (t .ports .uses) (t .ports .places) (t .ports .transitions)) c (s .id) v (instance (put c (s .id) (r .after)) (s .id))
+        → numbered r k ≡ movePlan n t c v head s
+    unfolding movePlan portsCheck failsUnserved failsRefusing failsInUse someConnection serves blocks employs refusing wouldLeave leaving current active
+    move-asked z a k e = rw (← is, eq-eqb (r .refused) 0 z, a) (ap (numbered r) e)
 
 or-zero : (n : ℕ) → n ≡ orElse n 0
 or-zero n = by-cases (ℕ-discrete n 0) (λ e. rw (eq-eqb n 0 e) e) (λ d. rw (ne-eqb n 0 d))
@@ -46,24 +71,27 @@ first-passes true false rest e = (refl, refl)
 first-passes false empty rest e = absurd (omega arith)
 
 module _ (default : ℕ) (t : Tables) (c : Configuration) (s : Step) where
-  abbrev plan : Plan
-  plan = planned t (instance c (s .id)) (behavior t c (s .id)) s
+  abbrev own : Plan
+  own = plan t (instance c (s .id)) (getD (c .queue) (s .id * 8) 0) s
+
+  abbrev made : Plan
+  made = movePlan (typeOf t (instance c (s .id) .kind) .ports) t c (instance c (s .id)) (getD (c .queue) (s .id * 8) 0) s
 
   -- the number of the move: that of its row, then that of the ports where they are asked
-  pub plan-number : check default t c (move s)
-      ≡ orElse (plan .refused) (cond (asksPorts (s .verb)) (portCheck t c (s .id) (instance c (s .id)) (plan .after)) 0)
+  plan-number : check default t c (move s)
+      ≡ orElse (own .refused) (cond (asksPorts (s .verb)) (portCheck t c (s .id) (instance c (s .id)) (own .after)) 0)
   unfolding planned asksPorts move check fireCheck endCheck enterCheck finishCheck
   plan-number =
       by-cases (ℕ-discrete (s .verb) fireVerb)
-      (λ e. rw (eq-eqb _ _ e))
+      (λ e. rw (eq-eqb _ _ e, add-zero))
       (λ f. by-cases (ℕ-discrete (s .verb) endVerb)
       (λ e. rw (e) (or-zero _))
       (λ g. by-cases (ℕ-discrete (s .verb) enterVerb)
-      (λ e. rw (e))
-      (λ h. rw (ne-eqb _ _ f, ne-eqb _ _ g, ne-eqb _ _ h) (or-zero _))))
+      (λ e. rw (e, add-zero))
+      (λ h. rw (ne-eqb _ _ f, ne-eqb _ _ g, ne-eqb _ _ h, add-zero) (or-zero _))))
 
   -- where its row passes the instance is present and has a current behavior
-  plan-passes : plan .refused ≡ 0 → (instance c (s .id) .present ≡ true) × (eqb (instance c (s .id) .queued) 0 ≡ false)
+  plan-passes : own .refused ≡ 0 → (instance c (s .id) .present ≡ true) × (eqb (instance c (s .id) .queued) 0 ≡ false)
   unfolding planned fireRow enterRow finishRow
   plan-passes z =
       by-cases (ℕ-discrete (s .verb) fireVerb)
@@ -75,78 +103,34 @@ module _ (default : ℕ) (t : Tables) (c : Configuration) (s : Step) where
       (λ h. first-passes _ _ _ (rw (ne-eqb _ _ f, ne-eqb _ _ g, ne-eqb _ _ h) at z))))
 
   -- what it changes then
-  plan-changes : plan .refused ≡ 0
-      → effect t c (move s) ≡ put (withQueue c (headless (c .queue) (s .id) (plan .closing))) (s .id) (plan .after)
-  unfolding planned move effect fireTo endTo enterTo finished headless withQueue
+  plan-changes : own .refused ≡ 0 → effect t c (move s) ≡ changed c (s .id) own
+  unfolding planned move effect fireTo endTo enterTo finished changed headless withQueue withConnections
   plan-changes z =
       by-cases (ℕ-discrete (s .verb) fireVerb)
-      (λ e. rw (eq-eqb _ _ e))
+      (λ e. rw (eq-eqb _ _ e, add-zero))
       (λ f. by-cases (ℕ-discrete (s .verb) endVerb)
       (λ e. rw (e))
       (λ g. by-cases (ℕ-discrete (s .verb) enterVerb)
-      (λ e. rw (e))
+      (λ e. rw (e, add-zero))
       (λ h. rw (ne-eqb _ _ f, ne-eqb _ _ g, ne-eqb _ _ h, plan-passes z .1))))
 
-  plan-within : length (c .instances) ≡ 32 → plan .refused ≡ 0 → s .id < 32
-  plan-within full z =
-      by-cases (decLt (s .id) 32)
-      (λ h. h)
-      (λ h. absurd (true≢false (sym (plan-passes z .0) ∙ ap (λ (v : Instance). v .present) (past-end (c .instances) absent {n = 32} {i = s .id} full (omega arith)))))
+  module _ (full : length (c .instances) ≡ 32) where
+    plan-within : own .refused ≡ 0 → s .id < 32
+    plan-within z =
+        by-cases (decLt (s .id) 32)
+        (λ h. h)
+        (λ h. absurd (true≢false (sym (plan-passes z .0) ∙ ap (λ (v : Instance). v .present) (past-end (c .instances) absent {n = 32} {i = s .id} full (omega arith)))))
 
-  -- the plan as the code makes it, of the lists that it is lent
-  pub plan-is : (v : Instance) (h m : ℕ) (r : Plan) → v ≡ instance c (s .id) → h ≡ getD (c .queue) (s .id * 8) 0
-      → m ≡ current (rows [] (t .behaviors) [] [] []) v h → r ≡ planned (ends (t .transitions .source) (t .transitions .destination)) v m s
-      → r ≡ plan
-  unfolding planned leaving entering finishRow mayLeave current
-  plan-is v h m r a b d e = rw (add-zero (s .id * 8), ← b, ← a, ← d) e
+    pub move-number : made .refused ≡ check default t c (move s)
+    unfolding movePlan portsCheck portCheck
+    move-number =
+        by-cases (ℕ-discrete (own .refused) 0)
+        (λ z. rw (plan-number, eq-eqb (own .refused) 0 z, put-same c (s .id) (own .after) (rw full (plan-within z))))
+        (λ d. rw (plan-number, ne-eqb (own .refused) 0 d))
 
-  -- the port check as the code makes it
-  pub ports-are : (v w : Instance) (n r : ℕ) → v ≡ instance c (s .id) → s .id < length (c .instances) → n ≡ typeOf t (v .kind) .ports
-      → r ≡ portsCheck n (rows (t .transitions .source) (t .behaviors) (t .ports .uses) (t .ports .places) (t .ports .transitions)) c (s .id) v (instance (put c (s .id) w) (s .id))
-      → r ≡ portCheck t c (s .id) (instance c (s .id)) w
-  unfolding portsCheck portCheck failsUnserved failsRefusing failsInUse someConnection serves blocks employs refusing wouldLeave leaving current active
-  ports-are v w n r a h b e = e ∙ rw (put-same c (s .id) w h, b, a)
-
-  module _ (r : Plan) (is : r ≡ plan) where
-    pub moved-refused : r .refused ≢ 0 → Moved default t c s r
-    moved-refused d = record {
-      number = sym (plan-number ∙ rw (← is, ne-eqb (r .refused) 0 d));
-      within = λ z. absurd (d z);
-      changes = λ z. absurd (d z);
-    }
-
-    module _ (full : length (c .instances) ≡ 32) (z : r .refused ≡ 0) where
-      pub moved-within : s .id < 32
-      moved-within = plan-within full (rw is at z)
-
-      passes : effect t c (move s) ≡ put (withQueue c (headless (c .queue) (s .id) (r .closing))) (s .id) (r .after)
-      passes = rw is (plan-changes (rw is at z))
-
-      pub moved-alone : asksPorts (s .verb) ≡ false → Moved default t c s r
-      moved-alone apart = record {
-        number = sym (plan-number ∙ rw (← is, eq-eqb (r .refused) 0 z, apart) (sym z));
-        within = λ _. moved-within;
-        changes = λ _. passes;
-      }
-
-      pub moved-asked : asksPorts (s .verb) ≡ true → (n : ℕ) → n ≡ portCheck t c (s .id) (instance c (s .id)) (r .after)
-          → Moved default t c s (record { refused = n; after = r .after; closing = r .closing })
-      moved-asked asked n e = record {
-        number = sym (plan-number ∙ rw (← is, eq-eqb (r .refused) 0 z, asked) (sym e));
-        within = λ _. moved-within;
-        changes = λ _. passes;
-      }
-
-pub next-step : (default : ℕ) (t : Tables) (p : Program) (c : Configuration) (s : Step) → s .verb ≡ 0 → nextTaken default t p c ≡ step default t p c s
-unfolding step number after action nextTaken
-next-step default t p c s e = rw (e)
-
-module _ (default : ℕ) (t : Tables) (p : Program) (c : Configuration) (s : Step) (r : Plan) (other : s .verb ≢ 0) (is : Moved default t c s r) where
-  pub move-refused : r .refused ≢ 0 → record { refused = r .refused; configuration = c } ≡ step default t p c s
-  unfolding step number after action
-  move-refused d = rw (ne-eqb (s .verb) 0 other, ← is .number, ne-eqb (r .refused) 0 d)
-
-  pub move-allowed : r .refused ≡ 0
-      → record { refused = 0; configuration = put (withQueue c (headless (c .queue) (s .id) (r .closing))) (s .id) (r .after) } ≡ step default t p c s
-  unfolding step number after action
-  move-allowed e = rw (ne-eqb (s .verb) 0 other, ← is .number, eq-eqb (r .refused) 0 e, is .changes e)
+    pub move-changes : made .refused ≡ 0 → effect t c (move s) ≡ changed c (s .id) made
+    unfolding movePlan changed
+    move-changes e =
+        by-cases (ℕ-discrete (own .refused) 0)
+        plan-changes
+        (λ d. absurd (d (rw (ne-eqb (own .refused) 0 d) at e)))

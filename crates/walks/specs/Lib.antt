@@ -1,3 +1,2 @@
--- What an action answers, what `next` answers, and what a move comes to.
-pub mod Taken
-pub mod Moved
+-- What a step comes to.
+pub mod Plans

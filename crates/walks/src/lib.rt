@@ -1,15 +1,10 @@
 // One step by its verb, and the walk of an answer, to its end or to the first step that the rules forbid.
 // Promised: both are those of rules/specs for every table, program, configuration and answer, past the ends of arrays too.
-use instructions::add;
-use instructions::con;
-use instructions::dcon;
-use instructions::del;
-use instructions::pushb;
-use instructions::wait;
+mod steps;
+
 use model::Answer;
 use model::ComponentType;
 use model::Configuration;
-use model::Connection;
 use model::Instance;
 use model::Instruction;
 use model::Program;
@@ -19,179 +14,72 @@ use model::Tables;
 use model::Walked;
 use model::no_instance;
 use model::no_instruction;
+use model::no_type;
 use model::start;
-use model::wide;
-use moves::Plan;
-use moves::close_head;
-use moves::end;
-use moves::enter;
-use moves::finish;
-use moves::fire;
+use plans::changes_list;
+use plans::join;
+use plans::turn_slots;
 use ports::gap::slot_at;
-use ports::instance::current;
-use ports::port_check;
+use steps::plan_step;
+ghost use mathlib.Core.Bool.{cond};
 ghost use mathlib.Core.Path.{_≡_};
-ghost use Prim.Native.Nat.{ℕ, min};
-ghost use lib.ListN.{getD};
-ghost use Rattle.model.specs.Empty.{noType, noInstruction};
+ghost use Prim.Native.Nat.{_≤_, _<_, min};
+ghost use lib.Dec.{eqb, ltb};
+ghost use Rattle.model.specs.Empty.{noType, noInstruction, absent};
 ghost use Rattle.model.specs.View.{stepsOf};
-ghost use Rattle.rules.specs.Action.{instruction};
 ghost use Rattle.rules.specs.Step.{step};
 ghost use Rattle.rules.specs.Walk.{walk, walkAnswer};
-ghost use Rattle.walks.specs.Taken.{taken, nextTaken};
-ghost use Rattle.walks.specs.Moved.{ends, whole, planned, asksPorts, Moved};
+ghost use Rattle.walks.specs.Plans.{actor, doneAfter};
 
-const NO_INSTRUCTION_LEFT: u8 = 10;
-
-// Which rule an instruction is, by its verb; an unknown one counts as the last.
-fn instruct(default: u8, t: Tables, c: Configuration, n: Instruction) -> Stepped
-    ensures { λ r. ⌜ r ≡ taken default t c (instruction n) ⌝ }
+fn smaller(a: usize, b: usize) -> usize
+    ensures value { λ r. ⌜ r ≡ min a b ⌝ }
+    ensures small { λ r. ⌜ r ≤ b ⌝ }
 {
-    let k = Connection {
-        user: n.id,
-        useport: n.number,
-        provider: n.provider,
-        provideport: n.provideport,
-    };
-    let i = wide(n.id);
-    let verb = n.verb;
-    match verb {
-        0 => add(t, c, i, n.number),
-        1 => del(c, i),
-        2 => pushb(default, t, c, i, n.number),
-        3 => con(t, c, k),
-        4 => dcon(t, c, k),
-        _ => wait(c, i),
-    }
+    if a < b { a } else { b }
 }
 
-// Which rule a move is, by its verb: v is its instance and m the current behavior.
-fn plan_of<'a>(
-    source: &'a [u8; 512],
-    destination: &'a [u8; 512],
-    places: &'a [u32; 256],
-    transitions: &'a [u32; 256],
-    v: Instance,
-    m: u32,
-    s: Step,
-) -> Plan
-    ensures { λ r. ⌜ r ≡ planned (ends (now (source .entry)) (now (destination .entry))) v m s ⌝ }
+// What stands at number i of a list: what was read there, or nothing where i lies past the last and the last was read in its place.
+fn type_in(i: u8, kind: ComponentType) -> ComponentType
+    ensures { λ r. ⌜ r ≡ cond (ltb i 16) kind noType ⌝ }
 {
-    let verb = s.verb;
-    match verb {
-        1 => fire(source, v, m, s.number),
-        2 => end(v, s.number),
-        3 => enter(destination, v, m, s.number),
-        _ => finish(source, places, transitions, v, m),
-    }
+    if i < 16 { kind } else { no_type() }
 }
 
-fn ports_of(types: [ComponentType; 16], k: u8) -> u8
-    ensures { λ r. ⌜ r ≡ getD types k noType .ports ⌝ }
+fn instance_in(i: u8, v: Instance) -> Instance
+    ensures { λ r. ⌜ r ≡ cond (ltb i 32) v absent ⌝ }
 {
-    let at = k as usize;
-    if at < 16 {
-        let kind = types[at];
-        return kind.ports;
-    }
-    0
+    if i < 32 { v } else { no_instance() }
 }
 
-// fire and enter
-fn asks_ports(verb: u8) -> bool
-    ensures { λ r. ⌜ r ≡ asksPorts verb ⌝ }
+fn instruction_in(i: usize, n: Instruction) -> Instruction
+    ensures { λ r. ⌜ r ≡ cond (ltb i 256) n noInstruction ⌝ }
 {
-    (verb == 1) | (verb == 3)
+    if i < 256 { n } else { no_instruction() }
 }
 
-// A move of the configuration c: only fire and enter ask the ports.
-fn make_move<'a>(
-    types: [ComponentType; 16],
-    source: &'a [u8; 512],
-    destination: &'a [u8; 512],
-    behaviors: &'a [u32; 128],
-    uses: &'a [u8; 256],
-    places: &'a [u32; 256],
-    transitions: &'a [u32; 256],
-    c: Configuration,
-    s: Step,
-) -> Plan
-    ensures { λ r. ⌜ ((default depth count : ℕ) → Moved default (whole depth count types (now (source .entry)) (now (destination .entry)) (now (behaviors .entry)) (now (uses .entry)) (now (places .entry)) (now (transitions .entry))) c s r) ⌝ }
+// The instance that a step names: `next` names that of the instruction which is due.
+fn actor(s: Step, due: Instruction) -> u8
+    ensures { λ r. ⌜ r ≡ actor s due ⌝ }
 {
-    let id = s.id as usize;
-    let v = if id < 32 {
-        c.instances[id]
-    } else {
-        no_instance()
-    };
-    let head = slot_at(&c.queue, id * 8);
-    let m = current(behaviors, v, head);
-    let plan = plan_of(source, destination, places, transitions, v, m, s);
-    if plan.refused != 0 {
-        return plan;
-    }
-    if !asks_ports(s.verb) {
-        return plan;
-    }
-    let n = ports_of(types, v.kind);
-    let after = plan.after;
-    let refused = port_check(
-        n,
-        source,
-        behaviors,
-        uses,
-        places,
-        transitions,
-        c,
-        s.id,
-        v,
-        after,
-    );
-    Plan {
-        refused,
-        after,
-        closing: plan.closing,
-    }
+    if s.verb == 0 { due.id } else { s.id }
 }
 
-fn instruction_at(p: Program, n: usize) -> Instruction
-    ensures { λ r. ⌜ r ≡ getD (p .instructions) n noInstruction ⌝ }
+// One more after a `next` that had an instruction left.
+fn done_after(s: Step, done: usize, count: usize) -> usize
+    ensures { λ r. ⌜ r ≡ doneAfter s done count ⌝ }
 {
-    if n < 256 {
-        p.instructions[n]
-    } else {
-        no_instruction()
+    if s.verb != 0 {
+        return done;
     }
+    if done < count { done + 1 } else { done }
 }
 
-// The instruction that is due, which counts as done where it is allowed.
-fn take_next(default: u8, t: Tables, p: Program, c: Configuration) -> Stepped
-    ensures { λ r. ⌜ r ≡ nextTaken default t p c ⌝ }
+// How many behaviors a queue may hold: 0 stands for the default.
+fn depth_of(default: u8, depth: u8) -> u8
+    ensures value { λ r. ⌜ r ≡ cond (eqb depth 0) default depth ⌝ }
+    ensures small { λ r. ⌜ r < 256 ⌝ }
 {
-    let done = c.done;
-    if p.count <= done {
-        return Stepped {
-            refused: NO_INSTRUCTION_LEFT,
-            configuration: c,
-        };
-    }
-    let m = instruct(default, t, c, instruction_at(p, done));
-    if m.refused != 0 {
-        return m;
-    }
-    let mut after = m.configuration;
-    after.done = done + 1;
-    Stepped {
-        refused: 0,
-        configuration: after,
-    }
-}
-
-// How many steps an answer has: a lent count may go past the array, where no step stands.
-fn within_array(count: usize) -> usize
-    ensures { λ r. ⌜ r ≡ min count 1024 ⌝ }
-{
-    if count < 1024 { count } else { 1024 }
+    if depth == 0 { default } else { depth }
 }
 
 fn reached(accepted: usize, refused: u8, configuration: Configuration) -> Walked
@@ -204,43 +92,64 @@ fn reached(accepted: usize, refused: u8, configuration: Configuration) -> Walked
     }
 }
 
-// The walk of an answer from a configuration. A move changes the configuration in place: to hand it on would be to copy it.
+// The walk of an answer from a configuration. A step changes the configuration in place: to hand it on would be to copy it.
 pub fn walk(default: u8, t: Tables, p: Program, c: Configuration, a: Answer) -> Walked
     ensures { λ r. ⌜ r ≡ walk default t p c (stepsOf a) ⌝ }
 {
-    let n = within_array(a.count);
+    let n = smaller(a.count, 1024);
+    let depth = depth_of(default, t.depth);
     let types = t.types;
     let mut now = c;
     let mut i: usize = 0;
     while i < n {
         let s = a.steps[i];
-        if s.verb == 0 {
-            let m = take_next(default, t, p, now);
-            // a refused step gives back the configuration that it was given
-            now = m.configuration;
-            if m.refused != 0 {
-                return reached(i, m.refused, now);
-            }
-        } else {
-            let plan = make_move(
-                types,
-                &t.transitions.source,
-                &t.transitions.destination,
-                &t.behaviors,
-                &t.ports.uses,
-                &t.ports.places,
-                &t.ports.transitions,
-                now,
-                s,
-            );
-            if plan.refused != 0 {
-                return reached(i, plan.refused, now);
-            }
-            close_head(&mut now.queue, s.id, plan.closing);
-            let at = s.id as usize;
+        let done = now.done;
+        let due = instruction_in(done, p.instructions[smaller(done, 255)]);
+        let id = actor(s, due);
+        let at = id as usize;
+        let v = instance_in(id, now.instances[smaller(at, 31)]);
+        let w = instance_in(
+            due.provider,
+            now.instances[smaller(due.provider as usize, 31)],
+        );
+        let kind = type_in(v.kind, t.types[smaller(v.kind as usize, 15)]);
+        let head = slot_at(&now.queue, at * 8);
+        let plan = plan_step(
+            depth,
+            types,
+            kind,
+            &t.transitions.source,
+            &t.transitions.destination,
+            &t.behaviors,
+            &t.ports.uses,
+            &t.ports.places,
+            &t.ports.transitions,
+            now,
+            s,
+            done < p.count,
+            due,
+            v,
+            w,
+            head,
+        );
+        if plan.refused != 0 {
+            return reached(i, plan.refused, now);
+        }
+        let slots = plan.slots;
+        turn_slots(&mut now.queue, id, slots);
+        if at < 32 {
             let after = plan.after;
             now.instances[at] = after;
         }
+        let joins = plan.joins;
+        if changes_list(joins) {
+            let ks = now.connections;
+            let list = join(ks, now.count, joins);
+            let connections = list.connections;
+            now.connections = connections;
+            now.count = list.count;
+        }
+        now.done = done_after(s, done, p.count);
         i += 1;
     }
     reached(i, 0, now)

@@ -6,13 +6,14 @@ use Rattle.moves.proofs.enter.Tie as tie
 returns : tie.Need-returns
 unfolding enterRow
 returns c =
-    let w = c .before .before .before in
+    let d = c .before in
+    let w = d .before .before .before in
     let m = w .before in
-    rw (← m .before .ending-at .ensures, ← c .entered .ensures, ← m .member .ensures, ← w .within .ensures, ← c .before .before .row .ensures, ← c .before .first .ensures)
+    rw (← m .before .ending-at .ensures, ← d .entered .ensures, ← m .member .ensures, ← w .within .ensures, ← d .before .before .row .ensures, ← d .before .first .ensures) (c .plan .ensures)
 
 pub enter-spec : {M : Type 1} → statement M
 enter-spec =
     tie.close
     (tie.spec
     (λ c κs. search needs) (λ c κs. search needs) (λ c κs. search needs) (λ c κs. search needs) (λ c κs. search needs) (λ c κs. search needs)
-    returns)
+    (λ c κs. search needs) returns)

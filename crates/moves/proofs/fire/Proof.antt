@@ -6,13 +6,14 @@ use Rattle.moves.proofs.fire.Tie as tie
 returns : tie.Need-returns
 unfolding fireRow
 returns c =
-    let h = c .before .before .before in
+    let d = c .before in
+    let h = d .before .before .before in
     let m = h .before .before in
-    rw (← m .before .ending-at .ensures, ← c .fired .ensures, ← m .member .ensures, ← h .before .held .ensures, ← h .overlaps .ensures, ← c .before .before .row .ensures, ← c .before .first .ensures)
+    rw (← m .before .ending-at .ensures, ← d .fired .ensures, ← m .member .ensures, ← h .before .held .ensures, ← h .overlaps .ensures, ← d .before .before .row .ensures, ← d .before .first .ensures) (c .plan .ensures)
 
 pub fire-spec : {M : Type 1} → statement M
 fire-spec =
     tie.close
     (tie.spec
     (λ c κs. search needs) (λ c κs. search needs) (λ c κs. search needs) (λ c κs. search needs) (λ c κs. search needs) (λ c κs. search needs)
-    (λ c κs. search needs) returns)
+    (λ c κs. search needs) (λ c κs. search needs) returns)

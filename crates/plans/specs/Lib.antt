@@ -1,0 +1,2 @@
+-- What a plan changes.
+pub mod Changes

@@ -1,0 +1,14 @@
+use mathlib.Core.Path.{sym, _∙_}
+use borrow.Author.Needs.{needs}
+use Rattle.model.specs.Empty.{noType}
+use Rattle.model.proofs.View.{past-end}
+use Rattle.walks.proofs.steps.type_at.Statement.{statement}
+use Rattle.walks.proofs.steps.type_at.Tie as tie
+
+returns-2 : tie.Need-returns-2
+returns-2 c =
+    let s = c .before .before in
+    c .no-type .ensures ∙ sym (past-end (s .args .t1) noType (s .good .0 .1 .0 .1) (c .before .if1 .left))
+
+pub type-at-spec : {M : Type 1} → statement M
+type-at-spec = tie.close (tie.spec (λ c. search needs) (λ c. search needs) (λ c κs. search needs) (λ c. search needs) returns-2)
