@@ -1,94 +1,112 @@
--- The rows of a type by their kind are those of its definition, and the two halves of a sheet are the sheet.
+-- The rows of a type are those of its definition, its lines by what they fill are the type, and the two halves of a sheet are the sheet.
 -- Assumes nothing.
-use Prim.Native.Nat.{ℕ, _+_, _*_, _<_, _≤_}
+use Prim.Native.Nat.{ℕ, _*_}
 use mathlib.Core.List.{List}
-use mathlib.Core.Path.{_≡_, refl, sym, ap, _∙_}
-use native.Mathlib.Omega.{arith}
-use lib.ListN.{set}
-use Rattle.forms.specs.Reader.{Reply, got, refused, bind, bytes}
+use mathlib.Core.Path.{_≡_, refl, sym, ap, _∙_, fun-ext}
+use lib.ListN.{drop, set}
+use Rattle.forms.specs.Reader.{Reply, Reader, got, refused, bind, bytes}
 use Rattle.forms.specs.Reader as reader
 use Rattle.model.specs.declared.ComponentType.{ComponentType}
 use Rattle.model.specs.declared.Transitions.{Transitions}
 use Rattle.model.specs.declared.Ports.{Ports}
-use Rattle.reading.specs.Limits.{depthOk, typesOk, programOk}
+use Rattle.model.specs.declared.Tables.{Tables}
+use Rattle.reading.specs.Limits.{depthOk, typesOk, placesOk, transitionsOk, behaviorsOk, portsOk, programOk}
 use Rattle.reading.specs.Lines.{Run, Lines, next, give, lineOf, line, each, atEnd}
-use Rattle.reading.specs.Kinds.{dueLine, countLine, tranLine, behaviorLine, portLine}
+use Rattle.reading.specs.Kinds.{dueLine, countLine, initialLine, tranLine, behaviorLine, portLine}
 use Rattle.reading.specs.Fill.{headed, withTransition, withPort, withType, programOf}
 use Rattle.reading.specs.Texts.{tran, behavior, port, type, instruct, sheet}
-use Rattle.lines.specs.Counts.{limitOk, greatest}
-use Rattle.lines.proofs.Runs.{next-same, next-next, each-seen}
+use Rattle.texts.specs.Reads.{past, Reads}
+use Rattle.lines.specs.declared.Went.{Went}
+use Rattle.lines.specs.declared.Went.the-variants.{Stop}
+use Rattle.lines.specs.Runs.{RunsTo}
+use Rattle.lines.proofs.Runs.{filling, line-then, run-refused, run-seen, next-same, next-next}
 use Rattle.sheet_lines.specs.declared.Row.{Row}
-use Rattle.sheet_lines.specs.declared.Rows.{Rows}
 use Rattle.sheet_lines.specs.declared.Rows.the-variants as rows
 use Rattle.sheet_lines.specs.Rows.{rowLine}
-use Rattle.sheets.specs.declared.Filled.{Filled}
-use Rattle.sheets.specs.Filled.{transitionsOf, portsOf, tablesOf, fill, slots, perType, rowsKey, rowsLimit, row, rowsOf}
-use Rattle.sheets.specs.Onward.{fromPorts, fromBehaviors, fromRows, tablesRun, programRun}
+use Rattle.sheets.specs.Filled.{endsOf, portsOf, Filled, filledOf, put}
+use Rattle.sheets.specs.Onward.{transitionRows, behaviorRows, portRows, fromRows, typeHead, typeRun, typesRun, tablesRun, programRun}
 
--- the slots of a type lie within those of all types
-pub rows-fit : (r : Rows) (i n : ℕ) → i < 16 → n ≤ greatest (rowsLimit r) → i * perType r + n ≤ slots r
-rows-fit rows.Transitions i n h l = omega arith
-rows-fit rows.Behaviors i n h l = omega arith
-rows-fit rows.Ports i n h l = omega arith
+-- row j of a kind, counted over all types
+abbrev pub putTransition : Transitions → ℕ → Row → Transitions
+putTransition xs j x = endsOf (set (xs .source) j (x .source)) (set (xs .destination) j (x .destination))
 
-pub slots-few : (r : Rows) → slots r ≤ 512
-slots-few rows.Transitions = omega arith
-slots-few rows.Behaviors = omega arith
-slots-few rows.Ports = omega arith
+abbrev pub putBehavior : List ℕ → ℕ → Row → List ℕ
+putBehavior bs j x = set bs j (x .transitions)
 
-pub rows-few : (r : Rows) → greatest (rowsLimit r) ≤ 32
-rows-few rows.Transitions = omega arith
-rows-few rows.Behaviors = omega arith
-rows-few rows.Ports = omega arith
+abbrev pub putPort : Ports → ℕ → Row → Ports
+putPort qs j x = portsOf (set (qs .uses) j (x .uses)) (set (qs .places) j (x .places)) (set (qs .transitions) j (x .transitions))
 
 -- a line of which x was replied, and the row k of its value: it fills what the value fills
-row-made : {A X : Type 0} (x : Reply A) (s : List ℕ) (k : A → Row) (put : Row → Filled) (made : A → X) (h : X → Filled) → ((a : A) → put (k a) ≡ h (made a))
-    → next (lineOf (bind x (λ a. reader.give (k a))) s) (λ r. give (put r)) ≡ next (next (lineOf x s) (λ a. give (made a))) (λ y. give (h y))
-row-made (got a r) s k put made h e = ap (λ (f : Filled). give f r) (e a)
-row-made (refused n) s k put made h e = refl
+row-made : {A X : Type 0} (x : Reply A) (s : List ℕ) (k : A → Row) (fill : Row → X) (made : A → X) → ((a : A) → made a ≡ fill (k a))
+    → next (lineOf x s) (λ a. give (made a)) ≡ next (lineOf (bind x (λ a. reader.give (k a))) s) (λ r. give (fill r))
+row-made {X = X} (got a r) s k fill made e = ap (λ (y : X). give y r) (e a)
+row-made (refused n) s k fill made e = refl
 
--- what is read of the rows of a kind, then on with f: as many lines of that kind, seen through what they fill
-module _ (r : Rows) (c : ComponentType) (i : ℕ) (f : Filled) {X Y : Type 0} (lines : ℕ → ℕ → Lines Y) (h : Y → Filled) (on : ℕ → Filled → Lines X)
-    (seen : (n j : ℕ) (s : List ℕ) → each (row r c) n j f s ≡ next (lines n j s) (λ y. give (h y))) (s : List ℕ) where
-  kind-then : next (line (countLine (rowsKey r) (limitOk (rowsLimit r))) s) (λ n q. next (lines n (i * perType r) q) (λ y. on n (h y)))
-      ≡ next (rowsOf r c i f s) (λ p. on (p .0) (p .1))
-  unfolding rowsOf
-  kind-then =
+module _ (c : ComponentType) where
+  pub transition-row : tran (c .places) ≡ filling (rowLine rows.Transitions c) putTransition
+  unfolding tran rowLine withTransition
+  transition-row = fun-ext (λ j. fun-ext (λ xs. fun-ext (λ s. row-made (tranLine (c .places) s) s _ _ _ (λ a. refl))))
+
+  pub behavior-row : behavior (c .transitions) ≡ filling (rowLine rows.Behaviors c) putBehavior
+  unfolding behavior rowLine
+  behavior-row = fun-ext (λ j. fun-ext (λ bs. fun-ext (λ s. row-made (behaviorLine (c .transitions) s) s _ _ _ (λ a. refl))))
+
+  pub port-row : port (c .places) (c .transitions) (c .initial) ≡ filling (rowLine rows.Ports c) putPort
+  unfolding port rowLine withPort
+  port-row = fun-ext (λ j. fun-ext (λ qs. fun-ext (λ s. row-made (portLine (c .places) (c .transitions) (c .initial) s) s _ _ _ (λ a. refl))))
+
+-- the count n of rows was read, and then as many rows, or up to a refusal
+module _ {A : Type 0} (x : Reply ℕ) (t : List ℕ) {row : ℕ → A → Lines A} (m : Reader Row) (fill : A → ℕ → Row → A) (e : row ≡ filling m fill) (base : ℕ) (old : A)
+    {s : List ℕ} {n start : ℕ} (h : Reads s (past n start) x) {w : Went} {at : ℕ} where
+  pub rows-read : {b : A} → RunsTo s w at b (each (filling m fill) n base old (drop start s))
+      → RunsTo {A = ℕ × A} s w at (n, b) (next (lineOf x t) (λ k q. next (each row k base old q) (λ ys. give (k, ys))))
+  rows-read {b = b} r = let g : RunsTo s w at b (each row n base old (drop start s)) = rw e r in line-then x t _ h (run-seen (λ ys. (n, ys)) _ g)
+
+  pub rows-refused : {k : ℕ} {c : ℕ × A} → RunsTo s w at old (each (filling m fill) n base old (drop start s)) → w ≡ Stop k
+      → RunsTo {A = ℕ × A} s w at c (next (lineOf x t) (λ k q. next (each row k base old q) (λ ys. give (k, ys))))
+  rows-refused r p = let g : RunsTo s w at old (each row n base old (drop start s)) = rw e r in line-then x t _ h (run-refused _ _ g p)
+
+-- how many rows, and as many, then on with h
+counted-then : {A B : Type 0} (x : Run ℕ) (read : ℕ → Lines A) (h : ℕ × A → Lines B)
+    → next (next x (λ k r. next (read k r) (λ ys. give (k, ys)))) h ≡ next x (λ k r. next (read k r) (λ ys. h (k, ys)))
+counted-then x read h = next-next x _ _ ∙ next-same x _ _ (λ k r. next-next (read k r) _ _)
+
+-- the lines of a type, by what they fill
+module _ (i : ℕ) (t : Tables) where
+  rows-then : (n m : ℕ) (s : List ℕ) → next (fromRows i (record { places = n; initial = m; transitions = 0; behaviors = 0; ports = 0 }) (filledOf t) s) (λ x. give (put t i x))
+      ≡ next (line (countLine (bytes "transitions=") transitionsOk) s) (λ k r. next (each (tran n) k (i * 32) (t .transitions) r) (λ xs r.
+      next (line (countLine (bytes "behaviors=") behaviorsOk) r) (λ b r. next (each (behavior k) b (i * 8) (t .behaviors) r) (λ bs r.
+      next (line (countLine (bytes "ports=") portsOk) r) (λ p r. next (each (port n k m) p (i * 16) (t .ports) r) (λ qs.
+      give (withType t i (record { places = n; initial = m; transitions = k; behaviors = b; ports = p }) xs bs qs)))))))
+  unfolding fromRows transitionRows behaviorRows portRows
+  rows-then n m s =
+      next-next (transitionRows i (record { places = n; initial = m; transitions = 0; behaviors = 0; ports = 0 }) (t .transitions) s) _ _
+      ∙ counted-then (line (countLine (bytes "transitions=") transitionsOk) s) (λ k. each (tran n) k (i * 32) (t .transitions)) _
+      ∙ next-same (line (countLine (bytes "transitions=") transitionsOk) s) _ _ (λ k r. next-same (each (tran n) k (i * 32) (t .transitions) r) _ _ (λ xs r.
+      next-next (behaviorRows i (record { places = n; initial = m; transitions = k; behaviors = 0; ports = 0 }) (t .behaviors) r) _ _
+      ∙ counted-then (line (countLine (bytes "behaviors=") behaviorsOk) r) (λ b. each (behavior k) b (i * 8) (t .behaviors)) _
+      ∙ next-same (line (countLine (bytes "behaviors=") behaviorsOk) r) _ _ (λ b r. next-same (each (behavior k) b (i * 8) (t .behaviors) r) _ _ (λ bs r.
+      next-next (portRows i (record { places = n; initial = m; transitions = k; behaviors = b; ports = 0 }) (t .ports) r) _ _
+      ∙ counted-then (line (countLine (bytes "ports=") portsOk) r) (λ p. each (port n k m) p (i * 16) (t .ports)) _))))
+
+  pub type-lines : (s : List ℕ) → type i t s ≡ next (typeRun i (filledOf t) s) (λ x. give (put t i x))
+  unfolding type typeRun typeHead
+  type-lines s =
       sym
-      (next-next (line (countLine (rowsKey r) (limitOk (rowsLimit r))) s) _ _
-      ∙ next-same (line (countLine (rowsKey r) (limitOk (rowsLimit r))) s) _ _ (λ n q.
-      next-next (each (row r c) n (i * perType r) f q) _ _
-      ∙ ap (λ (x : Run Filled). next x (λ g. on n g)) (seen n (i * perType r) q)
-      ∙ next-next (lines n (i * perType r) q) _ _))
+      (next-next (typeHead i s) _ _
+      ∙ next-next (line (dueLine (bytes "type=") i) s) _ _
+      ∙ next-same (line (dueLine (bytes "type=") i) s) _ _ (λ _ r.
+      next-next (line (countLine (bytes "places=") placesOk) r) _ _
+      ∙ next-same (line (countLine (bytes "places=") placesOk) r) _ _ (λ n r.
+      next-next (line (initialLine n) r) _ _
+      ∙ next-same (line (initialLine n) r) _ _ (λ m r. rows-then n m r))))
 
-module _ (i : ℕ) (f : Filled) (c : ComponentType) (s : List ℕ) where
-  pub transitions-then : fromRows i (tablesOf f) c s
-      ≡ next (rowsOf rows.Transitions c i f s) (λ p. fromBehaviors i (tablesOf (p .1)) (record { places = c .places; initial = c .initial; transitions = p .0; behaviors = c .behaviors; ports = c .ports }))
-  unfolding fromRows tran row rowLine withTransition
-  transitions-then =
-      kind-then rows.Transitions c i f (λ n j. each (tran (c .places)) n j (transitionsOf f)) (λ xs. fill f (f .types) xs (f .behaviors) (portsOf f)) _
-      (λ n j q. each-seen (λ xs. fill f (f .types) xs (f .behaviors) (portsOf f)) (tran (c .places)) (row rows.Transitions c)
-      (λ y xs t. row-made (tranLine (c .places) t) t _ _ _ _ (λ a. refl)) n j (transitionsOf f) q) s
-
-  pub behaviors-then : fromBehaviors i (tablesOf f) c s
-      ≡ next (rowsOf rows.Behaviors c i f s) (λ p. fromPorts i (tablesOf (p .1)) (record { places = c .places; initial = c .initial; transitions = c .transitions; behaviors = p .0; ports = c .ports }))
-  unfolding fromBehaviors behavior row rowLine
-  behaviors-then =
-      kind-then rows.Behaviors c i f (λ n j. each (behavior (c .transitions)) n j (f .behaviors)) (λ bs. fill f (f .types) (transitionsOf f) bs (portsOf f)) _
-      (λ n j q. each-seen (λ bs. fill f (f .types) (transitionsOf f) bs (portsOf f)) (behavior (c .transitions)) (row rows.Behaviors c)
-      (λ y bs t. row-made (behaviorLine (c .transitions) t) t _ _ _ _ (λ a. refl)) n j (f .behaviors) q) s
-
-  pub ports-then : fromPorts i (tablesOf f) c s
-      ≡ next (rowsOf rows.Ports c i f s) (λ p. give (tablesOf (fill (p .1) (set (p .1 .types) i (record { places = c .places; initial = c .initial; transitions = c .transitions; behaviors = c .behaviors; ports = p .0 })) (transitionsOf (p .1)) (p .1 .behaviors) (portsOf (p .1)))))
-  unfolding fromPorts port row rowLine withPort withType
-  ports-then =
-      kind-then rows.Ports c i f (λ n j. each (port (c .places) (c .transitions) (c .initial)) n j (portsOf f)) (λ qs. fill f (f .types) (transitionsOf f) (f .behaviors) qs) _
-      (λ n j q. each-seen (λ qs. fill f (f .types) (transitionsOf f) (f .behaviors) qs) (port (c .places) (c .transitions) (c .initial)) (row rows.Ports c)
-      (λ y qs t. row-made (portLine (c .places) (c .transitions) (c .initial) t) t _ _ _ _ (λ a. refl)) n j (portsOf f) q) s
+  pub type-read : (q : List ℕ) {s : List ℕ} {w : Went} {to : ℕ} {x : ComponentType × Filled} → RunsTo s w to x (typeRun i (filledOf t) q) → RunsTo s w to (put t i x) (type i t q)
+  type-read q r = rw (type-lines q) (run-seen (put t i) _ r)
 
 -- the two halves of a sheet
 pub halves : (s : List ℕ) → sheet s ≡ next (tablesRun s) (λ x r. next (programRun (x .0) r) (λ p. give (x .1, p)))
-unfolding sheet tablesRun programRun
+unfolding sheet tablesRun typesRun programRun
 halves s =
     sym
     (next-next (line (dueLine (bytes "sheet=") 1) s) _ _

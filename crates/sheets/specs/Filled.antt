@@ -1,103 +1,69 @@
--- The tables with all arrays side by side, and the rows of a type by their kind.
-use Prim.Native.Nat.{ℕ, _*_}
+-- The lent arrays as the groups of the tables that they fill, and what is answered beside a refusal.
+use Prim.Native.Nat.{ℕ}
 use mathlib.Core.List.{List}
 use lib.ListN.{replicate, set}
-use Rattle.forms.specs.Reader.{bytes}
+use denote.Ref.{RefT, now}
 use Rattle.model.specs.declared.ComponentType.{ComponentType}
 use Rattle.model.specs.declared.Transitions.{Transitions}
 use Rattle.model.specs.declared.Ports.{Ports}
 use Rattle.model.specs.declared.Tables.{Tables}
-use Rattle.model.specs.Empty.{noType}
-use Rattle.reading.specs.Lines.{Lines, _>>=_, give, line, each}
-use Rattle.reading.specs.Kinds.{countLine}
-use Rattle.lines.specs.declared.Limit.{Limit}
-use Rattle.lines.specs.declared.Limit.the-variants as limit
-use Rattle.lines.specs.declared.Went.the-variants.{Stop}
-use Rattle.lines.specs.Counts.{limitOk}
-use Rattle.sheet_lines.specs.declared.Row.{Row}
-use Rattle.sheet_lines.specs.declared.Rows.{Rows}
-use Rattle.sheet_lines.specs.declared.Rows.the-variants as rows
-use Rattle.sheet_lines.specs.Rows.{rowLine}
-use Rattle.sheets.specs.declared.Filled.{Filled}
-use Rattle.sheets.specs.declared.CountedRead.{CountedRead}
+use Rattle.model.specs.Empty.{noType, noTables}
+use Rattle.reading.specs.Lines.{each}
+use Rattle.reading.specs.Fill.{withType}
+use Rattle.reading.specs.Texts.{type}
+use Rattle.lines.specs.declared.Went.the-variants.{On, Stop}
+use Rattle.lines.specs.Runs.{RunsTo}
+use Rattle.sheets.specs.declared.TypeRead.{TypeRead}
+use Rattle.sheets.specs.declared.RowsRead.{RowsRead}
+use Rattle.sheets.specs.declared.TypesRead.{TypesRead}
+use Rattle.sheets.specs.declared.TablesRead.{TablesRead}
 
-abbrev pub transitionsOf : Filled → Transitions
-transitionsOf f = record { source = f .source; destination = f .destination }
+abbrev pub endsOf : List ℕ → List ℕ → Transitions
+endsOf ss ds = record { source = ss; destination = ds }
 
-abbrev pub portsOf : Filled → Ports
-portsOf f = record { uses = f .uses; places = f .places; transitions = f .transitions }
+abbrev pub portsOf : List ℕ → List ℕ → List ℕ → Ports
+portsOf us ps ts = record { uses = us; places = ps; transitions = ts }
 
-abbrev pub tablesOf : Filled → Tables
-tablesOf f = record { depth = f .depth; count = f .count; types = f .types; transitions = transitionsOf f; behaviors = f .behaviors; ports = portsOf f }
+-- the rows of all types, by their kind
+pub record Filled : Type 0 where
+  pub transitions : Transitions
+  pub behaviors : List ℕ
+  pub ports : Ports
 
--- f with these types, transitions, behaviors and ports
-abbrev pub fill : Filled → List ComponentType → Transitions → List ℕ → Ports → Filled
-fill f ts xs bs qs = record {
-  depth = f .depth;
-  count = f .count;
-  types = ts;
-  source = xs .source;
-  destination = xs .destination;
-  behaviors = bs;
-  uses = qs .uses;
-  places = qs .places;
-  transitions = qs .transitions;
-}
+abbrev pub filled : List ℕ → List ℕ → List ℕ → List ℕ → List ℕ → List ℕ → Filled
+filled ss ds bs us ps ts = record { transitions = endsOf ss ds; behaviors = bs; ports = portsOf us ps ts }
 
-abbrev pub nothingFilled : Filled
-nothingFilled = record {
-  depth = 0;
-  count = 0;
-  types = replicate 16 noType;
-  source = replicate 512 0;
-  destination = replicate 512 0;
-  behaviors = replicate 128 0;
-  uses = replicate 256 0;
-  places = replicate 256 0;
-  transitions = replicate 256 0;
-}
+-- the same of what the arrays hold that are lent
+abbrev pub lent : RefT (List ℕ) → RefT (List ℕ) → RefT (List ℕ) → RefT (List ℕ) → RefT (List ℕ) → RefT (List ℕ) → Filled
+lent ss ds bs us ps ts = filled (now ss) (now ds) (now bs) (now us) (now ps) (now ts)
 
--- beside a refusal the count is 0
-abbrev pub stoppedAt : ℕ → ℕ → Filled → CountedRead
-stoppedAt k at f = record { went = Stop k; at = at; count = 0; filled = f }
+abbrev pub tablesOf : ℕ → ℕ → List ComponentType → Filled → Tables
+tablesOf d n cs f = record { depth = d; count = n; types = cs; transitions = f .transitions; behaviors = f .behaviors; ports = f .ports }
 
--- how many slots all types have, and each type
-abbrev pub slots : Rows → ℕ
-slots rows.Transitions = 512
-slots rows.Behaviors = 128
-slots rows.Ports = 256
+-- a type and the rows of all types, in the tables t as type i
+abbrev pub put : Tables → ℕ → ComponentType × Filled → Tables
+put t i x = withType t i (x .0) (x .1 .transitions) (x .1 .behaviors) (x .1 .ports)
 
-abbrev pub perType : Rows → ℕ
-perType rows.Transitions = 32
-perType rows.Behaviors = 8
-perType rows.Ports = 16
+abbrev pub filledOf : Tables → Filled
+filledOf t = record { transitions = t .transitions; behaviors = t .behaviors; ports = t .ports }
 
-abbrev pub rowsKey : Rows → List ℕ
-rowsKey rows.Transitions = bytes "transitions="
-rowsKey rows.Behaviors = bytes "behaviors="
-rowsKey rows.Ports = bytes "ports="
+-- beside a refusal there is nothing
+abbrev pub refusedRows : ℕ → ℕ → RowsRead
+refusedRows k at = record { went = Stop k; at = at; count = 0 }
 
-abbrev pub rowsLimit : Rows → Limit
-rowsLimit rows.Transitions = limit.Transitions
-rowsLimit rows.Behaviors = limit.Behaviors
-rowsLimit rows.Ports = limit.Ports
+abbrev pub refusedType : ℕ → ℕ → TypeRead
+refusedType k at = record { went = Stop k; at = at; known = noType }
 
--- row j of a kind, counted over all types
-abbrev pub putRow : Rows → Filled → ℕ → Row → Filled
-putRow rows.Transitions f j x =
-    fill f (f .types) (record { source = set (f .source) j (x .source); destination = set (f .destination) j (x .destination) }) (f .behaviors) (portsOf f)
-putRow rows.Behaviors f j x = fill f (f .types) (transitionsOf f) (set (f .behaviors) j (x .transitions)) (portsOf f)
-putRow rows.Ports f j x =
-    fill f (f .types) (transitionsOf f) (f .behaviors) (record { uses = set (f .uses) j (x .uses); places = set (f .places) j (x .places); transitions = set (f .transitions) j (x .transitions) })
+abbrev pub refusedTables : ℕ → ℕ → TablesRead
+refusedTables k at = record { went = Stop k; at = at; count = 0; tables = noTables }
 
-unfoldable pub row : Rows → ComponentType → ℕ → Filled → Lines Filled
-row r c j f = do
-  x ← line (rowLine r c)
-  give (putRow r f j x)
+-- no type is read yet, up to the place at; type i is read next
+abbrev pub noTypesRead : ℕ → TypesRead
+noTypesRead at = record { went = On; at = at; types = replicate 16 noType }
 
--- the rows of a kind of type i, of which c has been read: how many, and as many
-unfoldable pub rowsOf : Rows → ComponentType → ℕ → Filled → Lines (ℕ × Filled)
-rowsOf r c i f = do
-  n ← line (countLine (rowsKey r) (limitOk (rowsLimit r)))
-  g ← each (row r c) n (i * perType r) f
-  give (n, g)
+abbrev pub putType : TypesRead → ℕ → TypeRead → TypesRead
+putType r i x = record { went = x .went; at = x .at; types = set (r .types) i (x .known) }
+
+-- the answer r to n types in tables of any depth: from the rows f and the text q to the rows g
+abbrev pub TypesTo : List ℕ → ℕ → TypesRead → Filled → Filled → List ℕ → Type 0
+TypesTo s n r g f q = (d : ℕ) → RunsTo s (r .went) (r .at) (tablesOf d n (r .types) g) (each type n 0 (tablesOf d n (replicate 16 noType) f) q)

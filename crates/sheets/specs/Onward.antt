@@ -1,44 +1,71 @@
--- A type and a sheet in parts: the last lines of `type` in crate reading, and the two halves of `sheet`.
+-- A type and a sheet in parts: the lines of `type` in crate reading by what they fill, and the two halves of `sheet`.
 use Prim.Native.Nat.{ℕ, _*_}
+use mathlib.Core.List.{List}
 use Rattle.forms.specs.Reader.{bytes}
 use Rattle.model.specs.declared.ComponentType.{ComponentType}
+use Rattle.model.specs.declared.Transitions.{Transitions}
+use Rattle.model.specs.declared.Ports.{Ports}
 use Rattle.model.specs.declared.Tables.{Tables}
 use Rattle.model.specs.declared.Program.{Program}
-use Rattle.reading.specs.Limits.{depthOk, typesOk, transitionsOk, behaviorsOk, portsOk, programOk}
+use Rattle.reading.specs.Limits.{depthOk, typesOk, placesOk, transitionsOk, behaviorsOk, portsOk, programOk}
 use Rattle.reading.specs.Lines.{Lines, _>>=_, _>>_, give, line, each, atEnd}
-use Rattle.reading.specs.Kinds.{dueLine, countLine}
-use Rattle.reading.specs.Fill.{headed, withType, programOf}
+use Rattle.reading.specs.Kinds.{dueLine, countLine, initialLine}
+use Rattle.reading.specs.Fill.{headed, programOf}
 use Rattle.reading.specs.Texts.{tran, behavior, port, type, instruct}
+use Rattle.sheets.specs.Filled.{Filled}
 
--- type i of the tables t, of which c has been read, from its `ports=`, `behaviors=` and `transitions=` line on
-unfoldable pub fromPorts : ℕ → Tables → ComponentType → Lines Tables
-fromPorts i t c = do
-  p ← line (countLine (bytes "ports=") portsOk)
-  qs ← each (port (c .places) (c .transitions) (c .initial)) p (i * 16) (t .ports)
-  give (withType t i (record { places = c .places; initial = c .initial; transitions = c .transitions; behaviors = c .behaviors; ports = p }) (t .transitions) (t .behaviors) qs)
-
-unfoldable pub fromBehaviors : ℕ → Tables → ComponentType → Lines Tables
-fromBehaviors i t c = do
-  b ← line (countLine (bytes "behaviors=") behaviorsOk)
-  bs ← each (behavior (c .transitions)) b (i * 8) (t .behaviors)
-  fromPorts i (record { depth = t .depth; count = t .count; types = t .types; transitions = t .transitions; behaviors = bs; ports = t .ports })
-      (record { places = c .places; initial = c .initial; transitions = c .transitions; behaviors = b; ports = c .ports })
-
-unfoldable pub fromRows : ℕ → Tables → ComponentType → Lines Tables
-fromRows i t c = do
+-- the rows of one kind of type i, of which c has been read: how many, and as many
+unfoldable pub transitionRows : ℕ → ComponentType → Transitions → Lines (ℕ × Transitions)
+transitionRows i c xs = do
   k ← line (countLine (bytes "transitions=") transitionsOk)
-  xs ← each (tran (c .places)) k (i * 32) (t .transitions)
-  fromBehaviors i (record { depth = t .depth; count = t .count; types = t .types; transitions = xs; behaviors = t .behaviors; ports = t .ports })
-      (record { places = c .places; initial = c .initial; transitions = k; behaviors = c .behaviors; ports = c .ports })
+  ys ← each (tran (c .places)) k (i * 32) xs
+  give (k, ys)
 
--- a sheet up to its `program=` line: how many types it has, and the tables
+unfoldable pub behaviorRows : ℕ → ComponentType → List ℕ → Lines (ℕ × List ℕ)
+behaviorRows i c bs = do
+  b ← line (countLine (bytes "behaviors=") behaviorsOk)
+  cs ← each (behavior (c .transitions)) b (i * 8) bs
+  give (b, cs)
+
+unfoldable pub portRows : ℕ → ComponentType → Ports → Lines (ℕ × Ports)
+portRows i c qs = do
+  p ← line (countLine (bytes "ports=") portsOk)
+  rs ← each (port (c .places) (c .transitions) (c .initial)) p (i * 16) qs
+  give (p, rs)
+
+-- type i, of which c has been read, from its `transitions=` line on
+unfoldable pub fromRows : ℕ → ComponentType → Filled → Lines (ComponentType × Filled)
+fromRows i c f = do
+  x ← transitionRows i c (f .transitions)
+  y ← behaviorRows i (record { places = c .places; initial = c .initial; transitions = x .0; behaviors = c .behaviors; ports = c .ports }) (f .behaviors)
+  z ← portRows i (record { places = c .places; initial = c .initial; transitions = x .0; behaviors = y .0; ports = c .ports }) (f .ports)
+  give (record { places = c .places; initial = c .initial; transitions = x .0; behaviors = y .0; ports = z .0 }, record { transitions = x .1; behaviors = y .1; ports = z .1 })
+
+-- type i up to its `transitions=` line, and whole
+unfoldable pub typeHead : ℕ → Lines ComponentType
+typeHead i = do
+  line (dueLine (bytes "type=") i)
+  n ← line (countLine (bytes "places=") placesOk)
+  m ← line (initialLine n)
+  give (record { places = n; initial = m; transitions = 0; behaviors = 0; ports = 0 })
+
+unfoldable pub typeRun : ℕ → Filled → Lines (ComponentType × Filled)
+typeRun i f = do
+  c ← typeHead i
+  fromRows i c f
+
+-- the n types of a sheet of the depth d; a sheet up to its `program=` line: how many types it has, and the tables
+unfoldable pub typesRun : ℕ → ℕ → Lines (ℕ × Tables)
+typesRun d n = do
+  t ← each type n 0 (headed d n)
+  give (n, t)
+
 unfoldable pub tablesRun : Lines (ℕ × Tables)
 tablesRun = do
   line (dueLine (bytes "sheet=") 1)
   d ← line (countLine (bytes "depth=") depthOk)
   n ← line (countLine (bytes "types=") typesOk)
-  t ← each type n 0 (headed d n)
-  give (n, t)
+  typesRun d n
 
 -- a sheet of n types from its `program=` line on
 unfoldable pub programRun : ℕ → Lines Program

@@ -13,17 +13,17 @@ use sheet_lines::RowLine;
 use sheet_lines::Rows;
 use texts::Due;
 ghost use mathlib.Core.Path.{_≡_};
-ghost use Prim.Native.Nat.{_+_, _*_, _<_, _≤_};
-ghost use lib.ListN.{drop};
-ghost use Rattle.texts.specs.Reads.{Reads};
+ghost use Prim.Native.Nat.{_<_, _≤_, min};
+ghost use lib.ListN.{length, drop};
+ghost use Rattle.texts.specs.Reads.{Reads, refusal};
 ghost use Rattle.reading.specs.Lines.{each};
-ghost use Rattle.reading.specs.Kinds.{countLine, initialLine};
+ghost use Rattle.reading.specs.Kinds.{initialLine};
 ghost use Rattle.reading.specs.Fill.{programOf};
-ghost use Rattle.reading.specs.Texts.{type, instruct};
-ghost use Rattle.lines.specs.Counts.{lineSays, limitOk, Counts};
+ghost use Rattle.reading.specs.Texts.{instruct};
+ghost use Rattle.lines.specs.Counts.{lineSays};
 ghost use Rattle.lines.specs.Runs.{RunsTo};
-ghost use Rattle.sheets.specs.Filled.{tablesOf, nothingFilled, stoppedAt, slots, perType, rowsKey, rowsLimit, row, rowsOf};
-ghost use Rattle.sheets.specs.Onward.{fromRows, tablesRun, programRun};
+ghost use Rattle.sheets.specs.Filled.{endsOf, portsOf, lent, refusedRows, refusedType, refusedTables, noTypesRead, putType, TypesTo};
+ghost use Rattle.sheets.specs.Onward.{transitionRows, behaviorRows, portRows, fromRows, typeHead, typeRun, typesRun, tablesRun, programRun};
 ghost use Rattle.sheets.specs.Sheet.{refusedSheet, sheetRead};
 
 // What a sheet says, or the number of the refusal and the place of the line at fault beside empty tables and an empty program.
@@ -34,32 +34,33 @@ pub struct Sheet {
     pub program: Program,
 }
 
-// The tables with all arrays side by side: a line fills its slots where they stand, and nothing is copied for it.
-struct Filled {
-    depth: u8,
+// What was read of a type, with whether it went on and the place of the next line or of the line at fault.
+struct TypeRead {
+    went: Went,
+    at: usize,
+    known: ComponentType,
+}
+
+// The same of the rows of one kind, which are in the slots that were lent: how many.
+struct RowsRead {
+    went: Went,
+    at: usize,
     count: u8,
+}
+
+// The same of the types.
+struct TypesRead {
+    went: Went,
+    at: usize,
     types: [ComponentType; 16],
-    source: [u8; 512],
-    destination: [u8; 512],
-    behaviors: [u32; 128],
-    uses: [u8; 256],
-    places: [u32; 256],
-    transitions: [u32; 256],
 }
 
-// What a run of lines answers: whether it went on, the place of the next line or of the line at fault, and what it has filled.
-struct FilledRead {
-    went: Went,
-    at: usize,
-    filled: Filled,
-}
-
-// The same with a count: so many rows, so many types.
-struct CountedRead {
+// The same of the tables.
+struct TablesRead {
     went: Went,
     at: usize,
     count: u8,
-    filled: Filled,
+    tables: Tables,
 }
 
 struct ProgramRead {
@@ -68,202 +69,175 @@ struct ProgramRead {
     program: Program,
 }
 
-fn nothing_filled() -> Filled
-    ensures { λ r. ⌜ r ≡ nothingFilled ⌝ }
+// Beside a refusal there is nothing.
+fn refused_rows(refused: u8, at: usize) -> RowsRead
+    ensures { λ r. ⌜ r ≡ refusedRows refused at ⌝ }
 {
-    let none = model::no_type();
-    let types = [none; 16];
-    let source = [0u8; 512];
-    let destination = [0u8; 512];
-    let behaviors = [0u32; 128];
-    let uses = [0u8; 256];
-    let places = [0u32; 256];
-    let transitions = [0u32; 256];
-    Filled {
-        depth: 0,
-        count: 0,
-        types,
-        source,
-        destination,
-        behaviors,
-        uses,
-        places,
-        transitions,
-    }
+    let went = Went::Stop(refused);
+    RowsRead { went, at, count: 0 }
 }
 
-fn tables_of(f: Filled) -> Tables
-    ensures { λ r. ⌜ r ≡ tablesOf f ⌝ }
+// The same at the line that was to say how many rows there are.
+fn refused_count(text: &[u8], start: usize, line: Line) -> RowsRead
+    ensures { λ r. ⌜ r ≡ refusedRows (refusal (lineSays line)) (min start (length (now (text .entry)))) ⌝ }
 {
-    let source = f.source;
-    let destination = f.destination;
-    let ends = Transitions {
-        source,
-        destination,
-    };
-    let uses = f.uses;
-    let places = f.places;
-    let transitions = f.transitions;
-    let ports = Ports {
-        uses,
-        places,
-        transitions,
-    };
-    let types = f.types;
-    let behaviors = f.behaviors;
-    Tables {
-        depth: f.depth,
-        count: f.count,
-        types,
-        transitions: ends,
-        behaviors,
-        ports,
-    }
+    let k = lines::line_refusal(line);
+    let at = texts::place_in(text, start);
+    refused_rows(k, at)
 }
 
-// So many rows of one kind, from the place start on, into the slots from the first on.
-fn read_rows(
+// The transitions of a type: how many, and as many, each in its slot.
+fn read_transitions(
     text: &[u8],
     start: usize,
-    rows: Rows,
+    kind: u8,
     known: ComponentType,
-    first: usize,
-    count: usize,
-    old: Filled,
-) -> FilledRead
-    requires { ⌜ first + count ≤ slots rows ⌝ }
-    ensures { λ r. ⌜ RunsTo (now (text .entry)) (r .went) (r .at) (r .filled) (each (row rows known) count first old (drop start (now (text .entry)))) ⌝ }
+    source: &mut [u8; 512],
+    destination: &mut [u8; 512],
+) -> RowsRead
+    requires { ⌜ kind < 16 ⌝ }
+    ensures { λ r. ⌜ RunsTo (now (text .entry)) (r .went) (r .at) (r .count, endsOf (now (source .exit)) (now (destination .exit)))
+        (transitionRows kind known (endsOf (now (source .entry)) (now (destination .entry))) (drop start (now (text .entry)))) ⌝ }
 {
-    let mut at = texts::place_in(text, start);
-    let mut filled = old;
+    let line = lines::count_at(text, start, b"transitions=", Limit::Transitions);
+    let Line::Got(n, next) = line else {
+        return refused_count(text, start, line);
+    };
+    let count = n as u8;
+    let rows = model::wide(count);
+    let first = model::wide(kind) * 32;
+    let mut at = next;
     let mut i: usize = 0;
-    while i < count {
-        let line = sheet_lines::row_line(&text[at..], rows, known);
+    while i < rows {
+        let line = sheet_lines::row_line(&text[at..], Rows::Transitions, known);
         let RowLine::Got(row, used) = line else {
             let k = sheet_lines::row_refusal(line);
-            let went = Went::Stop(k);
-            return FilledRead { went, at, filled };
+            return refused_rows(k, at);
         };
         let slot = first + i;
-        match rows {
-            Rows::Transitions => {
-                filled.source[slot] = row.source;
-                filled.destination[slot] = row.destination;
-            }
-            Rows::Behaviors => {
-                filled.behaviors[slot] = row.transitions;
-            }
-            Rows::Ports => {
-                filled.uses[slot] = row.uses;
-                filled.places[slot] = row.places;
-                filled.transitions[slot] = row.transitions;
-            }
-        }
+        source[slot] = row.source;
+        destination[slot] = row.destination;
         at = at + used;
         i = i + 1;
     }
     let went = Went::On;
-    FilledRead { went, at, filled }
+    RowsRead { went, at, count }
 }
 
-// The line that says how many rows of a kind a type has.
-fn rows_at(text: &[u8], at: usize, rows: Rows) -> Line
-    ensures { λ r. ⌜ Counts (now (text .entry)) (rowsLimit rows) r (countLine (rowsKey rows) (limitOk (rowsLimit rows)) (drop at (now (text .entry)))) ⌝ }
-{
-    match rows {
-        Rows::Transitions => lines::count_at(text, at, b"transitions=", Limit::Transitions),
-        Rows::Behaviors => lines::count_at(text, at, b"behaviors=", Limit::Behaviors),
-        Rows::Ports => lines::count_at(text, at, b"ports=", Limit::Ports),
-    }
-}
-
-// How many slots each type has for its rows of a kind.
-fn per_type(rows: Rows) -> usize
-    ensures { λ r. ⌜ r ≡ perType rows ⌝ }
-{
-    match rows {
-        Rows::Transitions => 32,
-        Rows::Behaviors => 8,
-        Rows::Ports => 16,
-    }
-}
-
-fn stopped(refused: u8, at: usize, filled: Filled) -> CountedRead
-    ensures { λ r. ⌜ r ≡ stoppedAt refused at filled ⌝ }
-{
-    let went = Went::Stop(refused);
-    CountedRead {
-        went,
-        at,
-        count: 0,
-        filled,
-    }
-}
-
-// The rows of one kind of a type: how many, and as many.
-fn read_kind(
+// The behaviors of a type: how many, and as many, each in its slot.
+fn read_behaviors(
     text: &[u8],
     start: usize,
-    rows: Rows,
     kind: u8,
     known: ComponentType,
-    filled: Filled,
-) -> CountedRead
+    behaviors: &mut [u32; 128],
+) -> RowsRead
     requires { ⌜ kind < 16 ⌝ }
-    ensures { λ r. ⌜ RunsTo (now (text .entry)) (r .went) (r .at) (r .count, r .filled) (rowsOf rows known kind filled (drop start (now (text .entry)))) ⌝ }
+    ensures { λ r. ⌜ RunsTo (now (text .entry)) (r .went) (r .at) (r .count, now (behaviors .exit))
+        (behaviorRows kind known (now (behaviors .entry)) (drop start (now (text .entry)))) ⌝ }
 {
-    let line = rows_at(text, start, rows);
+    let line = lines::count_at(text, start, b"behaviors=", Limit::Behaviors);
     let Line::Got(n, next) = line else {
-        let k = lines::line_refusal(line);
-        let at = texts::place_in(text, start);
-        return stopped(k, at, filled);
+        return refused_count(text, start, line);
     };
     let count = n as u8;
-    let first = model::wide(kind) * per_type(rows);
-    let read = read_rows(text, next, rows, known, first, model::wide(count), filled);
-    let went = read.went;
-    let more = read.filled;
-    CountedRead {
-        went,
-        at: read.at,
-        count,
-        filled: more,
+    let rows = model::wide(count);
+    let first = model::wide(kind) * 8;
+    let mut at = next;
+    let mut i: usize = 0;
+    while i < rows {
+        let line = sheet_lines::row_line(&text[at..], Rows::Behaviors, known);
+        let RowLine::Got(row, used) = line else {
+            let k = sheet_lines::row_refusal(line);
+            return refused_rows(k, at);
+        };
+        let slot = first + i;
+        behaviors[slot] = row.transitions;
+        at = at + used;
+        i = i + 1;
     }
+    let went = Went::On;
+    RowsRead { went, at, count }
+}
+
+// The ports of a type: how many, and as many, each in its slot.
+fn read_ports(
+    text: &[u8],
+    start: usize,
+    kind: u8,
+    known: ComponentType,
+    uses: &mut [u8; 256],
+    places: &mut [u32; 256],
+    transitions: &mut [u32; 256],
+) -> RowsRead
+    requires { ⌜ kind < 16 ⌝ }
+    ensures { λ r. ⌜ RunsTo (now (text .entry)) (r .went) (r .at) (r .count, portsOf (now (uses .exit)) (now (places .exit)) (now (transitions .exit)))
+        (portRows kind known (portsOf (now (uses .entry)) (now (places .entry)) (now (transitions .entry))) (drop start (now (text .entry)))) ⌝ }
+{
+    let line = lines::count_at(text, start, b"ports=", Limit::Ports);
+    let Line::Got(n, next) = line else {
+        return refused_count(text, start, line);
+    };
+    let count = n as u8;
+    let rows = model::wide(count);
+    let first = model::wide(kind) * 16;
+    let mut at = next;
+    let mut i: usize = 0;
+    while i < rows {
+        let line = sheet_lines::row_line(&text[at..], Rows::Ports, known);
+        let RowLine::Got(row, used) = line else {
+            let k = sheet_lines::row_refusal(line);
+            return refused_rows(k, at);
+        };
+        let slot = first + i;
+        uses[slot] = row.uses;
+        places[slot] = row.places;
+        transitions[slot] = row.transitions;
+        at = at + used;
+        i = i + 1;
+    }
+    let went = Went::On;
+    RowsRead { went, at, count }
 }
 
 // A type from its `transitions=` line on, with what was read of it before.
-fn from_rows(text: &[u8], start: usize, kind: u8, known: ComponentType, old: Filled) -> FilledRead
+fn from_rows(
+    text: &[u8],
+    start: usize,
+    kind: u8,
+    known: ComponentType,
+    source: &mut [u8; 512],
+    destination: &mut [u8; 512],
+    behaviors: &mut [u32; 128],
+    uses: &mut [u8; 256],
+    places: &mut [u32; 256],
+    transitions: &mut [u32; 256],
+) -> TypeRead
     requires { ⌜ kind < 16 ⌝ }
-    ensures { λ r. ⌜ RunsTo (now (text .entry)) (r .went) (r .at) (tablesOf (r .filled)) (fromRows kind (tablesOf old) known (drop start (now (text .entry)))) ⌝ }
+    ensures { λ r. ⌜ RunsTo (now (text .entry)) (r .went) (r .at)
+        (r .known, lent (source .exit) (destination .exit) (behaviors .exit) (uses .exit) (places .exit) (transitions .exit))
+        (fromRows kind known (lent (source .entry) (destination .entry) (behaviors .entry) (uses .entry) (places .entry) (transitions .entry)) (drop start (now (text .entry)))) ⌝ }
 {
     let mut c = known;
-    let first = read_kind(text, start, Rows::Transitions, kind, c, old);
+    let first = read_transitions(text, start, kind, c, source, destination);
     let went = first.went;
     let at = first.at;
-    let filled = first.filled;
-    let Went::On = went else {
-        return FilledRead { went, at, filled };
-    };
     c.transitions = first.count;
-    let second = read_kind(text, at, Rows::Behaviors, kind, c, filled);
+    let Went::On = went else {
+        return TypeRead { went, at, known: c };
+    };
+    let second = read_behaviors(text, at, kind, c, behaviors);
     let went = second.went;
     let at = second.at;
-    let filled = second.filled;
-    let Went::On = went else {
-        return FilledRead { went, at, filled };
-    };
     c.behaviors = second.count;
-    let third = read_kind(text, at, Rows::Ports, kind, c, filled);
+    let Went::On = went else {
+        return TypeRead { went, at, known: c };
+    };
+    let third = read_ports(text, at, kind, c, uses, places, transitions);
     let went = third.went;
     let at = third.at;
-    let mut filled = third.filled;
-    let Went::On = went else {
-        return FilledRead { went, at, filled };
-    };
     c.ports = third.count;
-    let slot = model::wide(kind);
-    filled.types[slot] = c;
-    FilledRead { went, at, filled }
+    TypeRead { went, at, known: c }
 }
 
 // The `initial=` line at a place of the text: the part from there on, and the next line's place.
@@ -279,30 +253,34 @@ fn initial_at(text: &[u8], start: usize, places: u8) -> Line
     Line::Got(mask, next)
 }
 
-// The lines of one type.
-fn read_type(text: &[u8], start: usize, kind: u8, filled: Filled) -> FilledRead
-    requires { ⌜ kind < 16 ⌝ }
-    ensures { λ r. ⌜ RunsTo (now (text .entry)) (r .went) (r .at) (tablesOf (r .filled)) (type kind (tablesOf filled) (drop start (now (text .entry)))) ⌝ }
+fn refused_type(refused: u8, at: usize) -> TypeRead
+    ensures { λ r. ⌜ r ≡ refusedType refused at ⌝ }
+{
+    let went = Went::Stop(refused);
+    let known = model::no_type();
+    TypeRead { went, at, known }
+}
+
+// The lines of one type before its rows.
+fn type_head(text: &[u8], start: usize, kind: u8) -> TypeRead
+    ensures { λ r. ⌜ RunsTo (now (text .entry)) (r .went) (r .at) (r .known) (typeHead kind (drop start (now (text .entry)))) ⌝ }
 {
     let due = texts::wide(kind);
     let Due::Past(at) = lines::due_at(text, start, b"type=", due) else {
-        let went = Went::Stop(2);
         let at = texts::place_in(text, start);
-        return FilledRead { went, at, filled };
+        return refused_type(2, at);
     };
     let line = lines::count_at(text, at, b"places=", Limit::Places);
     let Line::Got(n, next) = line else {
         let k = lines::line_refusal(line);
-        let went = Went::Stop(k);
-        return FilledRead { went, at, filled };
+        return refused_type(k, at);
     };
     let places = n as u8;
     let at = next;
     let list = initial_at(text, at, places);
     let Line::Got(initial, next) = list else {
         let k = lines::line_refusal(list);
-        let went = Went::Stop(k);
-        return FilledRead { went, at, filled };
+        return refused_type(k, at);
     };
     let known = ComponentType {
         places,
@@ -311,62 +289,223 @@ fn read_type(text: &[u8], start: usize, kind: u8, filled: Filled) -> FilledRead
         behaviors: 0,
         ports: 0,
     };
-    from_rows(text, next, kind, known, filled)
+    let went = Went::On;
+    TypeRead {
+        went,
+        at: next,
+        known,
+    }
 }
 
-fn read_types(text: &[u8], start: usize, count: u8, old: Filled) -> FilledRead
-    requires { ⌜ count ≤ 16 ⌝ }
-    ensures { λ r. ⌜ RunsTo (now (text .entry)) (r .went) (r .at) (tablesOf (r .filled)) (each type count 0 (tablesOf old) (drop start (now (text .entry)))) ⌝ }
+// The lines of one type.
+fn read_type(
+    text: &[u8],
+    start: usize,
+    kind: u8,
+    source: &mut [u8; 512],
+    destination: &mut [u8; 512],
+    behaviors: &mut [u32; 128],
+    uses: &mut [u8; 256],
+    places: &mut [u32; 256],
+    transitions: &mut [u32; 256],
+) -> TypeRead
+    requires { ⌜ kind < 16 ⌝ }
+    ensures { λ r. ⌜ RunsTo (now (text .entry)) (r .went) (r .at)
+        (r .known, lent (source .exit) (destination .exit) (behaviors .exit) (uses .exit) (places .exit) (transitions .exit))
+        (typeRun kind (lent (source .entry) (destination .entry) (behaviors .entry) (uses .entry) (places .entry) (transitions .entry)) (drop start (now (text .entry)))) ⌝ }
 {
-    let mut at = texts::place_in(text, start);
-    let mut filled = old;
+    let head = type_head(text, start, kind);
+    let went = head.went;
+    let Went::On = went else {
+        return head;
+    };
+    let known = head.known;
+    from_rows(
+        text,
+        head.at,
+        kind,
+        known,
+        source,
+        destination,
+        behaviors,
+        uses,
+        places,
+        transitions,
+    )
+}
+
+// No type is read yet.
+fn no_types(text: &[u8], start: usize) -> TypesRead
+    ensures { λ r. ⌜ r ≡ noTypesRead (min start (length (now (text .entry)))) ⌝ }
+{
+    let at = texts::place_in(text, start);
+    let went = Went::On;
+    let none = model::no_type();
+    let types = [none; 16];
+    TypesRead { went, at, types }
+}
+
+// The types so far and type i, which was read next.
+fn put_type(read: TypesRead, i: u8, one: TypeRead) -> TypesRead
+    requires { ⌜ i < 16 ⌝ }
+    ensures { λ r. ⌜ r ≡ putType read i one ⌝ }
+{
+    let went = one.went;
+    let at = one.at;
+    let mut types = read.types;
+    let slot = model::wide(i);
+    let known = one.known;
+    types[slot] = known;
+    TypesRead { went, at, types }
+}
+
+// The lines of so many types, whatever the depth.
+fn read_types(
+    text: &[u8],
+    start: usize,
+    count: u8,
+    source: &mut [u8; 512],
+    destination: &mut [u8; 512],
+    behaviors: &mut [u32; 128],
+    uses: &mut [u8; 256],
+    places: &mut [u32; 256],
+    transitions: &mut [u32; 256],
+) -> TypesRead
+    requires { ⌜ count ≤ 16 ⌝ }
+    ensures { λ r. ⌜ TypesTo (now (text .entry)) count r (lent (source .exit) (destination .exit) (behaviors .exit) (uses .exit) (places .exit) (transitions .exit))
+        (lent (source .entry) (destination .entry) (behaviors .entry) (uses .entry) (places .entry) (transitions .entry)) (drop start (now (text .entry))) ⌝ }
+{
+    let mut read = no_types(text, start);
     let mut i: u8 = 0;
     while i < count {
-        let read = read_type(text, at, i, filled);
+        let one = read_type(
+            text,
+            read.at,
+            i,
+            source,
+            destination,
+            behaviors,
+            uses,
+            places,
+            transitions,
+        );
+        read = put_type(read, i, one);
         let went = read.went;
-        at = read.at;
-        let more = read.filled;
-        filled = more;
         let Went::On = went else {
-            return FilledRead { went, at, filled };
+            return read;
         };
         i = i + 1;
     }
-    let went = Went::On;
-    FilledRead { went, at, filled }
+    read
+}
+
+fn ends_of(source: [u8; 512], destination: [u8; 512]) -> Transitions
+    ensures { λ r. ⌜ r ≡ endsOf source destination ⌝ }
+{
+    Transitions {
+        source,
+        destination,
+    }
+}
+
+fn ports_of(uses: [u8; 256], places: [u32; 256], transitions: [u32; 256]) -> Ports
+    ensures { λ r. ⌜ r ≡ portsOf uses places transitions ⌝ }
+{
+    Ports {
+        uses,
+        places,
+        transitions,
+    }
+}
+
+fn tables_of(
+    depth: u8,
+    count: u8,
+    types: [ComponentType; 16],
+    transitions: Transitions,
+    behaviors: [u32; 128],
+    ports: Ports,
+) -> Tables
+    ensures { λ r. ⌜ r ≡ record { depth = depth; count = count; types = types; transitions = transitions; behaviors = behaviors; ports = ports } ⌝ }
+{
+    Tables {
+        depth,
+        count,
+        types,
+        transitions,
+        behaviors,
+        ports,
+    }
+}
+
+// The lines of so many types, in a sheet of that depth: the rows are filled where they stand, and nothing is copied for a line.
+fn tables_from(text: &[u8], start: usize, depth: u8, count: u8) -> TablesRead
+    requires { ⌜ count ≤ 16 ⌝ }
+    ensures { λ r. ⌜ RunsTo (now (text .entry)) (r .went) (r .at) (r .count, r .tables) (typesRun depth count (drop start (now (text .entry)))) ⌝ }
+{
+    let mut source = [0u8; 512];
+    let mut destination = [0u8; 512];
+    let mut behaviors = [0u32; 128];
+    let mut uses = [0u8; 256];
+    let mut places = [0u32; 256];
+    let mut transitions = [0u32; 256];
+    let read = read_types(
+        text,
+        start,
+        count,
+        &mut source,
+        &mut destination,
+        &mut behaviors,
+        &mut uses,
+        &mut places,
+        &mut transitions,
+    );
+    let went = read.went;
+    let at = read.at;
+    let types = read.types;
+    let ends = ends_of(source, destination);
+    let ports = ports_of(uses, places, transitions);
+    let tables = tables_of(depth, count, types, ends, behaviors, ports);
+    TablesRead {
+        went,
+        at,
+        count,
+        tables,
+    }
+}
+
+fn refused_tables(refused: u8, at: usize) -> TablesRead
+    ensures { λ r. ⌜ r ≡ refusedTables refused at ⌝ }
+{
+    let went = Went::Stop(refused);
+    let tables = model::no_tables();
+    TablesRead {
+        went,
+        at,
+        count: 0,
+        tables,
+    }
 }
 
 // A sheet up to its `program=` line.
-fn read_tables(text: &[u8]) -> CountedRead
-    ensures { λ r. ⌜ RunsTo (now (text .entry)) (r .went) (r .at) (r .count, tablesOf (r .filled)) (tablesRun (now (text .entry))) ⌝ }
+fn read_tables(text: &[u8]) -> TablesRead
+    ensures { λ r. ⌜ RunsTo (now (text .entry)) (r .went) (r .at) (r .count, r .tables) (tablesRun (now (text .entry))) ⌝ }
 {
-    let mut empty = nothing_filled();
     let Due::Past(at) = lines::due_at(text, 0, b"sheet=", 1) else {
-        return stopped(2, 0, empty);
+        return refused_tables(2, 0);
     };
     let line = lines::count_at(text, at, b"depth=", Limit::Depth);
-    let Line::Got(depth, next) = line else {
+    let Line::Got(d, next) = line else {
         let k = lines::line_refusal(line);
-        return stopped(k, at, empty);
+        return refused_tables(k, at);
     };
     let at = next;
     let line = lines::count_at(text, at, b"types=", Limit::Types);
     let Line::Got(n, next) = line else {
         let k = lines::line_refusal(line);
-        return stopped(k, at, empty);
+        return refused_tables(k, at);
     };
-    let count = n as u8;
-    empty.depth = depth as u8;
-    empty.count = count;
-    let read = read_types(text, next, count, empty);
-    let went = read.went;
-    let filled = read.filled;
-    CountedRead {
-        went,
-        at: read.at,
-        count,
-        filled,
-    }
+    tables_from(text, next, d as u8, n as u8)
 }
 
 // So many instructions, from the place start on, in a sheet of so many types.
@@ -449,8 +588,7 @@ pub fn read_sheet(text: &[u8]) -> Sheet
         let k = lines::refusal(went);
         return refused_sheet(k, at);
     };
-    let filled = read.filled;
-    let tables = tables_of(filled);
+    let tables = read.tables;
     let rest = read_program(text, at, read.count);
     let end = rest.went;
     let place = rest.at;

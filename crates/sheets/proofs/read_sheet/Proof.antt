@@ -20,7 +20,7 @@ returns-2 c =
 returns-3 : tie.Need-returns-3
 returns-3 c =
     let program = c .before .before .before .before in
-    let on = program .before .before .before in
+    let on = program .before .before in
     let tables = on .before .before in
     let s = tables .before .before .before .args .text .now in
     let e = c .before .before .enum-told4 .given .1 in
@@ -31,18 +31,16 @@ returns-3 c =
 returns-4 : tie.Need-returns-4
 returns-4 c =
     let program = c .before .before .before in
-    let on = program .before .before .before in
+    let on = program .before .before in
     let tables = on .before .before in
     let s = tables .before .before .before .args .text .now in
-    rw (program .before .tables-of .ensures)
-    (sheet-told s (tables .before .if1 .left)
+    sheet-told s (tables .before .if1 .left)
     (rw (halves s) (run-then _ _ (tables .read-tables .ensures) (on .enum-told .given .1)
-    (run-then _ _ (program .read-program .ensures) (c .before .enum-told3 .given .1) (went-on (program .read-program .ensures .within) refl)))))
+    (run-then _ _ (program .read-program .ensures) (c .before .enum-told3 .given .1) (went-on (program .read-program .ensures .within) refl))))
 
 pub read-sheet-spec : {M : Type 1} → statement M
 read-sheet-spec =
     tie.close
     (tie.spec
     (λ c κs. search needs) returns (λ c κs. search needs) (λ c. search needs) (λ c. search needs) (λ c κs. search needs) (λ c κs. search needs)
-    returns-2 (λ c κs. search needs) (λ c κs. search needs) (λ c. search needs) (λ c. search needs) (λ c κs. search needs)
-    (λ c κs. search needs) returns-3 returns-4)
+    returns-2 (λ c κs. search needs) (λ c. search needs) (λ c. search needs) (λ c κs. search needs) (λ c κs. search needs) returns-3 returns-4)
