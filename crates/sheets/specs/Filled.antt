@@ -1,7 +1,7 @@
 -- The lent arrays as the groups of the tables that they fill, and what is answered beside a refusal.
 use Prim.Native.Nat.{ℕ}
 use mathlib.Core.List.{List}
-use lib.ListN.{replicate, set}
+use lib.ListN.{replicate}
 use denote.Ref.{RefT, now}
 use Rattle.model.specs.declared.ComponentType.{ComponentType}
 use Rattle.model.specs.declared.Transitions.{Transitions}
@@ -55,15 +55,12 @@ abbrev pub refusedType : ℕ → ℕ → TypeRead
 refusedType k at = record { went = Stop k; at = at; known = noType }
 
 abbrev pub refusedTables : ℕ → ℕ → TablesRead
-refusedTables k at = record { went = Stop k; at = at; count = 0; tables = noTables }
+refusedTables k at = record { went = Stop k; at = at; tables = noTables }
 
--- no type is read yet, up to the place at; type i is read next
-abbrev pub noTypesRead : ℕ → TypesRead
-noTypesRead at = record { went = On; at = at; types = replicate 16 noType }
-
-abbrev pub putType : TypesRead → ℕ → TypeRead → TypesRead
-putType r i x = record { went = x .went; at = x .at; types = set (r .types) i (x .known) }
+-- the first type starts at the place at
+abbrev pub beforeTypes : ℕ → TypeRead
+beforeTypes at = record { went = On; at = at; known = noType }
 
 -- the answer r to n types in tables of any depth: from the rows f and the text q to the rows g
 abbrev pub TypesTo : List ℕ → ℕ → TypesRead → Filled → Filled → List ℕ → Type 0
-TypesTo s n r g f q = (d : ℕ) → RunsTo s (r .went) (r .at) (tablesOf d n (r .types) g) (each type n 0 (tablesOf d n (replicate 16 noType) f) q)
+TypesTo s n r g f q = (d : ℕ) → RunsTo s (r .last .went) (r .last .at) (tablesOf d n (r .types) g) (each type n 0 (tablesOf d n (replicate 16 noType) f) q)

@@ -54,18 +54,13 @@ typeRun i f = do
   c ← typeHead i
   fromRows i c f
 
--- the n types of a sheet of the depth d; a sheet up to its `program=` line: how many types it has, and the tables
-unfoldable pub typesRun : ℕ → ℕ → Lines (ℕ × Tables)
-typesRun d n = do
-  t ← each type n 0 (headed d n)
-  give (n, t)
-
-unfoldable pub tablesRun : Lines (ℕ × Tables)
+-- a sheet up to its `program=` line
+unfoldable pub tablesRun : Lines Tables
 tablesRun = do
   line (dueLine (bytes "sheet=") 1)
   d ← line (countLine (bytes "depth=") depthOk)
   n ← line (countLine (bytes "types=") typesOk)
-  typesRun d n
+  each type n 0 (headed d n)
 
 -- a sheet of n types from its `program=` line on
 unfoldable pub programRun : ℕ → Lines Program

@@ -14,16 +14,17 @@ use sheet_lines::Rows;
 use texts::Due;
 ghost use mathlib.Core.Path.{_≡_};
 ghost use Prim.Native.Nat.{_<_, _≤_, min};
-ghost use lib.ListN.{length, drop};
+ghost use lib.ListN.{length, drop, replicate};
+ghost use Rattle.model.specs.Empty.{noType};
 ghost use Rattle.texts.specs.Reads.{Reads, refusal};
 ghost use Rattle.reading.specs.Lines.{each};
 ghost use Rattle.reading.specs.Kinds.{initialLine};
-ghost use Rattle.reading.specs.Fill.{programOf};
-ghost use Rattle.reading.specs.Texts.{instruct};
+ghost use Rattle.reading.specs.Fill.{headed, programOf};
+ghost use Rattle.reading.specs.Texts.{type, instruct};
 ghost use Rattle.lines.specs.Counts.{lineSays};
 ghost use Rattle.lines.specs.Runs.{RunsTo};
-ghost use Rattle.sheets.specs.Filled.{endsOf, portsOf, lent, refusedRows, refusedType, refusedTables, noTypesRead, putType, TypesTo};
-ghost use Rattle.sheets.specs.Onward.{transitionRows, behaviorRows, portRows, fromRows, typeHead, typeRun, typesRun, tablesRun, programRun};
+ghost use Rattle.sheets.specs.Filled.{endsOf, portsOf, lent, refusedRows, refusedType, refusedTables, beforeTypes, TypesTo};
+ghost use Rattle.sheets.specs.Onward.{transitionRows, behaviorRows, portRows, fromRows, typeHead, typeRun, tablesRun, programRun};
 ghost use Rattle.sheets.specs.Sheet.{refusedSheet, sheetRead};
 
 // What a sheet says, or the number of the refusal and the place of the line at fault beside empty tables and an empty program.
@@ -48,18 +49,16 @@ struct RowsRead {
     count: u8,
 }
 
-// The same of the types.
+// The types, and what was read of the last.
 struct TypesRead {
-    went: Went,
-    at: usize,
+    last: TypeRead,
     types: [ComponentType; 16],
 }
 
-// The same of the tables.
+// The tables, with whether it went on and where.
 struct TablesRead {
     went: Went,
     at: usize,
-    count: u8,
     tables: Tables,
 }
 
@@ -334,29 +333,22 @@ fn read_type(
     )
 }
 
-// No type is read yet.
-fn no_types(text: &[u8], start: usize) -> TypesRead
-    ensures { λ r. ⌜ r ≡ noTypesRead (min start (length (now (text .entry)))) ⌝ }
+fn no_types() -> [ComponentType; 16]
+    ensures { λ r. ⌜ r ≡ replicate 16 noType ⌝ }
+{
+    let none = model::no_type();
+    let types = [none; 16];
+    types
+}
+
+// No type has been read yet, and the first starts at that place.
+fn before_types(text: &[u8], start: usize) -> TypeRead
+    ensures { λ r. ⌜ r ≡ beforeTypes (min start (length (now (text .entry)))) ⌝ }
 {
     let at = texts::place_in(text, start);
     let went = Went::On;
-    let none = model::no_type();
-    let types = [none; 16];
-    TypesRead { went, at, types }
-}
-
-// The types so far and type i, which was read next.
-fn put_type(read: TypesRead, i: u8, one: TypeRead) -> TypesRead
-    requires { ⌜ i < 16 ⌝ }
-    ensures { λ r. ⌜ r ≡ putType read i one ⌝ }
-{
-    let went = one.went;
-    let at = one.at;
-    let mut types = read.types;
-    let slot = model::wide(i);
-    let known = one.known;
-    types[slot] = known;
-    TypesRead { went, at, types }
+    let known = model::no_type();
+    TypeRead { went, at, known }
 }
 
 // The lines of so many types, whatever the depth.
@@ -375,12 +367,12 @@ fn read_types(
     ensures { λ r. ⌜ TypesTo (now (text .entry)) count r (lent (source .exit) (destination .exit) (behaviors .exit) (uses .exit) (places .exit) (transitions .exit))
         (lent (source .entry) (destination .entry) (behaviors .entry) (uses .entry) (places .entry) (transitions .entry)) (drop start (now (text .entry))) ⌝ }
 {
-    let mut read = no_types(text, start);
-    let mut i: u8 = 0;
-    while i < count {
-        let one = read_type(
+    let mut types = no_types();
+    let mut last = before_types(text, start);
+    for i in 0..count {
+        last = read_type(
             text,
-            read.at,
+            last.at,
             i,
             source,
             destination,
@@ -389,14 +381,15 @@ fn read_types(
             places,
             transitions,
         );
-        read = put_type(read, i, one);
-        let went = read.went;
+        let known = last.known;
+        let slot = model::wide(i);
+        types[slot] = known;
+        let went = last.went;
         let Went::On = went else {
-            return read;
+            return TypesRead { last, types };
         };
-        i = i + 1;
     }
-    read
+    TypesRead { last, types }
 }
 
 fn ends_of(source: [u8; 512], destination: [u8; 512]) -> Transitions
@@ -418,30 +411,10 @@ fn ports_of(uses: [u8; 256], places: [u32; 256], transitions: [u32; 256]) -> Por
     }
 }
 
-fn tables_of(
-    depth: u8,
-    count: u8,
-    types: [ComponentType; 16],
-    transitions: Transitions,
-    behaviors: [u32; 128],
-    ports: Ports,
-) -> Tables
-    ensures { λ r. ⌜ r ≡ record { depth = depth; count = count; types = types; transitions = transitions; behaviors = behaviors; ports = ports } ⌝ }
-{
-    Tables {
-        depth,
-        count,
-        types,
-        transitions,
-        behaviors,
-        ports,
-    }
-}
-
 // The lines of so many types, in a sheet of that depth: the rows are filled where they stand, and nothing is copied for a line.
 fn tables_from(text: &[u8], start: usize, depth: u8, count: u8) -> TablesRead
     requires { ⌜ count ≤ 16 ⌝ }
-    ensures { λ r. ⌜ RunsTo (now (text .entry)) (r .went) (r .at) (r .count, r .tables) (typesRun depth count (drop start (now (text .entry)))) ⌝ }
+    ensures { λ r. ⌜ RunsTo (now (text .entry)) (r .went) (r .at) (r .tables) (each type count 0 (headed depth count) (drop start (now (text .entry)))) ⌝ }
 {
     let mut source = [0u8; 512];
     let mut destination = [0u8; 512];
@@ -460,18 +433,21 @@ fn tables_from(text: &[u8], start: usize, depth: u8, count: u8) -> TablesRead
         &mut places,
         &mut transitions,
     );
-    let went = read.went;
-    let at = read.at;
+    let last = read.last;
+    let went = last.went;
+    let at = last.at;
     let types = read.types;
     let ends = ends_of(source, destination);
     let ports = ports_of(uses, places, transitions);
-    let tables = tables_of(depth, count, types, ends, behaviors, ports);
-    TablesRead {
-        went,
-        at,
+    let tables = Tables {
+        depth,
         count,
-        tables,
-    }
+        types,
+        transitions: ends,
+        behaviors,
+        ports,
+    };
+    TablesRead { went, at, tables }
 }
 
 fn refused_tables(refused: u8, at: usize) -> TablesRead
@@ -479,17 +455,12 @@ fn refused_tables(refused: u8, at: usize) -> TablesRead
 {
     let went = Went::Stop(refused);
     let tables = model::no_tables();
-    TablesRead {
-        went,
-        at,
-        count: 0,
-        tables,
-    }
+    TablesRead { went, at, tables }
 }
 
 // A sheet up to its `program=` line.
 fn read_tables(text: &[u8]) -> TablesRead
-    ensures { λ r. ⌜ RunsTo (now (text .entry)) (r .went) (r .at) (r .count, r .tables) (tablesRun (now (text .entry))) ⌝ }
+    ensures { λ r. ⌜ RunsTo (now (text .entry)) (r .went) (r .at) (r .tables) (tablesRun (now (text .entry))) ⌝ }
 {
     let Due::Past(at) = lines::due_at(text, 0, b"sheet=", 1) else {
         return refused_tables(2, 0);
@@ -589,7 +560,7 @@ pub fn read_sheet(text: &[u8]) -> Sheet
         return refused_sheet(k, at);
     };
     let tables = read.tables;
-    let rest = read_program(text, at, read.count);
+    let rest = read_program(text, at, tables.count);
     let end = rest.went;
     let place = rest.at;
     let Went::On = end else {
