@@ -1,6 +1,6 @@
--- The rows of a type are those of its definition, its lines by what they fill are the type, and the two halves of a sheet are the sheet.
+-- The rows of a type are those of its definition, its lines by what they fill are the type, and the parts of a sheet are the sheet.
 -- Assumes nothing.
-use Prim.Native.Nat.{ℕ, zero, suc, _*_}
+use Prim.Native.Nat.{ℕ, _*_}
 use mathlib.Core.List.{List}
 use mathlib.Core.Path.{_≡_, refl, sym, ap, _∙_, fun-ext}
 use lib.ListN.{drop, set}
@@ -24,7 +24,7 @@ use Rattle.sheet_lines.specs.declared.Row.{Row}
 use Rattle.sheet_lines.specs.declared.Rows.the-variants as rows
 use Rattle.sheet_lines.specs.Rows.{rowLine}
 use Rattle.sheets.specs.Filled.{endsOf, portsOf, Filled, filledOf, put}
-use Rattle.sheets.specs.Onward.{transitionRows, behaviorRows, portRows, fromRows, typeHead, typeRun, tablesRun, programRun}
+use Rattle.sheets.specs.Onward.{transitionRows, behaviorRows, portRows, fromRows, typeHead, typeRun, sheetHead, programRun}
 
 -- row j of a kind, counted over all types
 abbrev pub putTransition : Transitions → ℕ → Row → Transitions
@@ -104,29 +104,11 @@ module _ (i : ℕ) (t : Tables) where
   pub type-read : (q : List ℕ) {s : List ℕ} {w : Went} {to : ℕ} {x : ComponentType × Filled} → RunsTo s w to x (typeRun i (filledOf t) q) → RunsTo s w to (put t i x) (type i t q)
   type-read q r = rw (type-lines q) (run-seen (put t i) _ r)
 
--- a type first, then n types, then on with h
-type-on : {B : Type 0} (n j : ℕ) (t : Tables) (h : Tables → Lines B) (s : List ℕ)
-    → next (each type (suc n) j t s) h ≡ next (typeRun j (filledOf t) s) (λ x r. next (each type n (suc j) (put t j x) r) h)
-unfolding each
-type-on n j t h s =
-    next-next (type j t s) _ _
-    ∙ ap (λ (x : Run Tables). next x (λ u r. next (each type n (suc j) u r) h)) (type-lines j t s)
-    ∙ next-next (typeRun j (filledOf t) s) _ _
-
--- the types leave the tables their count
-count-kept : {B : Type 0} (n j : ℕ) (t : Tables) (f : ℕ → Tables → Lines B) (s : List ℕ)
-    → next (each type n j t s) (λ u. f (t .count) u) ≡ next (each type n j t s) (λ u. f (u .count) u)
-unfolding each withType
-count-kept zero j t f s = refl
-count-kept (suc n) j t f s =
-    type-on n j t _ s
-    ∙ next-same (typeRun j (filledOf t) s) _ _ (λ x r. count-kept n (suc j) (put t j x) f r)
-    ∙ sym (type-on n j t _ s)
-
--- the two halves of a sheet
-pub halves : (s : List ℕ) → sheet s ≡ next (tablesRun s) (λ t r. next (programRun (t .count) r) (λ p. give (t, p)))
-unfolding sheet tablesRun programRun headed
-halves s =
+-- a sheet's first lines, its types and its program
+pub sheet-parts : (s : List ℕ)
+    → sheet s ≡ next (sheetHead s) (λ h r. next (each type (h .1) 0 (headed (h .0) (h .1)) r) (λ t r. next (programRun (h .1) r) (λ p. give (t, p))))
+unfolding sheet sheetHead programRun
+sheet-parts s =
     sym
     (next-next (line (dueLine (bytes "sheet=") 1) s) _ _
     ∙ next-same (line (dueLine (bytes "sheet=") 1) s) _ _ (λ _ r.
@@ -134,8 +116,7 @@ halves s =
     ∙ next-same (line (countLine (bytes "depth=") depthOk) r) _ _ (λ d r.
     next-next (line (countLine (bytes "types=") typesOk) r) _ _
     ∙ next-same (line (countLine (bytes "types=") typesOk) r) _ _ (λ n r.
-    sym (count-kept n 0 (headed d n) (λ m t r. next (programRun m r) (λ p. give (t, p))) r)
-    ∙ next-same (each type n 0 (headed d n) r) _ _ (λ t r.
+    next-same (each type n 0 (headed d n) r) _ _ (λ t r.
     next-next (line (countLine (bytes "program=") programOk) r) _ _
     ∙ next-same (line (countLine (bytes "program=") programOk) r) _ _ (λ k r.
     next-next (each (instruct n) k 0 (programOf k) r) _ _

@@ -7,7 +7,7 @@ use Rattle.model.specs.declared.ComponentType.{ComponentType}
 use Rattle.model.specs.declared.Transitions.{Transitions}
 use Rattle.model.specs.declared.Ports.{Ports}
 use Rattle.model.specs.declared.Tables.{Tables}
-use Rattle.model.specs.Empty.{noType, noTables}
+use Rattle.model.specs.Empty.{noType}
 use Rattle.reading.specs.Lines.{each}
 use Rattle.reading.specs.Fill.{withType}
 use Rattle.reading.specs.Texts.{type}
@@ -16,7 +16,7 @@ use Rattle.lines.specs.Runs.{RunsTo}
 use Rattle.sheets.specs.declared.TypeRead.{TypeRead}
 use Rattle.sheets.specs.declared.RowsRead.{RowsRead}
 use Rattle.sheets.specs.declared.TypesRead.{TypesRead}
-use Rattle.sheets.specs.declared.TablesRead.{TablesRead}
+use Rattle.sheets.specs.declared.HeadRead.{HeadRead}
 
 abbrev pub endsOf : List ℕ → List ℕ → Transitions
 endsOf ss ds = record { source = ss; destination = ds }
@@ -54,8 +54,8 @@ refusedRows k at = record { went = Stop k; at = at; count = 0 }
 abbrev pub refusedType : ℕ → ℕ → TypeRead
 refusedType k at = record { went = Stop k; at = at; known = noType }
 
-abbrev pub refusedTables : ℕ → ℕ → TablesRead
-refusedTables k at = record { went = Stop k; at = at; tables = noTables }
+abbrev pub refusedHead : ℕ → ℕ → HeadRead
+refusedHead k at = record { went = Stop k; at = at; depth = 0; count = 0 }
 
 -- the first type starts at the place at
 abbrev pub beforeTypes : ℕ → TypeRead

@@ -1,17 +1,16 @@
--- A type and a sheet in parts: the lines of `type` in crate reading by what they fill, and the two halves of `sheet`.
+-- A type and a sheet in parts: the lines of `type` in crate reading by what they fill, and those of `sheet` before and after its types.
 use Prim.Native.Nat.{ℕ, _*_}
 use mathlib.Core.List.{List}
 use Rattle.forms.specs.Reader.{bytes}
 use Rattle.model.specs.declared.ComponentType.{ComponentType}
 use Rattle.model.specs.declared.Transitions.{Transitions}
 use Rattle.model.specs.declared.Ports.{Ports}
-use Rattle.model.specs.declared.Tables.{Tables}
 use Rattle.model.specs.declared.Program.{Program}
 use Rattle.reading.specs.Limits.{depthOk, typesOk, placesOk, transitionsOk, behaviorsOk, portsOk, programOk}
 use Rattle.reading.specs.Lines.{Lines, _>>=_, _>>_, give, line, each, atEnd}
 use Rattle.reading.specs.Kinds.{dueLine, countLine, initialLine}
-use Rattle.reading.specs.Fill.{headed, programOf}
-use Rattle.reading.specs.Texts.{tran, behavior, port, type, instruct}
+use Rattle.reading.specs.Fill.{programOf}
+use Rattle.reading.specs.Texts.{tran, behavior, port, instruct}
 use Rattle.sheets.specs.Filled.{Filled}
 
 -- the rows of one kind of type i, of which c has been read: how many, and as many
@@ -54,13 +53,13 @@ typeRun i f = do
   c ← typeHead i
   fromRows i c f
 
--- a sheet up to its `program=` line
-unfoldable pub tablesRun : Lines Tables
-tablesRun = do
+-- a sheet up to its first type: its depth, and how many types it has
+unfoldable pub sheetHead : Lines (ℕ × ℕ)
+sheetHead = do
   line (dueLine (bytes "sheet=") 1)
   d ← line (countLine (bytes "depth=") depthOk)
   n ← line (countLine (bytes "types=") typesOk)
-  each type n 0 (headed d n)
+  give (d, n)
 
 -- a sheet of n types from its `program=` line on
 unfoldable pub programRun : ℕ → Lines Program

@@ -23,8 +23,8 @@ ghost use Rattle.reading.specs.Fill.{headed, programOf};
 ghost use Rattle.reading.specs.Texts.{type, instruct};
 ghost use Rattle.lines.specs.Counts.{lineSays};
 ghost use Rattle.lines.specs.Runs.{RunsTo};
-ghost use Rattle.sheets.specs.Filled.{endsOf, portsOf, lent, refusedRows, refusedType, refusedTables, beforeTypes, TypesTo};
-ghost use Rattle.sheets.specs.Onward.{transitionRows, behaviorRows, portRows, fromRows, typeHead, typeRun, tablesRun, programRun};
+ghost use Rattle.sheets.specs.Filled.{endsOf, portsOf, lent, refusedRows, refusedType, refusedHead, beforeTypes, TypesTo};
+ghost use Rattle.sheets.specs.Onward.{transitionRows, behaviorRows, portRows, fromRows, typeHead, typeRun, sheetHead, programRun};
 ghost use Rattle.sheets.specs.Sheet.{refusedSheet, sheetRead};
 
 // What a sheet says, or the number of the refusal and the place of the line at fault beside empty tables and an empty program.
@@ -55,7 +55,15 @@ struct TypesRead {
     types: [ComponentType; 16],
 }
 
-// The tables, with whether it went on and where.
+// The first lines of a sheet, with whether it went on and where.
+struct HeadRead {
+    went: Went,
+    at: usize,
+    depth: u8,
+    count: u8,
+}
+
+// The same of the tables.
 struct TablesRead {
     went: Went,
     at: usize,
@@ -412,7 +420,7 @@ fn ports_of(uses: [u8; 256], places: [u32; 256], transitions: [u32; 256]) -> Por
 }
 
 // The lines of so many types, in a sheet of that depth: the rows are filled where they stand, and nothing is copied for a line.
-fn tables_from(text: &[u8], start: usize, depth: u8, count: u8) -> TablesRead
+fn read_tables(text: &[u8], start: usize, depth: u8, count: u8) -> TablesRead
     requires { ⌜ count ≤ 16 ⌝ }
     ensures { λ r. ⌜ RunsTo (now (text .entry)) (r .went) (r .at) (r .tables) (each type count 0 (headed depth count) (drop start (now (text .entry)))) ⌝ }
 {
@@ -450,33 +458,46 @@ fn tables_from(text: &[u8], start: usize, depth: u8, count: u8) -> TablesRead
     TablesRead { went, at, tables }
 }
 
-fn refused_tables(refused: u8, at: usize) -> TablesRead
-    ensures { λ r. ⌜ r ≡ refusedTables refused at ⌝ }
+fn refused_head(refused: u8, at: usize) -> HeadRead
+    ensures { λ r. ⌜ r ≡ refusedHead refused at ⌝ }
 {
     let went = Went::Stop(refused);
-    let tables = model::no_tables();
-    TablesRead { went, at, tables }
+    HeadRead {
+        went,
+        at,
+        depth: 0,
+        count: 0,
+    }
 }
 
-// A sheet up to its `program=` line.
-fn read_tables(text: &[u8]) -> TablesRead
-    ensures { λ r. ⌜ RunsTo (now (text .entry)) (r .went) (r .at) (r .tables) (tablesRun (now (text .entry))) ⌝ }
+// A sheet up to its first type: its depth, and how many types it has.
+fn sheet_head(text: &[u8]) -> HeadRead
+    ensures run { λ r. ⌜ RunsTo (now (text .entry)) (r .went) (r .at) (r .depth, r .count) (sheetHead (now (text .entry))) ⌝ }
+    ensures few { λ r. ⌜ r .count ≤ 16 ⌝ }
 {
     let Due::Past(at) = lines::due_at(text, 0, b"sheet=", 1) else {
-        return refused_tables(2, 0);
+        return refused_head(2, 0);
     };
     let line = lines::count_at(text, at, b"depth=", Limit::Depth);
     let Line::Got(d, next) = line else {
         let k = lines::line_refusal(line);
-        return refused_tables(k, at);
+        return refused_head(k, at);
     };
     let at = next;
     let line = lines::count_at(text, at, b"types=", Limit::Types);
     let Line::Got(n, next) = line else {
         let k = lines::line_refusal(line);
-        return refused_tables(k, at);
+        return refused_head(k, at);
     };
-    tables_from(text, next, d as u8, n as u8)
+    let went = Went::On;
+    let depth = d as u8;
+    let count = n as u8;
+    HeadRead {
+        went,
+        at: next,
+        depth,
+        count,
+    }
 }
 
 // So many instructions, from the place start on, in a sheet of so many types.
@@ -552,21 +573,28 @@ pub fn read_sheet(text: &[u8]) -> Sheet
     if 32768 < text.len() {
         return refused_sheet(1, 0);
     }
-    let read = read_tables(text);
+    let head = sheet_head(text);
+    let went = head.went;
+    let at = head.at;
+    let Went::On = went else {
+        let k = lines::refusal(went);
+        return refused_sheet(k, at);
+    };
+    let read = read_tables(text, at, head.depth, head.count);
     let went = read.went;
     let at = read.at;
     let Went::On = went else {
         let k = lines::refusal(went);
         return refused_sheet(k, at);
     };
-    let tables = read.tables;
-    let rest = read_program(text, at, tables.count);
+    let rest = read_program(text, at, head.count);
     let end = rest.went;
     let place = rest.at;
     let Went::On = end else {
         let k = lines::refusal(end);
         return refused_sheet(k, place);
     };
+    let tables = read.tables;
     let program = rest.program;
     Sheet {
         refused: 0,

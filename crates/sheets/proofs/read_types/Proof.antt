@@ -52,4 +52,5 @@ read-types-spec =
     tie.close
     (tie.spec
     Inv-loop μ-loop (λ c κs. search needs) (λ c κs. search needs) loop-holds (λ c κs. search needs) (λ c κs. search needs) (λ c. search needs)
-    (λ c. omega (arith, c .wide .ensures .0, c .before .before .before .before .before .before .before .before .before .before .before .before .before .before .pre)) (λ c. search needs) (λ c. search needs) returns (λ c. search needs) (λ c. omega arith) loop-again returns-2)
+    (λ c. omega (arith, c .wide .ensures .0, c .before .before .before .before .before .before .before .before .before .before .before .before .before .before .pre))
+    (λ c. search needs) (λ c. search needs) returns (λ c. search needs) (λ c. omega arith) loop-again returns-2)
