@@ -1,10 +1,10 @@
--- The report's parts: the count of those present, the line of an instance, the lines of a user's connections by port.
+-- The report's parts: the count of those present, the line of an instance, the lines of a user's connections by port, lines in turn.
 -- Assumes nothing.
-use Prim.Native.Nat.{ℕ, zero, suc, _+_, _-_, _*_, _/_, _%_, _≤_, _<_}
+use Prim.Native.Nat.{ℕ, zero, suc, _+_, _-_, _*_, _<_}
 use mathlib.Core.Path.{_≡_, refl, ap, ap₂, sym, _∙_}
 use mathlib.Core.Logic.{by-cases}
 use mathlib.Core.Bool.{Bool, true, false, _&&_, or-true, or-false}
-use mathlib.Core.List.{List, [], _++_, append-assoc, append-nil}
+use mathlib.Core.List.{List, _++_, append-assoc}
 use native.Mathlib.Omega.{arith}
 use native.Mathlib.Numerals.{add-one}
 use native.Mathlib.Nat.{add-zero}
@@ -15,19 +15,19 @@ use lib.ListN.{length, getD, set, take, drop, length-drop, replicate, length-set
 use lib.Seq.{take-all, getD-drop, getD-set-same, getD-set-other}
 use Rattle.forms.proofs.Tests.{by-test}
 use Rattle.forms.specs.Write.{when, inTurn}
-use Rattle.sets.specs.Mask.{member, with}
+use Rattle.inks.specs.Written.{Written}
+use Rattle.inks.proofs.Laws.{none, next, free, back, length-written}
+use Rattle.sets.specs.Mask.{with}
 use Rattle.sets.proofs.Laws.{member-past, member-with}
-use Rattle.model.specs.declared.Instance.{Instance}
 use Rattle.model.specs.declared.Connection.{Connection}
 use Rattle.model.specs.declared.Configuration.{Configuration}
-use Rattle.model.specs.Empty.{absent, noConnection}
+use Rattle.model.specs.Empty.{noConnection}
 use Rattle.model.specs.View.{instance, connection, slot, listOf, queueOf}
-use Rattle.model.proofs.View.{past-end, list-same}
+use Rattle.model.proofs.View.{list-same}
 use Rattle.model.specs.declared.Walked.{Walked}
-use Rattle.report.specs.Report.{tally, instanceText, connectionText, instanceAt, connectionAt, instancesText, connectionsText, report}
+use Rattle.report.specs.Report.{tally, instanceText, connectionText, instanceAt, connectionAt, connectionsText, report}
 use Rattle.writers.specs.declared.ByPort.{ByPort}
-use Rattle.writers.specs.declared.Lines.the-variants as lines
-use Rattle.writers.specs.Lines.{noted, byPort, lineOf, headPart, instancesPart, connectionsPart}
+use Rattle.writers.specs.Lines.{noted, byPort, lineBy, userLines, headPart, instancesPart, connectionsPart}
 
 -- ---- a count
 
@@ -44,27 +44,18 @@ module _ (p : ℕ → Bool) (n : ℕ) where
   unfolding tally
   tally-same h = rw (add-one n, h) (add-zero (tally n p))
 
+-- ---- a line that may be absent
+
+pub line-there : {old l new : List ℕ} {b : Bool} {used : ℕ} → b ≡ true → Written old l new 0 used → Written old (when b l) new 0 used
+line-there h w = rw h w
+
+pub line-absent : {old : List ℕ} {b : Bool} (l : List ℕ) → b ≡ false → Written old (when b l) old 0 0
+line-absent {old} l h = rw h (none old 0)
+
 -- ---- an instance
 
-module _ (c : Configuration) (i : ℕ) (w : Instance) (is : w ≡ instance c i) where
-  pub absent-line : w .present ≡ false → instanceAt c i ≡ []
-  unfolding instanceAt
-  absent-line h = rw (rw is at h)
-
-  pub present-line : w .present ≡ true → instanceAt c i ≡ instanceText i w (listOf (w .queued) (slot c i))
-  unfolding instanceAt queueOf
-  present-line h = rw (is, rw is at h)
-
-  pub present-below : length (c .instances) ≡ 32 → w .present ≡ true → i < 32
-  present-below e h =
-      by-cases (decLt i 32)
-      (λ l. l)
-      (λ l. let d : w ≡ absent = is ∙ past-end (c .instances) absent e (omega arith) in
-      let f : false ≡ true = rw d at h in
-      let z : _≡_ {A = ℕ} 0 1 = cc in omega arith)
-
 -- its slots are the part of the queue that starts with its head
-pub slots-of : (c : Configuration) (i n : ℕ) → length (c .queue) ≡ 256 → i < 32
+slots-of : (c : Configuration) (i n : ℕ) → length (c .queue) ≡ 256 → i < 32
     → listOf n (λ r. getD (take (256 - i * 8) (drop (i * 8) (c .queue))) r 0) ≡ listOf n (slot c i)
 slots-of c i n e h =
     let part = drop (i * 8) (c .queue) in
@@ -72,32 +63,44 @@ slots-of c i n e h =
     list-same n (λ r. getD (take (256 - i * 8) part) r 0) (slot c i)
     (λ r l. ap (λ (q : List ℕ). getD q r 0) all ∙ getD-drop (i * 8) (c .queue) r 0)
 
+pub instance-line : (c : Configuration) (i : ℕ) → length (c .queue) ≡ 256 → i < 32
+    → when (instance c i .present) (instanceText i (instance c i) (listOf (instance c i .queued) (λ r. getD (take (256 - i * 8) (drop (i * 8) (c .queue))) r 0)))
+    ≡ instanceAt c i
+unfolding instanceAt queueOf
+instance-line c i e h = rw (slots-of c i (instance c i .queued) e h)
+
 -- ---- the connections of a user by port
 
--- what stands for port q: its line, nothing where it has no connection
-abbrev pub lineBy : ByPort → ℕ → List ℕ
-lineBy b q = when (member q (b .ports)) (connectionText (getD (b .connections) q noConnection))
-
-module _ (c : Configuration) (u : ℕ) where
-  by-port-full : (n : ℕ) → length (byPort c u n .connections) ≡ 16
+module _ (ks : List Connection) (u : ℕ) where
+  by-port-full : (n : ℕ) → length (byPort ks u n .connections) ≡ 16
   unfolding byPort noted
   by-port-full zero = length-replicate 16 noConnection
   by-port-full (suc n) =
-      by-test (eqb (connection c n .user) u && ltb (connection c n .useport) 16)
-      (λ h. rw h (length-set (byPort c u n .connections) (connection c n .useport) (connection c n) ∙ by-port-full n))
+      let k = getD ks n noConnection in
+      by-test (eqb (k .user) u && ltb (k .useport) 16)
+      (λ h. rw h (length-set (byPort ks u n .connections) (k .useport) k ∙ by-port-full n))
       (λ h. rw h (by-port-full n))
 
-  pub by-port-line : (n q : ℕ) → q < 16 → connectionAt c n u q ≡ lineBy (byPort c u n) q
+  pub by-port-none : record { connections = replicate 16 noConnection; ports = 0 } ≡ byPort ks u 0
+  unfolding byPort
+  by-port-none = refl
+
+  pub by-port-more : (b d : ByPort) (k : Connection) (l : ℕ) → b ≡ byPort ks u l → k ≡ getD ks l noConnection → d ≡ noted b u k → d ≡ byPort ks u (l + 1)
+  unfolding byPort
+  by-port-more b d k l e f g = g ∙ rw (e, f, add-one l)
+
+module _ (c : Configuration) (u : ℕ) where
+  by-port-line : (n q : ℕ) → q < 16 → connectionAt c n u q ≡ lineBy (byPort (c .connections) u n) q
   unfolding connectionAt byPort noted
   by-port-line zero q h = rw (member-past 0 q 0 (omega arith) (omega arith))
   by-port-line (suc n) q h =
       let k = connection c n in
-      let old = byPort c u n in
+      let old = byPort (c .connections) u n in
       by-cases (ℕ-discrete (k .user) u)
       (λ own. by-cases (ℕ-discrete (k .useport) q)
       (λ here.
       let marked = rw (eq-eqb q (k .useport) (sym here), or-true) at (member-with q (k .useport) (old .ports) (omega arith)) in
-      let held = getD-set-same (old .connections) (k .useport) k noConnection (omega (arith, by-port-full n)) in
+      let held = getD-set-same (old .connections) (k .useport) k noConnection (omega (arith, by-port-full (c .connections) u n)) in
       rw (eq-eqb _ _ own, eq-eqb _ _ here, connectionAt, lt-ltb (k .useport) 16 (omega arith), marked)
       (ap connectionText (sym held ∙ ap (λ (x : ℕ). getD (set (old .connections) (k .useport) k) x noConnection) here)))
       (λ other. by-cases (decLt (k .useport) 16)
@@ -108,41 +111,32 @@ module _ (c : Configuration) (u : ℕ) where
       (λ high. rw (eq-eqb _ _ own, ne-eqb _ _ other, connectionAt, le-ltb (k .useport) 16 (omega arith)) (by-port-line n q h))))
       (λ foreign. rw (ne-eqb _ _ foreign, connectionAt) (by-port-line n q h))
 
-  pub by-port-none : record { connections = replicate 16 noConnection; ports = 0 } ≡ byPort c u 0
-  unfolding byPort
-  by-port-none = refl
-
-  pub by-port-more : (b d : ByPort) (k : Connection) (l : ℕ) → b ≡ byPort c u l → k ≡ connection c l → d ≡ noted b u k → d ≡ byPort c u (l + 1)
-  unfolding byPort
-  by-port-more b d k l e f g = g ∙ rw (e, f, add-one l)
-
 -- ---- lines in turn
-
-pub turn-none : (f : ℕ → List ℕ) → inTurn f 0 ≡ []
-unfolding inTurn
-turn-none f = refl
-
-pub turn-more : (f : ℕ → List ℕ) (k : ℕ) → inTurn f (k + 1) ≡ inTurn f k ++ f k
-unfolding inTurn
-turn-more f k = rw (add-one k)
 
 turn-same : (f g : ℕ → List ℕ) (n : ℕ) → ((k : ℕ) → k < n → f k ≡ g k) → inTurn f n ≡ inTurn g n
 unfolding inTurn
 turn-same f g zero e = refl
 turn-same f g (suc n) e = ap₂ _++_ (turn-same f g n (λ k h. e k (omega arith))) (e n (omega arith))
 
--- the lines of all sixteen ports
-pub by-port-lines : (c : Configuration) (u : ℕ) (b : ByPort) → b ≡ byPort c u (c .count) → inTurn (lineBy b) 16 ≡ inTurn (connectionAt c (c .count) u) 16
-by-port-lines c u b e = turn-same (lineBy b) (connectionAt c (c .count) u) 16 (λ q h. rw e (sym (by-port-line c u (c .count) q h)))
+-- the first n of them are written
+pub record Turns (f : ℕ → List ℕ) (n : ℕ) (old new : List ℕ) (used : ℕ) : Type 0 where
+  pub same-length : length new ≡ length old
+  pub written : Written old (inTurn f n) new 0 used
 
-module _ (c : Configuration) where
-  pub instances-lines : inTurn (lineOf c lines.Instances) 32 ≡ instancesText c
-  unfolding lineOf instancesText
-  instances-lines = turn-same (lineOf c lines.Instances) (instanceAt c) 32 (λ k h. refl)
+pub turns-none : {f : ℕ → List ℕ} {old : List ℕ} → Turns f 0 old old 0
+unfolding inTurn
+turns-none {f} {old} = record { same-length = refl; written = none old 0 }
 
-  pub connections-lines : inTurn (lineOf c lines.Connections) 32 ≡ connectionsText c
-  unfolding lineOf connectionsText
-  connections-lines = turn-same (lineOf c lines.Connections) (λ u. inTurn (connectionAt c (c .count) u) 16) 32 (λ u h. refl)
+pub turns-more : {f : ℕ → List ℕ} {k : ℕ} {old mid end : List ℕ} {a b : ℕ} → Turns f k old mid a → Written (free a mid) (f k) end 0 b → Turns f (k + 1) old (back a mid end) (a + b)
+unfolding inTurn
+turns-more {f} {k} h v = let w = next (h .written) v in record { same-length = length-written w; written = rw (add-one k) w }
+
+-- the lines of the connections are those of each user's ports
+pub connections-lines : (c : Configuration) → inTurn (userLines (c .connections) (c .count)) 32 ≡ connectionsText c
+unfolding connectionsText
+connections-lines c =
+    turn-same (userLines (c .connections) (c .count)) (λ u. inTurn (connectionAt c (c .count) u) 16) 32
+    (λ u h. turn-same (lineBy (byPort (c .connections) u (c .count))) (connectionAt c (c .count) u) 16 (λ q l. sym (by-port-line c u (c .count) q l)))
 
 pub parts : (w : Walked) → headPart w ++ instancesPart (w .configuration) ++ connectionsPart (w .configuration) ≡ report w
 unfolding headPart instancesPart connectionsPart report

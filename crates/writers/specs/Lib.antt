@@ -1,2 +1,2 @@
--- The lines that are written in turn.
+-- A user's connections by port, and the report's parts.
 pub mod Lines

@@ -1,21 +1,19 @@
--- The report's parts as the writers take them: a user's connections by port, and the lines that are written in turn.
+-- The report's parts as the writers take them, and a user's connections by port.
 use Prim.Native.Nat.{ℕ, zero, suc}
 use mathlib.Core.Bool.{_&&_, cond}
 use mathlib.Core.List.{List, _++_}
 use lib.Dec.{eqb, ltb}
-use lib.ListN.{set, replicate}
-use Rattle.sets.specs.Mask.{with}
+use lib.ListN.{getD, set, replicate}
+use Rattle.sets.specs.Mask.{member, with}
 use Rattle.forms.specs.Reader.{bytes}
-use Rattle.forms.specs.Write.{inTurn}
+use Rattle.forms.specs.Write.{when, inTurn}
 use Rattle.model.specs.declared.Connection.{Connection}
 use Rattle.model.specs.declared.Configuration.{Configuration}
 use Rattle.model.specs.declared.Walked.{Walked}
 use Rattle.model.specs.Empty.{noConnection}
-use Rattle.model.specs.View.{instance, connection}
-use Rattle.report.specs.Report.{tally, countText, instanceAt, connectionAt, instancesText, connectionsText}
+use Rattle.model.specs.View.{instance}
+use Rattle.report.specs.Report.{tally, countText, connectionText, instancesText, connectionsText}
 use Rattle.writers.specs.declared.ByPort.{ByPort}
-use Rattle.writers.specs.declared.Lines.{Lines}
-use Rattle.writers.specs.declared.Lines.the-variants as lines
 
 -- the connection k among those of the user u, where it is one
 unfoldable pub noted : ByPort → ℕ → Connection → ByPort
@@ -25,14 +23,17 @@ noted b u k =
     b
 
 -- of the first n connections those of the user u
-unfoldable pub byPort : Configuration → ℕ → ℕ → ByPort
-byPort c u zero = record { connections = replicate 16 noConnection; ports = 0 }
-byPort c u (suc n) = noted (byPort c u n) u (connection c n)
+unfoldable pub byPort : List Connection → ℕ → ℕ → ByPort
+byPort ks u zero = record { connections = replicate 16 noConnection; ports = 0 }
+byPort ks u (suc n) = noted (byPort ks u n) u (getD ks n noConnection)
 
--- the lines of id i
-unfoldable pub lineOf : Configuration → Lines → ℕ → List ℕ
-lineOf c lines.Instances i = instanceAt c i
-lineOf c lines.Connections i = inTurn (connectionAt c (c .count) i) 16
+-- what stands for port q: its line, nothing where it has no connection
+abbrev pub lineBy : ByPort → ℕ → List ℕ
+lineBy b q = when (member q (b .ports)) (connectionText (getD (b .connections) q noConnection))
+
+-- those of all its ports
+abbrev pub userLines : List Connection → ℕ → ℕ → List ℕ
+userLines ks n u = inTurn (lineBy (byPort ks u n)) 16
 
 unfoldable pub headPart : Walked → List ℕ
 headPart w = countText (bytes "accepted=") (w .accepted) ++ countText (bytes "refused=") (w .refused) ++ countText (bytes "next=") (w .configuration .done)

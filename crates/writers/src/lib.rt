@@ -10,18 +10,17 @@ use model::Connection;
 use model::Instance;
 use model::Text;
 use model::Walked;
-use model::instance_of;
 use model::no_connection;
 use sets::member;
 use sets::with;
 ghost use mathlib.Core.Path.{_≡_};
 ghost use lib.ListN.{length, getD};
 ghost use Rattle.model.specs.View.{instance, listOf};
-ghost use Rattle.forms.specs.Write.{when, inTurn};
-ghost use Rattle.report.specs.Report.{tally, countText, instanceText, connectionText, instanceAt, connectionAt, report};
+ghost use Rattle.forms.specs.Write.{when};
+ghost use Rattle.report.specs.Report.{tally, countText, instanceText, connectionText, instancesText, connectionsText, report};
 ghost use Rattle.report.specs.Faults.{textText, faultText};
 ghost use Rattle.inks.specs.Written.{Written};
-ghost use Rattle.writers.specs.Lines.{noted, byPort, lineOf, headPart, instancesPart, connectionsPart};
+ghost use Rattle.writers.specs.Lines.{noted, byPort, userLines, headPart, instancesPart, connectionsPart};
 
 // key=number
 pub fn write_count(t: &mut [u8], key: &[u8], v: usize) -> usize
@@ -66,17 +65,31 @@ fn write_connection(t: &mut [u8], k: Connection) -> usize
     write_byte(t, at, b'\n')
 }
 
-// Instance i's line, nothing where it is absent.
-fn write_instance_at(t: &mut [u8], c: Configuration, i: usize) -> usize
-    ensures { λ r. ⌜ Written (now (t .entry)) (instanceAt c i) (now (t .exit)) 0 r ⌝ }
+// Its line, nothing where it is absent.
+fn write_present(t: &mut [u8], i: usize, w: Instance, slots: &[u8]) -> usize
+    ensures { λ r. ⌜ Written (now (t .entry)) (when (w .present) (instanceText i w (listOf (w .queued) (λ s. getD (now (slots .entry)) s 0)))) (now (t .exit)) 0 r ⌝ }
 {
-    let w = instance_of(c, i);
-    if !w.present {
-        return 0;
+    if w.present {
+        write_instance(t, i, w, slots)
+    } else {
+        0
     }
+}
+
+// The lines of the instances by id. The configuration is read here alone, so that it isn't copied for a line.
+fn write_instance_lines(t: &mut [u8], c: Configuration) -> usize
+    ensures { λ r. ⌜ Written (now (t .entry)) (instancesText c) (now (t .exit)) 0 r ⌝ }
+{
     let queue = c.queue;
-    let start = i * 8;
-    write_instance(t, i, w, &queue[start..])
+    let mut used: usize = 0;
+    let mut i: usize = 0;
+    while i < 32 {
+        let w = c.instances[i];
+        let start = i * 8;
+        used += write_present(&mut t[used..], i, w, &queue[start..]);
+        i += 1;
+    }
+    used
 }
 
 // A user's connections: the last of each of its sixteen ports, and which ports have one.
@@ -103,18 +116,18 @@ fn noted(b: ByPort, user: usize, k: Connection) -> ByPort
 }
 
 // In one pass, so that no line is looked for in the whole list.
-fn by_port(c: Configuration, user: usize) -> ByPort
-    ensures { λ r. ⌜ r ≡ byPort c user (c .count) ⌝ }
+fn by_port(connections: [Connection; 64], count: u8, user: usize) -> ByPort
+    ensures { λ r. ⌜ r ≡ byPort connections user count ⌝ }
 {
     let mut b = ByPort {
         connections: [no_connection(); 16],
         ports: 0,
     };
-    let n = c.count as usize;
+    let n = count as usize;
     let mut l: usize = 0;
     while l < n {
         let k = if l < 64 {
-            c.connections[l]
+            connections[l]
         } else {
             no_connection()
         };
@@ -132,10 +145,15 @@ fn write_found(t: &mut [u8], found: bool, k: Connection) -> usize
 }
 
 // The lines of a user's connections by port.
-fn write_connections_of(t: &mut [u8], c: Configuration, user: usize) -> usize
-    ensures { λ r. ⌜ Written (now (t .entry)) (inTurn (connectionAt c (c .count) user) 16) (now (t .exit)) 0 r ⌝ }
+fn write_connections_of(
+    t: &mut [u8],
+    connections: [Connection; 64],
+    count: u8,
+    user: usize,
+) -> usize
+    ensures { λ r. ⌜ Written (now (t .entry)) (userLines connections count user) (now (t .exit)) 0 r ⌝ }
 {
-    let b = by_port(c, user);
+    let b = by_port(connections, count, user);
     let mut used: usize = 0;
     let mut q: usize = 0;
     while q < 16 {
@@ -146,31 +164,17 @@ fn write_connections_of(t: &mut [u8], c: Configuration, user: usize) -> usize
     used
 }
 
-// The lines that are written in turn, so that one loop writes both: of the instances by id, of the connections by user and then port.
-enum Lines {
-    Instances,
-    Connections,
-}
-
-// Those of id i.
-fn write_line(t: &mut [u8], c: Configuration, lines: Lines, i: usize) -> usize
-    ensures { λ r. ⌜ Written (now (t .entry)) (lineOf c lines i) (now (t .exit)) 0 r ⌝ }
+// The lines of the connections by user and then port.
+fn write_connection_lines(t: &mut [u8], c: Configuration) -> usize
+    ensures { λ r. ⌜ Written (now (t .entry)) (connectionsText c) (now (t .exit)) 0 r ⌝ }
 {
-    match lines {
-        Lines::Instances => write_instance_at(t, c, i),
-        Lines::Connections => write_connections_of(t, c, i),
-    }
-}
-
-// Those of every id.
-fn write_lines(t: &mut [u8], c: Configuration, lines: Lines) -> usize
-    ensures { λ r. ⌜ Written (now (t .entry)) (inTurn (lineOf c lines) 32) (now (t .exit)) 0 r ⌝ }
-{
+    let connections = c.connections;
+    let count = c.count;
     let mut used: usize = 0;
-    let mut i: usize = 0;
-    while i < 32 {
-        used += write_line(&mut t[used..], c, lines, i);
-        i += 1;
+    let mut user: usize = 0;
+    while user < 32 {
+        used += write_connections_of(&mut t[used..], connections, count, user);
+        user += 1;
     }
     used
 }
@@ -182,7 +186,7 @@ fn present(c: Configuration) -> usize
     let mut n: usize = 0;
     let mut i: usize = 0;
     while i < 32 {
-        if instance_of(c, i).present {
+        if c.instances[i].present {
             n += 1;
         }
         i += 1;
@@ -204,7 +208,7 @@ fn write_instances(t: &mut [u8], c: Configuration) -> usize
     ensures { λ r. ⌜ Written (now (t .entry)) (instancesPart c) (now (t .exit)) 0 r ⌝ }
 {
     let used = write_count(t, b"instances=", present(c));
-    used + write_lines(&mut t[used..], c, Lines::Instances)
+    used + write_instance_lines(&mut t[used..], c)
 }
 
 // connections= and a line for each
@@ -212,7 +216,7 @@ fn write_connections(t: &mut [u8], c: Configuration) -> usize
     ensures { λ r. ⌜ Written (now (t .entry)) (connectionsPart c) (now (t .exit)) 0 r ⌝ }
 {
     let used = write_count(t, b"connections=", c.count as usize);
-    used + write_lines(&mut t[used..], c, Lines::Connections)
+    used + write_connection_lines(&mut t[used..], c)
 }
 
 // The whole report.

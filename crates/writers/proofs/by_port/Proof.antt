@@ -3,30 +3,32 @@ use Prim.Native.Nat.{_≤_, _-_}
 use mathlib.Core.Path.{_≡_, sym, _∙_}
 use mathlib.Core.Logic.{⊎-elim}
 use native.Mathlib.Omega.{arith}
+use lib.ListN.{length, getD}
 use borrow.Author.Needs.{needs}
 use Rattle.model.specs.Empty.{noConnection}
-use Rattle.model.specs.View.{connection}
-use Rattle.model.proofs.View.{array-length, past-end}
+use Rattle.model.proofs.View.{past-end}
 use Rattle.writers.specs.Lines.{byPort}
 use Rattle.writers.proofs.Parts.{by-port-none, by-port-more}
 use Rattle.writers.proofs.by_port.Statement.{statement}
 use Rattle.writers.proofs.by_port.Tie as tie
 
 abbrev Inv-loop : tie.InvT-loop
-Inv-loop user c b₀ n l₀ b l = (l ≤ n) × (b ≡ byPort c user l)
+Inv-loop count user connections b₀ n l₀ b l = (l ≤ n) × (b ≡ byPort connections user l)
 
 abbrev μ-loop : tie.MeasureT-loop
-μ-loop user c b₀ n l₀ b l = n - l
+μ-loop count user connections b₀ n l₀ b l = n - l
 
 loop-holds : tie.Need-loop-holds Inv-loop μ-loop
 loop-holds c = (omega arith, rw (c .no-connection .ensures) (by-port-none _ _))
 
+full : (s : tie.Start Inv-loop μ-loop) → length (s .args .t1) ≡ 64
+full s = search needs
+
 -- the connection that the turn looks at
-read : (a : tie.Joined1 Inv-loop μ-loop) → a .if1 .k ≡ connection (a .before .before .before .before .args .t1) (a .before .before .loop .l)
+read : (a : tie.Joined1 Inv-loop μ-loop) → a .if1 .k ≡ getD (a .before .before .before .before .args .t1) (a .before .before .loop .l) noConnection
 read a =
-    let ks = a .before .before .before .before .args .t1 .connections in
-    let full = array-length _ ks (a .before .before .before .before .good .0 .1 .1 .1 .1 .0 .1 .0 .1) in
-    ⊎-elim (λ w. w .2) (λ w. w .2 ∙ w .1 .ensures ∙ sym (past-end ks noConnection full (w .0 .left))) (a .if1 .came)
+    let s = a .before .before .before .before in
+    ⊎-elim (λ w. w .2) (λ w. w .2 ∙ w .1 .ensures ∙ sym (past-end (s .args .t1) noConnection (full s) (w .0 .left))) (a .if1 .came)
 
 loop-again : tie.Need-loop-again Inv-loop μ-loop
 loop-again c =
@@ -34,11 +36,11 @@ loop-again c =
     (omega arith, by-port-more _ _ _ _ _ _ (l .inv .1) (read (c .before)) (c .noted .ensures))
 
 returns : tie.Need-returns Inv-loop μ-loop
-returns c = let e : c .before .loop .l ≡ c .before .before .before .args .t1 .count = omega arith in rw e at (c .before .loop .inv .1)
+returns c = let e : c .before .loop .l ≡ c .before .before .before .args .count = omega arith in rw e at (c .before .loop .inv .1)
 
 pub by-port-spec : {M : Type 1} → statement M
 by-port-spec =
     tie.close
     (tie.spec
-    Inv-loop μ-loop (λ c κs. search needs) (λ c. search needs) loop-holds (λ c. search needs) (λ c. search needs) (λ c κs. search needs)
+    Inv-loop μ-loop (λ c κs. search needs) loop-holds (λ c. search needs) (λ c. search needs) (λ c κs. search needs)
     (λ c κs. search needs) (λ c. search needs) (λ c. omega arith) loop-again returns)

@@ -1,9 +1,8 @@
 -- The instances below i are counted; what is left of the 32 falls.
 use Prim.Native.Nat.{_≤_, _-_}
-use mathlib.Core.Path.{_≡_, refl, ap, sym, _∙_}
+use mathlib.Core.Path.{_≡_, sym, _∙_}
 use mathlib.Core.Logic.{⊎-elim}
 use native.Mathlib.Omega.{arith}
-use Rattle.model.specs.declared.Instance.{Instance}
 use Rattle.model.specs.View.{instance}
 use Rattle.report.specs.Report.{tally}
 use Rattle.writers.proofs.Parts.{tally-none, tally-one, tally-same}
@@ -22,11 +21,10 @@ loop-holds c = (omega arith, omega arith, sym (tally-none _))
 
 loop-again : tie.Need-loop-again Inv-loop μ-loop
 loop-again c =
-    let l = c .before .before .before .loop in
-    let is = sym (ap (λ (v : Instance). v .present) (c .before .instance-of .ensures)) in
+    let l = c .before .before .loop in
     ⊎-elim
-    (λ w. (omega arith, omega (arith, w .1), w .1 ∙ rw (l .inv .2) (sym (tally-one _ _ (is ∙ w .0 .taken)))))
-    (λ w. (omega arith, omega (arith, w .1), w .1 ∙ rw (l .inv .2) (sym (tally-same _ _ (is ∙ w .0 .left)))))
+    (λ w. (omega arith, omega (arith, w .1), w .1 ∙ rw (l .inv .2) (sym (tally-one _ _ (w .0 .taken)))))
+    (λ w. (omega arith, omega (arith, w .1), w .1 ∙ rw (l .inv .2) (sym (tally-same _ _ (w .0 .left)))))
     (c .if1 .came)
 
 returns : tie.Need-returns Inv-loop μ-loop
@@ -36,4 +34,4 @@ pub present-spec : {M : Type 1} → statement M
 present-spec =
     tie.close
     (tie.spec
-    Inv-loop μ-loop loop-holds (λ c κs. search needs) (λ c. search needs) (λ c. search needs) (λ c. omega arith) loop-again returns)
+    Inv-loop μ-loop loop-holds (λ c. search needs) (λ c. search needs) (λ c. search needs) (λ c. search needs) (λ c. omega arith) loop-again returns)

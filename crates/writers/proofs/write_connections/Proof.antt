@@ -1,7 +1,6 @@
 use borrow.Author.Needs.{needs}
 use Rattle.inks.proofs.Laws.{next}
 use Rattle.writers.specs.Lines.{connectionsPart}
-use Rattle.writers.proofs.Parts.{connections-lines}
 use Rattle.writers.proofs.write_connections.Statement.{statement}
 use Rattle.writers.proofs.write_connections.Tie as tie
 
@@ -10,7 +9,7 @@ unfolding connectionsPart
 returns c =
     let lines = c .before .before in
     let count = lines .before .before .before .before in
-    next (count .write-count .ensures) (rw (connections-lines _) at (lines .write-lines .ensures))
+    next (count .write-count .ensures) (lines .write-connection-lines .ensures)
 
 pub write-connections-spec : {M : Type 1} → statement M
 write-connections-spec =

@@ -1,37 +1,34 @@
 -- The lines of the ports below q are written; what is left of the sixteen falls.
 use Prim.Native.Nat.{_≤_, _-_}
-use mathlib.Core.Path.{_≡_, refl, sym}
+use mathlib.Core.Path.{_≡_}
 use native.Mathlib.Omega.{arith}
-use lib.ListN.{length}
 use borrow.Author.Needs.{needs}
-use Rattle.forms.specs.Write.{inTurn}
-use Rattle.inks.specs.Written.{Written}
-use Rattle.inks.proofs.Laws.{none, next, length-written}
-use Rattle.writers.proofs.Parts.{lineBy, by-port-lines, turn-none, turn-more}
+use Rattle.inks.proofs.Laws.{length-written}
+use Rattle.writers.specs.Lines.{lineBy}
+use Rattle.writers.proofs.Parts.{Turns, turns-none, turns-more}
 use Rattle.writers.proofs.write_connections_of.Statement.{statement}
 use Rattle.writers.proofs.write_connections_of.Tie as tie
 
 abbrev Inv-loop : tie.InvT-loop
-Inv-loop t₀ user b used₀ q₀ t used q = (q ≤ 16) × (length t ≡ length t₀) × Written t₀ (inTurn (lineBy b) q) t 0 used
+Inv-loop t₀ count user b used₀ q₀ t used q = (q ≤ 16) × Turns (lineBy b) q t₀ t used
 
 abbrev μ-loop : tie.MeasureT-loop
-μ-loop t₀ user b used₀ q₀ t used q = 16 - q
+μ-loop t₀ count user b used₀ q₀ t used q = 16 - q
 
 loop-holds : tie.Need-loop-holds Inv-loop μ-loop
-loop-holds c = (omega arith, refl, rw (turn-none _) (none _ _))
+loop-holds c = (omega arith, turns-none)
 
 loop-again : tie.Need-loop-again Inv-loop μ-loop
 loop-again c =
     let line = c .before .before in
     let found = line .before .before .before in
-    let w = next (found .before .before .loop .inv .2) (rw (found .member .ensures) at (line .write-found .ensures)) in
-    (omega arith, length-written w, rw (turn-more _ _) w)
+    (omega arith, turns-more (found .before .before .loop .inv .1) (rw (found .member .ensures) at (line .write-found .ensures)))
 
 returns : tie.Need-returns Inv-loop μ-loop
 returns c =
     let b = c .before .before .by-port in
     let e : c .before .loop .q ≡ 16 = omega arith in
-    rw (← by-port-lines _ _ _ (b .ensures)) (rw e at (c .before .loop .inv .2))
+    rw (← b .ensures) (rw e at (c .before .loop .inv .1 .written))
 
 pub write-connections-of-spec : {M : Type 1} → statement M
 write-connections-of-spec =
