@@ -4,7 +4,7 @@ use Prim.Native.Nat.{ℕ, zero, suc, _+_, _-_, _*_, _<_}
 use mathlib.Core.Path.{_≡_, refl, ap, ap₂, sym, _∙_}
 use mathlib.Core.Logic.{by-cases}
 use mathlib.Core.Bool.{Bool, true, false, _&&_, or-true, or-false}
-use mathlib.Core.List.{List, _++_, append-assoc}
+use mathlib.Core.List.{List, [], _++_, append-assoc}
 use native.Mathlib.Omega.{arith}
 use native.Mathlib.Numerals.{add-one}
 use native.Mathlib.Nat.{add-zero}
@@ -117,6 +117,12 @@ turn-same : (f g : ℕ → List ℕ) (n : ℕ) → ((k : ℕ) → k < n → f k 
 unfolding inTurn
 turn-same f g zero e = refl
 turn-same f g (suc n) e = ap₂ _++_ (turn-same f g n (λ k h. e k (omega arith))) (e n (omega arith))
+
+-- where no port has a connection there are none
+pub no-lines : (b : ByPort) → b .ports ≡ 0 → (n : ℕ) → inTurn (lineBy b) n ≡ []
+unfolding inTurn
+no-lines b e zero = refl
+no-lines b e (suc n) = rw (no-lines b e n, e, member-past 0 n 0 (omega arith) (omega arith))
 
 -- the first n of them are written
 pub record Turns (f : ℕ → List ℕ) (n : ℕ) (old new : List ℕ) (used : ℕ) : Type 0 where

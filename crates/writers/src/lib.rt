@@ -144,7 +144,7 @@ fn write_found(t: &mut [u8], found: bool, k: Connection) -> usize
     if found { write_connection(t, k) } else { 0 }
 }
 
-// The lines of a user's connections by port.
+// The lines of a user's connections by port. Most users have none, and no port is looked at.
 fn write_connections_of(
     t: &mut [u8],
     connections: [Connection; 64],
@@ -154,6 +154,9 @@ fn write_connections_of(
     ensures { λ r. ⌜ Written (now (t .entry)) (userLines connections count user) (now (t .exit)) 0 r ⌝ }
 {
     let b = by_port(connections, count, user);
+    if b.ports == 0 {
+        return 0;
+    }
     let mut used: usize = 0;
     let mut q: usize = 0;
     while q < 16 {
