@@ -2,7 +2,7 @@
 -- Assumes nothing.
 use Prim.Native.Nat.{ℕ, _-_, _<_, _≤_}
 use mathlib.Core.List.{List}
-use mathlib.Core.Path.{_≡_, refl}
+use mathlib.Core.Path.{_≡_, refl, ap, _∙_}
 use mathlib.Core.Logic.{by-cases}
 use native.Mathlib.Omega.{arith}
 use native.Mathlib.Decide.{ℕ-discrete, decLt}
@@ -35,6 +35,9 @@ use Rattle.answers.specs.Answer.{answered as answerAnswered, answerRead}
 use Rattle.judged.specs.Course.{Course, faulty, reached, goOn, short, read, default, both, course}
 use Rattle.judged.specs.Judged.{faultLine}
 use Rattle.judged.proofs.Read.{both-read}
+use Rattle.judging.specs.declared.Outcome.the-variants.{Reached}
+use Rattle.judging.specs.declared.Pair.{Pair}
+use Rattle.judging.specs.Came.{Comes}
 
 -- ---- the length of a text
 
@@ -110,9 +113,12 @@ module _ (s a : List ℕ) where
   unfolding course
   both-fault x n at e = rw (← e)
 
-  pub both-walked : (t : Tables) (p : Program) (y : Answer) → reached (t, p, y) ≡ both s a → reached (walkAnswer default t p y) ≡ course s a
+  both-walked : (t : Tables) (p : Program) (y : Answer) → reached (t, p, y) ≡ both s a → reached (walkAnswer default t p y) ≡ course s a
   unfolding course
   both-walked t p y e = rw (← e)
+
+  pub pair-walked : (r : Pair) (w : Walked) → Comes r (both s a) → r .outcome ≡ Reached → w ≡ walkAnswer default (r .tables) (r .program) (r .steps) → reached w ≡ course s a
+  pair-walked r w h o e = ap reached e ∙ both-walked (r .tables) (r .program) (r .steps) (rw o at (h .same))
 
 -- ---- what is known of a walk, and of a fault
 

@@ -9,7 +9,8 @@ use model::Text;
 use model::Walked;
 ghost use mathlib.Core.Path.{_≡_};
 ghost use mathlib.Core.List.{List};
-ghost use Prim.Native.Nat.{ℕ, _+_};
+ghost use Prim.Native.Nat.{ℕ, _+_, _≤_};
+ghost use lib.Dec.{leb};
 ghost use lib.ListN.{length};
 ghost use Rattle.report.specs.Report.{report};
 ghost use Rattle.rules.specs.Walk.{walkAnswer};
@@ -24,6 +25,9 @@ ghost use Rattle.judging.specs.Part.{PartAt};
 const LONGEST: usize = 32768;
 
 const DEFAULT: u8 = 4;
+
+// The bytes of the longest report that two texts can come to.
+const LARGEST: usize = 8182;
 
 // A text is refused with a number at a place of it, or both are read.
 pub enum Outcome {
@@ -201,14 +205,33 @@ pub fn step_place(w: Walked, answer: &[u8]) -> Place
     }
 }
 
-// "for 6, the empty start of the answer", where the report is longer than the room
+// "for 6, the empty start of the answer"
+fn walk_place(w: Walked, fits: bool, answer: &[u8]) -> Place
+    ensures { λ r. ⌜ ((x : List ℕ) (room : ℕ) → fits ≡ leb (length x) room → r ≡ inRoom room w x (now (answer .entry)) .place) ⌝ }
+{
+    if fits {
+        step_place(w, answer)
+    } else {
+        empty_at(Text::Answer, 0)
+    }
+}
+
+// The same, of a report with so many bytes.
 pub fn place_in_room(w: Walked, size: usize, answer: &[u8], room: usize) -> Place
     ensures { λ r. ⌜ ((x : List ℕ) → size ≡ length x → r ≡ inRoom room w x (now (answer .entry)) .place) ⌝ }
 {
-    if room < size {
-        return empty_at(Text::Answer, 0);
+    walk_place(w, size <= room, answer)
+}
+
+// Whether the report has room. Its length is looked for only where a walk's report can lack it, so that else it is written but once.
+fn has_room(w: Walked, room: usize) -> bool
+    requires { ⌜ length (report w) ≤ 8182 ⌝ }
+    ensures { λ r. ⌜ r ≡ leb (length (report w)) room ⌝ }
+{
+    if LARGEST <= room {
+        return true;
     }
-    step_place(w, answer)
+    writers::report_length(w) <= room
 }
 
 // A verdict, and the place of the line at fault.
@@ -226,15 +249,16 @@ fn judge_fault(x: Text, s: &[u8], n: u8, at: usize) -> Judged
     Judged { verdict, place }
 }
 
-// The report, or 6 where it has no room: its length is known before its first byte is written.
+// The report, or 6 where it has no room, which is known before its first byte is written.
 fn judge_walk(w: Walked, answer: &[u8], lent: &mut [u8]) -> Judged
+    requires { ⌜ length (report w) ≤ 8182 ⌝ }
     ensures verdict { λ r. ⌜ r .verdict ≡ inRoom (length (now (lent .entry))) w (report w) (now (answer .entry)) .verdict ⌝ }
     ensures place { λ r. ⌜ r .place ≡ inRoom (length (now (lent .entry))) w (report w) (now (answer .entry)) .place ⌝ }
     ensures buffer { λ r. ⌜ now (lent .exit) ≡ over (inRoom (length (now (lent .entry))) w (report w) (now (answer .entry)) .bytes) (now (lent .entry)) ⌝ }
 {
-    let size = writers::report_length(w);
-    let place = place_in_room(w, size, answer, lent.len());
-    if lent.len() < size {
+    let fits = has_room(w, lent.len());
+    let place = walk_place(w, fits, answer);
+    if !fits {
         let verdict = no_room();
         return Judged { verdict, place };
     }
@@ -277,8 +301,8 @@ pub fn place(sheet: &[u8], answer: &[u8], room: usize) -> Place
         Outcome::InAnswer(n, at) => fault_place(Text::Answer, answer, n, at),
         Outcome::Reached => {
             let walked = walk_pair(pair);
-            let size = writers::report_length(walked);
-            place_in_room(walked, size, answer, room)
+            let fits = has_room(walked, room);
+            walk_place(walked, fits, answer)
         }
     }
 }

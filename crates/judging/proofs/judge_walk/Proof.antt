@@ -1,6 +1,7 @@
+use mathlib.Core.Path.{sym, _∙_}
 use Rattle.report.specs.Report.{report}
 use Rattle.inks.proofs.Laws.{fits-all}
-use borrow.Author.Tests.{le-leb, lt-leb}
+use borrow.Author.Tests.{not-true, not-false, leb-true}
 use Rattle.judged.specs.Judged.{noRoom, afterWalk, inRoom, over}
 use borrow.Author.Needs.{needs}
 use Rattle.judging.proofs.judge_walk.Statement.{statement}
@@ -10,20 +11,20 @@ returns : tie.Need-returns
 unfolding inRoom noRoom over
 returns c =
     let d = c .before .before in
-    let size = d .before .report-length .ensures in
-    let e = lt-leb _ _ (rw size at (c .before .if1 .taken)) in
-    (rw (e, inRoom) (c .no-room .ensures), (d .place-in-room .ensures (report _) size, rw (e, inRoom)))
+    let fits = d .before .has-room in
+    let e = sym (fits .ensures) ∙ not-true (fits .result) (c .before .if1 .taken) in
+    (rw (e, inRoom) (c .no-room .ensures), (d .walk-place .ensures (report _) _ (fits .ensures), rw (e, inRoom)))
 
 returns-2 : tie.Need-returns-2
 unfolding inRoom afterWalk over
 returns-2 c =
-    let d = c .before .before .before .before .before .before in
+    let left = c .before .before .before .before .before in
+    let d = left .before in
     let x = d .before .before .before .before .args in
-    let size = d .before .report-length .ensures in
-    let room = rw size at (c .before .before .before .before .before .if1 .left) in
-    let whole = fits-all (c .before .before .before .write-report .ensures) room in
-    let e = le-leb _ _ room in
-    (rw (e, inRoom) (c .walk-verdict .ensures (report (x .w)) (x .answer .now) (whole .0)), (d .place-in-room .ensures (report (x .w)) size, rw (e, inRoom) (whole .1)))
+    let fits = d .before .has-room in
+    let e = sym (fits .ensures) ∙ not-false (fits .result) (left .if1 .left) in
+    let whole = fits-all (c .before .before .before .write-report .ensures) (leb-true _ _ e) in
+    (rw (e, inRoom) (c .walk-verdict .ensures (report (x .w)) (x .answer .now) (whole .0)), (d .walk-place .ensures (report (x .w)) _ (fits .ensures), rw (e, inRoom) (whole .1)))
 
 pub judge-walk-spec : {M : Type 1} → statement M
 judge-walk-spec =
