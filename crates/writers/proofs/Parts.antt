@@ -3,8 +3,8 @@
 use Prim.Native.Nat.{ℕ, zero, suc, _+_, _-_, _*_, _<_}
 use mathlib.Core.Path.{_≡_, refl, ap, ap₂, sym, _∙_}
 use mathlib.Core.Logic.{by-cases}
-use mathlib.Core.Bool.{Bool, true, false, _&&_, or-true, or-false}
-use mathlib.Core.List.{List, [], _++_, append-assoc}
+use mathlib.Core.Bool.{Bool, true, false, _&&_, or-true, or-false, true≢false}
+use mathlib.Core.List.{List, [], _++_, append-assoc, append-nil}
 use native.Mathlib.Omega.{arith}
 use native.Mathlib.Numerals.{add-one}
 use native.Mathlib.Nat.{add-zero}
@@ -17,7 +17,7 @@ use Rattle.forms.proofs.Tests.{by-test}
 use Rattle.forms.specs.Write.{when, inTurn}
 use Rattle.inks.specs.Written.{Written}
 use Rattle.inks.proofs.Laws.{none, next, free, back, length-written}
-use Rattle.sets.specs.Mask.{with}
+use Rattle.sets.specs.Mask.{member, with}
 use Rattle.sets.proofs.Laws.{member-past, member-with}
 use Rattle.model.specs.declared.Connection.{Connection}
 use Rattle.model.specs.declared.Configuration.{Configuration}
@@ -27,7 +27,7 @@ use Rattle.model.proofs.View.{list-same}
 use Rattle.model.specs.declared.Walked.{Walked}
 use Rattle.report.specs.Report.{tally, instanceText, connectionText, instanceAt, connectionAt, connectionsText, report}
 use Rattle.writers.specs.declared.ByPort.{ByPort}
-use Rattle.writers.specs.Lines.{noted, byPort, lineBy, userLines, headPart, instancesPart, connectionsPart}
+use Rattle.writers.specs.Lines.{noted, byPort, lineBy, userLines, usersOf, headPart, instancesPart, connectionsPart}
 
 -- ---- a count
 
@@ -89,6 +89,19 @@ module _ (ks : List Connection) (u : ℕ) where
   unfolding byPort
   by-port-more b d k l e f g = g ∙ rw (e, f, add-one l)
 
+  -- where u is the user of no connection, no port of it has one
+  by-port-absent : u < 32 → (n : ℕ) → member u (usersOf ks n) ≡ false → byPort ks u n .ports ≡ 0
+  unfolding byPort usersOf noted
+  by-port-absent h zero e = refl
+  by-port-absent h (suc n) e =
+      let k = getD ks n noConnection in
+      let marked = member-with u (k .user) (usersOf ks n) h in
+      by-cases (ℕ-discrete (k .user) u)
+      (λ own. absurd (true≢false (sym (rw (eq-eqb u (k .user) (sym own), or-true) at marked) ∙ e)))
+      (λ foreign.
+      let old = rw (ne-eqb u (k .user) (λ z. foreign (sym z)), or-false) at marked in
+      rw (ne-eqb _ _ foreign) (by-port-absent h n (sym old ∙ e)))
+
 module _ (c : Configuration) (u : ℕ) where
   by-port-line : (n q : ℕ) → q < 16 → connectionAt c n u q ≡ lineBy (byPort (c .connections) u n) q
   unfolding connectionAt byPort noted
@@ -111,6 +124,17 @@ module _ (c : Configuration) (u : ℕ) where
       (λ high. rw (eq-eqb _ _ own, ne-eqb _ _ other, connectionAt, le-ltb (k .useport) 16 (omega arith)) (by-port-line n q h))))
       (λ foreign. rw (ne-eqb _ _ foreign, connectionAt) (by-port-line n q h))
 
+-- ---- the users
+
+module _ (ks : List Connection) where
+  pub users-none : 0 ≡ usersOf ks 0
+  unfolding usersOf
+  users-none = refl
+
+  pub users-more : (m d : ℕ) (k : Connection) (l : ℕ) → m ≡ usersOf ks l → k ≡ getD ks l noConnection → d ≡ with (k .user) m → d ≡ usersOf ks (l + 1)
+  unfolding usersOf
+  users-more m d k l e f g = g ∙ rw (e, f, add-one l)
+
 -- ---- lines in turn
 
 turn-same : (f g : ℕ → List ℕ) (n : ℕ) → ((k : ℕ) → k < n → f k ≡ g k) → inTurn f n ≡ inTurn g n
@@ -119,10 +143,13 @@ turn-same f g zero e = refl
 turn-same f g (suc n) e = ap₂ _++_ (turn-same f g n (λ k h. e k (omega arith))) (e n (omega arith))
 
 -- where no port has a connection there are none
-pub no-lines : (b : ByPort) → b .ports ≡ 0 → (n : ℕ) → inTurn (lineBy b) n ≡ []
+no-lines : (b : ByPort) → b .ports ≡ 0 → (n : ℕ) → inTurn (lineBy b) n ≡ []
 unfolding inTurn
 no-lines b e zero = refl
 no-lines b e (suc n) = rw (no-lines b e n, e, member-past 0 n 0 (omega arith) (omega arith))
+
+pub user-absent : (ks : List Connection) (n u : ℕ) → u < 32 → member u (usersOf ks n) ≡ false → userLines ks n u ≡ []
+user-absent ks n u h e = no-lines (byPort ks u n) (by-port-absent ks u h n e) 16
 
 -- the first n of them are written
 pub record Turns (f : ℕ → List ℕ) (n : ℕ) (old new : List ℕ) (used : ℕ) : Type 0 where
@@ -136,6 +163,10 @@ turns-none {f} {old} = record { same-length = refl; written = none old 0 }
 pub turns-more : {f : ℕ → List ℕ} {k : ℕ} {old mid end : List ℕ} {a b : ℕ} → Turns f k old mid a → Written (free a mid) (f k) end 0 b → Turns f (k + 1) old (back a mid end) (a + b)
 unfolding inTurn
 turns-more {f} {k} h v = let w = next (h .written) v in record { same-length = length-written w; written = rw (add-one k) w }
+
+pub turns-empty : {f : ℕ → List ℕ} {k : ℕ} {old mid : List ℕ} {a : ℕ} → Turns f k old mid a → f k ≡ [] → Turns f (k + 1) old mid a
+unfolding inTurn
+turns-empty {f} {k} h e = record { same-length = h .same-length; written = rw (add-one k, e, append-nil (inTurn f k)) (h .written) }
 
 -- the lines of the connections are those of each user's ports
 pub connections-lines : (c : Configuration) → inTurn (userLines (c .connections) (c .count)) 32 ≡ connectionsText c

@@ -35,6 +35,11 @@ lineBy b q = when (member q (b .ports)) (connectionText (getD (b .connections) q
 abbrev pub userLines : List Connection → ℕ → ℕ → List ℕ
 userLines ks n u = inTurn (lineBy (byPort ks u n)) 16
 
+-- the users of the first n connections
+unfoldable pub usersOf : List Connection → ℕ → ℕ
+usersOf ks zero = 0
+usersOf ks (suc n) = with (getD ks n noConnection .user) (usersOf ks n)
+
 unfoldable pub headPart : Walked → List ℕ
 headPart w = countText (bytes "accepted=") (w .accepted) ++ countText (bytes "refused=") (w .refused) ++ countText (bytes "next=") (w .configuration .done)
 

@@ -20,7 +20,7 @@ ghost use Rattle.forms.specs.Write.{when};
 ghost use Rattle.report.specs.Report.{tally, countText, instanceText, connectionText, instancesText, connectionsText, report};
 ghost use Rattle.report.specs.Faults.{textText, faultText};
 ghost use Rattle.inks.specs.Written.{Written};
-ghost use Rattle.writers.specs.Lines.{noted, byPort, userLines, headPart, instancesPart, connectionsPart};
+ghost use Rattle.writers.specs.Lines.{noted, byPort, userLines, usersOf, headPart, instancesPart, connectionsPart};
 
 // key=number
 pub fn write_count(t: &mut [u8], key: &[u8], v: usize) -> usize
@@ -144,7 +144,7 @@ fn write_found(t: &mut [u8], found: bool, k: Connection) -> usize
     if found { write_connection(t, k) } else { 0 }
 }
 
-// The lines of a user's connections by port. Most users have none, and no port is looked at.
+// The lines of a user's connections by port.
 fn write_connections_of(
     t: &mut [u8],
     connections: [Connection; 64],
@@ -154,9 +154,6 @@ fn write_connections_of(
     ensures { λ r. ⌜ Written (now (t .entry)) (userLines connections count user) (now (t .exit)) 0 r ⌝ }
 {
     let b = by_port(connections, count, user);
-    if b.ports == 0 {
-        return 0;
-    }
     let mut used: usize = 0;
     let mut q: usize = 0;
     while q < 16 {
@@ -167,16 +164,38 @@ fn write_connections_of(
     used
 }
 
-// The lines of the connections by user and then port.
+// The users that have a connection.
+fn users_of(connections: [Connection; 64], count: u8) -> u32
+    ensures { λ r. ⌜ r ≡ usersOf connections count ⌝ }
+{
+    let mut users: u32 = 0;
+    let n = count as usize;
+    let mut l: usize = 0;
+    while l < n {
+        let k = if l < 64 {
+            connections[l]
+        } else {
+            no_connection()
+        };
+        users = with(users, k.user as u32);
+        l += 1;
+    }
+    users
+}
+
+// The lines of the connections by user and then port. Most users have none, and nothing is looked for.
 fn write_connection_lines(t: &mut [u8], c: Configuration) -> usize
     ensures { λ r. ⌜ Written (now (t .entry)) (connectionsText c) (now (t .exit)) 0 r ⌝ }
 {
     let connections = c.connections;
     let count = c.count;
+    let users = users_of(connections, count);
     let mut used: usize = 0;
     let mut user: usize = 0;
     while user < 32 {
-        used += write_connections_of(&mut t[used..], connections, count, user);
+        if member(users, user as u32) {
+            used += write_connections_of(&mut t[used..], connections, count, user);
+        }
         user += 1;
     }
     used

@@ -3,9 +3,9 @@ use Prim.Native.Nat.{_≤_, _-_}
 use mathlib.Core.Path.{_≡_}
 use native.Mathlib.Omega.{arith}
 use borrow.Author.Needs.{needs}
-use Rattle.inks.proofs.Laws.{none, length-written}
+use Rattle.inks.proofs.Laws.{length-written}
 use Rattle.writers.specs.Lines.{lineBy}
-use Rattle.writers.proofs.Parts.{no-lines, Turns, turns-none, turns-more}
+use Rattle.writers.proofs.Parts.{Turns, turns-none, turns-more}
 use Rattle.writers.proofs.write_connections_of.Statement.{statement}
 use Rattle.writers.proofs.write_connections_of.Tie as tie
 
@@ -14,9 +14,6 @@ Inv-loop t₀ count user b used₀ q₀ t used q = (q ≤ 16) × Turns (lineBy b
 
 abbrev μ-loop : tie.MeasureT-loop
 μ-loop t₀ count user b used₀ q₀ t used q = 16 - q
-
-returns : tie.Need-returns Inv-loop μ-loop
-returns c = let b = c .before .by-port in rw (← b .ensures, no-lines (b .result) (c .if1 .taken) 16) (none _ _)
 
 loop-holds : tie.Need-loop-holds Inv-loop μ-loop
 loop-holds c = (omega arith, turns-none)
@@ -27,9 +24,9 @@ loop-again c =
     let found = line .before .before .before in
     (omega arith, turns-more (found .before .before .loop .inv .1) (rw (found .member .ensures) at (line .write-found .ensures)))
 
-returns-2 : tie.Need-returns-2 Inv-loop μ-loop
-returns-2 c =
-    let b = c .before .before .before .by-port in
+returns : tie.Need-returns Inv-loop μ-loop
+returns c =
+    let b = c .before .before .by-port in
     let e : c .before .loop .q ≡ 16 = omega arith in
     rw (← b .ensures) (rw e at (c .before .loop .inv .1 .written))
 
@@ -37,6 +34,6 @@ pub write-connections-of-spec : {M : Type 1} → statement M
 write-connections-of-spec =
     tie.close
     (tie.spec
-    Inv-loop μ-loop (λ c κs. search needs) returns loop-holds (λ c. search needs) (λ c κs. search needs) (λ c. search needs) (λ c. search needs)
+    Inv-loop μ-loop (λ c κs. search needs) loop-holds (λ c. search needs) (λ c κs. search needs) (λ c. search needs) (λ c. search needs)
     (λ c. search needs) (λ c. search needs) (λ c. search needs) (λ c κs. search needs) (λ c. search needs) (λ c. search needs)
-    (λ c. omega arith) loop-again (λ c. length-written (returns-2 c)) returns-2)
+    (λ c. omega arith) loop-again (λ c. length-written (returns c)) returns)
