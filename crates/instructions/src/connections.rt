@@ -1,10 +1,11 @@
 // What a connection is asked by `del`, `con` and `dcon`, and whether some connection passes.
-use model::Configuration;
 use model::Connection;
 use model::no_connection;
 use model::wide;
 use plans::connections::is_same;
 ghost use mathlib.Core.Path.{_≡_};
+ghost use mathlib.Core.List.{[]};
+ghost use Rattle.ports.specs.Rows.{parts};
 ghost use Rattle.rules.specs.Ports.{someConnection};
 ghost use Rattle.rules.specs.Del.{namedBy};
 ghost use Rattle.rules.specs.Con.{isOf};
@@ -39,11 +40,10 @@ fn passes(test: ConnectionTest, k: Connection) -> bool
     }
 }
 
-pub fn some_connection(test: ConnectionTest, c: Configuration) -> bool
-    ensures { λ r. ⌜ r ≡ someConnection c (passes test) ⌝ }
+pub fn some_connection(test: ConnectionTest, ks: [Connection; 64], count: u8) -> bool
+    ensures { λ r. ⌜ r ≡ someConnection (parts [] [] ks count) (passes test) ⌝ }
 {
-    let ks = c.connections;
-    let n = wide(c.count);
+    let n = wide(count);
     let mut l: usize = 0;
     while l < n {
         // read here: to pass the list on would be to copy it

@@ -4,7 +4,6 @@ mod connections;
 
 use connections::ConnectionTest;
 use connections::some_connection;
-use model::Configuration;
 use model::Connection;
 use model::Instance;
 use model::no_instance;
@@ -18,7 +17,7 @@ use ports::refuse_if;
 ghost use mathlib.Core.Path.{_≡_};
 ghost use mathlib.Core.List.{[]};
 ghost use Rattle.model.specs.View.{isUse};
-ghost use Rattle.ports.specs.Rows.{rows};
+ghost use Rattle.ports.specs.Rows.{rows, parts};
 ghost use Rattle.instructions.specs.Orders.{joining, addPlan, delPlan, pushbPlan, conPlan, dconPlan, waitPlan};
 
 const ID_ABSENT: u8 = 11;
@@ -79,10 +78,10 @@ pub fn add(v: Instance, k: u8, initial: u32) -> Plan
     }
 }
 
-pub fn del(c: Configuration, i: u8, v: Instance) -> Plan
-    ensures { λ r. ⌜ r ≡ delPlan c i v ⌝ }
+pub fn del(connections: [Connection; 64], count: u8, i: u8, v: Instance) -> Plan
+    ensures { λ r. ⌜ r ≡ delPlan (parts [] [] connections count) i v ⌝ }
 {
-    let named = some_connection(ConnectionTest::NamedBy(i), c);
+    let named = some_connection(ConnectionTest::NamedBy(i), connections, count);
     let busy = refuse_if(!(v.queued == 0), QUEUE_NOT_EMPTY, 0);
     let late = refuse_if(named, STILL_CONNECTED, busy);
     let refused = refuse_if(!v.present, ID_ABSENT, late);
@@ -127,15 +126,16 @@ pub fn con(
     ports: u8,
     others: u8,
     uses: &[u8; 256],
-    c: Configuration,
+    connections: [Connection; 64],
+    count: u8,
     v: Instance,
     w: Instance,
     k: Connection,
 ) -> Plan
-    ensures { λ r. ⌜ r ≡ conPlan ports others (rows [] [] (now (uses .entry)) [] []) c v w k ⌝ }
+    ensures { λ r. ⌜ r ≡ conPlan ports others (rows [] [] (now (uses .entry)) [] []) (parts [] [] connections count) v w k ⌝ }
 {
-    let full = refuse_if(!(c.count < 64), NO_MORE_CONNECTIONS, 0);
-    let taken = some_connection(ConnectionTest::IsOf(k.user, k.useport), c);
+    let full = refuse_if(!(count < 64), NO_MORE_CONNECTIONS, 0);
+    let taken = some_connection(ConnectionTest::IsOf(k.user, k.useport), connections, count);
     let apart = refuse_if(taken, ALREADY_CONNECTED, full);
     let joined = refuse_if(k.user == k.provider, ONE_INSTANCE, apart);
     let provides = (k.provideport < others) & !is_use(uses, w.kind, k.provideport);
@@ -152,15 +152,16 @@ pub fn con(
 pub fn dcon<'a>(
     places: &'a [u32; 256],
     transitions: &'a [u32; 256],
-    c: Configuration,
+    connections: [Connection; 64],
+    count: u8,
     v: Instance,
     k: Connection,
 ) -> Plan
-    ensures { λ r. ⌜ r ≡ dconPlan (rows [] [] [] (now (places .entry)) (now (transitions .entry))) c v k ⌝ }
+    ensures { λ r. ⌜ r ≡ dconPlan (rows [] [] [] (now (places .entry)) (now (transitions .entry))) (parts [] [] connections count) v k ⌝ }
 {
     let needed = active(places, transitions, v, k.useport);
     let late = refuse_if(needed, USE_PORT_ACTIVE, 0);
-    let found = some_connection(ConnectionTest::Same(k), c);
+    let found = some_connection(ConnectionTest::Same(k), connections, count);
     let refused = refuse_if(!found, NO_SUCH_CONNECTION, late);
     let joins = Joins::Without(k);
     joining(refused, v, joins)

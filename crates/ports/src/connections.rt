@@ -3,14 +3,13 @@ use crate::gap::slot_at;
 use crate::instance::active;
 use crate::instance::current;
 use crate::instance::refusing;
-use model::Configuration;
 use model::Connection;
 use model::Instance;
 use model::no_connection;
 use model::no_instance;
 ghost use mathlib.Core.Path.{_≡_};
 ghost use mathlib.Core.List.{[]};
-ghost use Rattle.ports.specs.Rows.{rows};
+ghost use Rattle.ports.specs.Rows.{rows, parts};
 ghost use Rattle.ports.specs.Tests.{endsOf, farPasses, marked};
 
 // Use port q of i has an active provider; it has a refusing one; provide port q of i has an active user.
@@ -80,19 +79,22 @@ pub fn mark<'a>(
     behaviors: &'a [u32; 128],
     places: &'a [u32; 256],
     transitions: &'a [u32; 256],
-    c: Configuration,
+    instances: [Instance; 32],
+    queue: &'a [u8; 256],
+    connections: [Connection; 64],
+    count: u8,
     i: u8,
     found: &mut [u8; 256],
 )
-    ensures { λ r. ⌜ now (found .exit) ≡ marked test (rows (now (source .entry)) (now (behaviors .entry)) [] (now (places .entry)) (now (transitions .entry))) c i
-        (now (found .entry)) (c .count) ⌝ }
+    ensures { λ r. ⌜ now (found .exit) ≡ marked test (rows (now (source .entry)) (now (behaviors .entry)) [] (now (places .entry)) (now (transitions .entry))) (parts instances (now (queue .entry)) connections count) i
+        (now (found .entry)) count ⌝ }
 {
-    let n = c.count as usize;
+    let n = count as usize;
     let mut l: usize = 0;
     while l < n {
         // the arrays are read here: to pass the configuration on would be to copy it
         let k = if l < 64 {
-            c.connections[l]
+            connections[l]
         } else {
             no_connection()
         };
@@ -100,11 +102,11 @@ pub fn mark<'a>(
         if e.near == i {
             let far = e.far as usize;
             let v = if far < 32 {
-                c.instances[far]
+                instances[far]
             } else {
                 no_instance()
             };
-            let head = slot_at(&c.queue, far * 8);
+            let head = slot_at(queue, far * 8);
             let port = e.farport;
             if far_passes(test, source, behaviors, places, transitions, v, head, port) {
                 found[e.nearport as usize] = 1;

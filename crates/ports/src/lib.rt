@@ -7,7 +7,7 @@ pub mod instance;
 use connections::ConnectionTest;
 use connections::mark;
 use instance::active;
-use model::Configuration;
+use model::Connection;
 use model::Instance;
 use model::Tables;
 use model::no_instance;
@@ -18,7 +18,7 @@ ghost use Rattle.sets.specs.Test.{any};
 ghost use Rattle.model.specs.View.{instance, put};
 ghost use Rattle.rules.specs.Refusal.{_⇒_∣_};
 ghost use Rattle.rules.specs.Instance.{active};
-ghost use Rattle.ports.specs.Rows.{rows};
+ghost use Rattle.ports.specs.Rows.{rows, parts};
 ghost use Rattle.ports.specs.Tests.{wantsKind, wantsActivity, wantsPort, askedBy, isFault, fails, failsBy, inUseCheck, refusingCheck, portsCheck};
 
 const UNSERVED: u8 = 34;
@@ -168,12 +168,15 @@ fn port_fails<'a>(
     uses: &'a [u8; 256],
     places: &'a [u32; 256],
     transitions: &'a [u32; 256],
-    c: Configuration,
+    instances: [Instance; 32],
+    queue: &'a [u8; 256],
+    connections: [Connection; 64],
+    count: u8,
     i: u8,
     v: Instance,
     w: Instance,
 ) -> bool
-    ensures { λ r. ⌜ r ≡ any n (fails test (rows (now (source .entry)) (now (behaviors .entry)) (now (uses .entry)) (now (places .entry)) (now (transitions .entry))) c i v w) ⌝ }
+    ensures { λ r. ⌜ r ≡ any n (fails test (rows (now (source .entry)) (now (behaviors .entry)) (now (uses .entry)) (now (places .entry)) (now (transitions .entry))) (parts instances (now (queue .entry)) connections count) i v w) ⌝ }
 {
     if !some_wanted(test, n, uses, places, transitions, v, w) {
         return false;
@@ -186,7 +189,10 @@ fn port_fails<'a>(
         behaviors,
         places,
         transitions,
-        c,
+        instances,
+        queue,
+        connections,
+        count,
         i,
         &mut found,
     );
@@ -208,12 +214,15 @@ fn in_use_check<'a>(
     uses: &'a [u8; 256],
     places: &'a [u32; 256],
     transitions: &'a [u32; 256],
-    c: Configuration,
+    instances: [Instance; 32],
+    queue: &'a [u8; 256],
+    connections: [Connection; 64],
+    count: u8,
     i: u8,
     v: Instance,
     w: Instance,
 ) -> u8
-    ensures { λ r. ⌜ r ≡ inUseCheck n (rows (now (source .entry)) (now (behaviors .entry)) (now (uses .entry)) (now (places .entry)) (now (transitions .entry))) c i v w ⌝ }
+    ensures { λ r. ⌜ r ≡ inUseCheck n (rows (now (source .entry)) (now (behaviors .entry)) (now (uses .entry)) (now (places .entry)) (now (transitions .entry))) (parts instances (now (queue .entry)) connections count) i v w ⌝ }
 {
     let fails = port_fails(
         PortTest::InUse,
@@ -223,7 +232,10 @@ fn in_use_check<'a>(
         uses,
         places,
         transitions,
-        c,
+        instances,
+        queue,
+        connections,
+        count,
         i,
         v,
         w,
@@ -239,12 +251,15 @@ fn refusing_check<'a>(
     uses: &'a [u8; 256],
     places: &'a [u32; 256],
     transitions: &'a [u32; 256],
-    c: Configuration,
+    instances: [Instance; 32],
+    queue: &'a [u8; 256],
+    connections: [Connection; 64],
+    count: u8,
     i: u8,
     v: Instance,
     w: Instance,
 ) -> u8
-    ensures { λ r. ⌜ r ≡ refusingCheck n (rows (now (source .entry)) (now (behaviors .entry)) (now (uses .entry)) (now (places .entry)) (now (transitions .entry))) c i v w ⌝ }
+    ensures { λ r. ⌜ r ≡ refusingCheck n (rows (now (source .entry)) (now (behaviors .entry)) (now (uses .entry)) (now (places .entry)) (now (transitions .entry))) (parts instances (now (queue .entry)) connections count) i v w ⌝ }
 {
     if port_fails(
         PortTest::Refusing,
@@ -254,14 +269,31 @@ fn refusing_check<'a>(
         uses,
         places,
         transitions,
-        c,
+        instances,
+        queue,
+        connections,
+        count,
         i,
         v,
         w,
     ) {
         return PROVIDER_REFUSING;
     }
-    in_use_check(n, source, behaviors, uses, places, transitions, c, i, v, w)
+    in_use_check(
+        n,
+        source,
+        behaviors,
+        uses,
+        places,
+        transitions,
+        instances,
+        queue,
+        connections,
+        count,
+        i,
+        v,
+        w,
+    )
 }
 
 // The port check of a move of instance i, over n ports: v is the instance before it, and after it stands in a trial configuration beside the
@@ -273,20 +305,23 @@ pub fn port_check<'a>(
     uses: &'a [u8; 256],
     places: &'a [u32; 256],
     transitions: &'a [u32; 256],
-    c: Configuration,
+    instances: [Instance; 32],
+    queue: &'a [u8; 256],
+    connections: [Connection; 64],
+    count: u8,
     i: u8,
     v: Instance,
     after: Instance,
 ) -> u8
-    ensures { λ r. ⌜ r ≡ portsCheck n (rows (now (source .entry)) (now (behaviors .entry)) (now (uses .entry)) (now (places .entry)) (now (transitions .entry))) c i v
-        (instance (put c i after) i) ⌝ }
+    ensures { λ r. ⌜ r ≡ portsCheck n (rows (now (source .entry)) (now (behaviors .entry)) (now (uses .entry)) (now (places .entry)) (now (transitions .entry))) (parts instances (now (queue .entry)) connections count) i v
+        (instance (put (parts instances (now (queue .entry)) connections count) i after) i) ⌝ }
 {
     let at = i as usize;
-    let mut trial = c;
+    let mut trial = instances;
     let mut w = no_instance();
     if at < 32 {
-        trial.instances[at] = after;
-        w = trial.instances[at];
+        trial[at] = after;
+        w = trial[at];
     }
     if port_fails(
         PortTest::Unserved,
@@ -296,14 +331,31 @@ pub fn port_check<'a>(
         uses,
         places,
         transitions,
-        c,
+        instances,
+        queue,
+        connections,
+        count,
         i,
         v,
         w,
     ) {
         return UNSERVED;
     }
-    refusing_check(n, source, behaviors, uses, places, transitions, c, i, v, w)
+    refusing_check(
+        n,
+        source,
+        behaviors,
+        uses,
+        places,
+        transitions,
+        instances,
+        queue,
+        connections,
+        count,
+        i,
+        v,
+        w,
+    )
 }
 
 // The same as `active` of one instance, for a caller that has the tables.

@@ -22,9 +22,12 @@ use Rattle.model.specs.Empty.{noInstruction}
 use Rattle.model.specs.Verb.{nextVerb}
 use Rattle.model.specs.View.{typeOf, instance, put, withQueue, withConnections, withDone}
 use Rattle.model.proofs.View.{past-end}
+use Rattle.rules.specs.Ports.{someConnection, serves, blocks, employs, failsUnserved, failsRefusing, failsInUse}
 use Rattle.rules.specs.PushB.{depthOf}
 use Rattle.rules.specs.Action.{instruction, check, effect}
 use Rattle.rules.specs.Step.{line, action, number, after, step}
+use Rattle.ports.specs.Rows.{parts}
+use Rattle.ports.specs.Tests.{portsCheck}
 use Rattle.plans.specs.declared.Joins.{Joins}
 use Rattle.plans.specs.declared.Plan.{Plan}
 use Rattle.plans.specs.Changes.{changesList, joined, relisted, changed}
@@ -38,6 +41,12 @@ seen xs d n i full =
     by-cases (decLt i (suc n))
     (λ h. rw (lt-ltb i (suc n) h, min-eq-left {n = i} {m = n} (omega arith)))
     (λ h. rw (le-ltb i (suc n) (omega arith)) (sym (past-end xs d {n = suc n} {i = i} full (omega arith))))
+
+-- a step looks at no more of the configuration than is handed to it
+parted : (depth : ℕ) (t : Tables) (c : Configuration) (s : Step) (left : Bool) (n : Instruction) (kind : ComponentType) (v w : Instance)
+    → stepPlan depth t (parts (c .instances) (c .queue) (c .connections) (c .count)) s left n kind v w ≡ stepPlan depth t c s left n kind v w
+unfolding stepPlan ordered movePlan portsCheck failsUnserved failsRefusing failsInUse someConnection serves blocks employs put
+parted depth t c s left n kind v w = refl
 
 -- the instruction that is due
 abbrev pub due : Program → Configuration → Instruction
@@ -55,7 +64,6 @@ module _ (default : ℕ) (t : Tables) (p : Program) (c : Configuration) (s : Ste
   abbrev own : Plan
   own =
       stepPlan (depthOf default t) t c s (ltb (c .done) (p .count)) (due p c) (typeOf t (v .kind)) v (instance c (due p c .provider))
-      (getD (c .queue) (actor s (due p c) * 8) 0)
 
   next-comes : s .verb ≡ nextVerb → Comes default t p c s own
   unfolding stepPlan number after action line withDone
@@ -78,12 +86,12 @@ module _ (default : ℕ) (t : Tables) (p : Program) (c : Configuration) (s : Ste
   }
 
   -- the plan as the code makes it, of what it has read
-  pub comes : (depth : ℕ) (left : Bool) (n : Instruction) (kind : ComponentType) (u w : Instance) (head : ℕ) (r : Plan)
+  pub comes : (depth : ℕ) (left : Bool) (n : Instruction) (kind : ComponentType) (u w : Instance) (r : Plan)
       → depth ≡ depthOf default t → left ≡ ltb (c .done) (p .count) → n ≡ due p c → u ≡ instance c (actor s n) → w ≡ instance c (n .provider)
-      → kind ≡ typeOf t (u .kind) → head ≡ getD (c .queue) (actor s n * 8) 0 → r ≡ stepPlan depth t c s left n kind u w head
+      → kind ≡ typeOf t (u .kind) → r ≡ stepPlan depth t (parts (c .instances) (c .queue) (c .connections) (c .count)) s left n kind u w
       → Comes default t p c s r
-  comes depth left n kind u w head r a b d e f g h is =
-      rw (is, g, h, e, f, d, a, b) (by-cases (ℕ-discrete (s .verb) nextVerb) next-comes move-comes)
+  comes depth left n kind u w r a b d e f g is =
+      rw (is, parted depth t c s left n kind u w, g, e, f, d, a, b) (by-cases (ℕ-discrete (s .verb) nextVerb) next-comes move-comes)
 
 module _ (default : ℕ) (t : Tables) (p : Program) (c : Configuration) (s : Step) (r : Plan) (is : Comes default t p c s r) where
   pub step-refused : r .refused ≢ 0 → record { refused = r .refused; configuration = c } ≡ step default t p c s

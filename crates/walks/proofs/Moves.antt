@@ -31,33 +31,30 @@ use Rattle.ports.specs.Rows.{rows}
 use Rattle.ports.specs.Tests.{portsCheck}
 use Rattle.plans.specs.declared.Plan.{Plan}
 use Rattle.plans.specs.Changes.{headless, changed}
-use Rattle.walks.specs.Plans.{ends, planned, asksPorts, movePlan}
+use Rattle.walks.specs.Plans.{ends, planned, asksPorts, moved, movePlan}
 
 -- the plan with another number
 abbrev numbered : Plan → ℕ → Plan
 numbered r n = record { refused = n; after = r .after; slots = r .slots; joins = r .joins }
 
-module _ (t : Tables) (v : Instance) (head : ℕ) (s : Step) where
-  abbrev plan : Plan
-  plan = planned t v (current t v head) s
-
-  pub plan-is : (m : ℕ) (r : Plan) → m ≡ current (rows [] (t .behaviors) [] [] []) v head
-      → r ≡ planned (ends (t .transitions .source) (t .transitions .destination)) v m s → r ≡ plan
+module _ (t : Tables) (c : Configuration) (v : Instance) (s : Step) where
+  pub plan-is : (head m : ℕ) (r : Plan) → head ≡ getD (c .queue) (s .id * 8) 0 → m ≡ current (rows [] (t .behaviors) [] [] []) v head
+      → r ≡ planned (ends (t .transitions .source) (t .transitions .destination)) v m s → r ≡ moved t c v s
   unfolding planned leaving entering finishRow mayLeave current
-  plan-is m r e f = rw (← e) f
+  plan-is head m r h e f = rw (← h, ← e) f
 
-  module _ (c : Configuration) (n : ℕ) (r : Plan) (is : r ≡ plan) where
-    pub move-refused : r .refused ≢ 0 → r ≡ movePlan n t c v head s
+  module _ (n : ℕ) (r : Plan) (is : r ≡ moved t c v s) where
+    pub move-refused : r .refused ≢ 0 → r ≡ movePlan n t c v s
     unfolding movePlan
     move-refused d = rw (← is, ne-eqb (r .refused) 0 d)
 
-    pub move-alone : r .refused ≡ 0 → asksPorts (s .verb) ≡ false → r ≡ movePlan n t c v head s
+    pub move-alone : r .refused ≡ 0 → asksPorts (s .verb) ≡ false → r ≡ movePlan n t c v s
     unfolding movePlan
     move-alone z apart = rw (← is, eq-eqb (r .refused) 0 z, apart) (ap (numbered r) z)
 
     pub move-asked : r .refused ≡ 0 → asksPorts (s .verb) ≡ true → (k : ℕ)
         → k ≡ portsCheck n (rows (t .transitions .source) (t .behaviors) (t .ports .uses) (t .ports .places) (t .ports .transitions)) c (s .id) v (instance (put c (s .id) (r .after)) (s .id))
-        → numbered r k ≡ movePlan n t c v head s
+        → numbered r k ≡ movePlan n t c v s
     unfolding movePlan portsCheck failsUnserved failsRefusing failsInUse someConnection serves blocks employs refusing wouldLeave leaving current active
     move-asked z a k e = rw (← is, eq-eqb (r .refused) 0 z, a) (ap (numbered r) e)
 
@@ -72,10 +69,10 @@ first-passes false empty rest e = absurd (omega arith)
 
 module _ (default : ℕ) (t : Tables) (c : Configuration) (s : Step) where
   abbrev own : Plan
-  own = plan t (instance c (s .id)) (getD (c .queue) (s .id * 8) 0) s
+  own = moved t c (instance c (s .id)) s
 
   abbrev made : Plan
-  made = movePlan (typeOf t (instance c (s .id) .kind) .ports) t c (instance c (s .id)) (getD (c .queue) (s .id * 8) 0) s
+  made = movePlan (typeOf t (instance c (s .id) .kind) .ports) t c (instance c (s .id)) s
 
   -- the number of the move: that of its row, then that of the ports where they are asked
   plan-number : check default t c (move s)

@@ -2,8 +2,9 @@
 use mathlib.Core.Path.{_≡_}
 use mathlib.Core.Bool.{Bool, not, cond, _||_, _&&_}
 use mathlib.Core.List.{List, []}
-use Prim.Native.Nat.{ℕ, suc}
+use Prim.Native.Nat.{ℕ, suc, _*_}
 use lib.Dec.{eqb, ltb}
+use lib.ListN.{getD}
 use Rattle.model.specs.declared.ComponentType.{ComponentType}
 use Rattle.model.specs.declared.Tables.{Tables}
 use Rattle.model.specs.declared.Instance.{Instance}
@@ -51,12 +52,15 @@ asksPorts verb = eqb verb fireVerb || eqb verb enterVerb
 abbrev pub asked : Plan → ℕ → Plan
 asked r n = record { refused = orElse (r .refused) n; after = r .after; slots = r .slots; joins = r .joins }
 
--- v's type has so many ports, and its queue this head
-unfoldable pub movePlan : ℕ → Tables → Configuration → Instance → ℕ → Step → Plan
-movePlan n t c v head s =
-    asked (planned t v (current t v head) s)
-    (cond (asksPorts (s .verb))
-    (portsCheck n t c (s .id) v (instance (put c (s .id) (planned t v (current t v head) s .after)) (s .id))) 0)
+-- a move of v, where its queue's head is that of c
+abbrev pub moved : Tables → Configuration → Instance → Step → Plan
+moved t c v s = planned t v (current t v (getD (c .queue) (s .id * 8) 0)) s
+
+-- v's type has so many ports
+unfoldable pub movePlan : ℕ → Tables → Configuration → Instance → Step → Plan
+movePlan n t c v s =
+    asked (moved t c v s)
+    (cond (asksPorts (s .verb)) (portsCheck n t c (s .id) v (instance (put c (s .id) (moved t c v s .after)) (s .id))) 0)
 
 -- v's type is `kind`, and w is the provider
 unfoldable pub ordered : ℕ → Tables → Configuration → ComponentType → Instance → Instance → Instruction → Plan
@@ -72,9 +76,9 @@ abbrev pub noneLeft : Instance → Plan
 noneLeft v = joining noInstructionLeft v Joins.Kept
 
 -- `due` is the instruction that is due, if one is left
-unfoldable pub stepPlan : ℕ → Tables → Configuration → Step → Bool → Instruction → ComponentType → Instance → Instance → ℕ → Plan
-stepPlan depth t c s left due kind v w head =
-    cond (eqb (s .verb) nextVerb) (cond left (ordered depth t c kind v w due) (noneLeft v)) (movePlan (kind .ports) t c v head s)
+unfoldable pub stepPlan : ℕ → Tables → Configuration → Step → Bool → Instruction → ComponentType → Instance → Instance → Plan
+stepPlan depth t c s left due kind v w =
+    cond (eqb (s .verb) nextVerb) (cond left (ordered depth t c kind v w due) (noneLeft v)) (movePlan (kind .ports) t c v s)
 
 -- the instance that a step names, and the instructions done after it
 abbrev pub actor : Step → Instruction → ℕ

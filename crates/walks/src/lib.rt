@@ -19,7 +19,6 @@ use model::start;
 use plans::changes_list;
 use plans::join;
 use plans::turn_slots;
-use ports::gap::slot_at;
 use steps::plan_step;
 ghost use mathlib.Core.Bool.{cond};
 ghost use mathlib.Core.Path.{_≡_};
@@ -113,7 +112,8 @@ pub fn walk(default: u8, t: Tables, p: Program, c: Configuration, a: Answer) -> 
             now.instances[smaller(due.provider as usize, 31)],
         );
         let kind = type_in(v.kind, t.types[smaller(v.kind as usize, 15)]);
-        let head = slot_at(&now.queue, at * 8);
+        let instances = now.instances;
+        let connections = now.connections;
         let plan = plan_step(
             depth,
             types,
@@ -124,13 +124,15 @@ pub fn walk(default: u8, t: Tables, p: Program, c: Configuration, a: Answer) -> 
             &t.ports.uses,
             &t.ports.places,
             &t.ports.transitions,
-            now,
+            instances,
+            &now.queue,
+            connections,
+            now.count,
             s,
             done < p.count,
             due,
             v,
             w,
-            head,
         );
         if plan.refused != 0 {
             return reached(i, plan.refused, now);
@@ -143,10 +145,10 @@ pub fn walk(default: u8, t: Tables, p: Program, c: Configuration, a: Answer) -> 
         }
         let joins = plan.joins;
         if changes_list(joins) {
-            let ks = now.connections;
-            let list = join(ks, now.count, joins);
-            let connections = list.connections;
-            now.connections = connections;
+            let old = now.connections;
+            let list = join(old, now.count, joins);
+            let changed = list.connections;
+            now.connections = changed;
             now.count = list.count;
         }
         now.done = done_after(s, done, p.count);

@@ -6,7 +6,6 @@ use instructions::del;
 use instructions::pushb;
 use instructions::wait;
 use model::ComponentType;
-use model::Configuration;
 use model::Connection;
 use model::Instance;
 use model::Instruction;
@@ -19,6 +18,7 @@ use moves::fire;
 use plans::Joins;
 use plans::Plan;
 use plans::Slots;
+use ports::gap::slot_at;
 use ports::instance::current;
 use ports::port_check;
 ghost use mathlib.Core.Path.{_≡_};
@@ -26,7 +26,9 @@ ghost use mathlib.Core.List.{List};
 ghost use Prim.Native.Nat.{ℕ};
 ghost use lib.ListN.{getD};
 ghost use Rattle.model.specs.declared.ComponentType.{ComponentType};
+ghost use Rattle.model.specs.declared.Instance.{Instance};
 ghost use Rattle.model.specs.Empty.{noType};
+ghost use Rattle.ports.specs.Rows.{parts};
 ghost use Rattle.walks.specs.Plans.{whole, ends, planned, asksPorts, movePlan, ordered, noneLeft, stepPlan};
 
 const NO_INSTRUCTION_LEFT: u8 = 10;
@@ -46,12 +48,13 @@ fn plan_instruction<'a>(
     uses: &'a [u8; 256],
     places: &'a [u32; 256],
     transitions: &'a [u32; 256],
-    c: Configuration,
+    connections: [Connection; 64],
+    count: u8,
     v: Instance,
     w: Instance,
     n: Instruction,
 ) -> Plan
-    ensures { λ r. ⌜ ((own count : ℕ) (source destination behaviors : List ℕ) → r ≡ ordered depth (whole own count types source destination behaviors (now (uses .entry)) (now (places .entry)) (now (transitions .entry))) c kind v w n) ⌝ }
+    ensures { λ r. ⌜ ((own known : ℕ) (source destination behaviors queue : List ℕ) (instances : List Instance) → r ≡ ordered depth (whole own known types source destination behaviors (now (uses .entry)) (now (places .entry)) (now (transitions .entry))) (parts instances queue connections count) kind v w n) ⌝ }
 {
     let k = Connection {
         user: n.id,
@@ -62,10 +65,19 @@ fn plan_instruction<'a>(
     let verb = n.verb;
     match verb {
         0 => add(v, n.number, type_at(types, n.number).initial),
-        1 => del(c, n.id, v),
+        1 => del(connections, count, n.id, v),
         2 => pushb(depth, kind.behaviors, v, n.number),
-        3 => con(kind.ports, type_at(types, w.kind).ports, uses, c, v, w, k),
-        4 => dcon(places, transitions, c, v, k),
+        3 => con(
+            kind.ports,
+            type_at(types, w.kind).ports,
+            uses,
+            connections,
+            count,
+            v,
+            w,
+            k,
+        ),
+        4 => dcon(places, transitions, connections, count, v, k),
         _ => wait(v),
     }
 }
@@ -112,7 +124,7 @@ fn asks_ports(verb: u8) -> bool
     (verb == 1) | (verb == 3)
 }
 
-// A move of v, whose type has so many ports and whose queue has this head: only fire and enter ask the ports.
+// A move of v, whose type has so many ports: only fire and enter ask the ports.
 fn plan_move<'a>(
     ports: u8,
     source: &'a [u8; 512],
@@ -121,13 +133,16 @@ fn plan_move<'a>(
     uses: &'a [u8; 256],
     places: &'a [u32; 256],
     transitions: &'a [u32; 256],
-    c: Configuration,
+    instances: [Instance; 32],
+    queue: &'a [u8; 256],
+    connections: [Connection; 64],
+    count: u8,
     v: Instance,
-    head: u8,
     s: Step,
 ) -> Plan
-    ensures { λ r. ⌜ ((own count : ℕ) (types : List ComponentType) → r ≡ movePlan ports (whole own count types (now (source .entry)) (now (destination .entry)) (now (behaviors .entry)) (now (uses .entry)) (now (places .entry)) (now (transitions .entry))) c v head s) ⌝ }
+    ensures { λ r. ⌜ ((own known : ℕ) (types : List ComponentType) → r ≡ movePlan ports (whole own known types (now (source .entry)) (now (destination .entry)) (now (behaviors .entry)) (now (uses .entry)) (now (places .entry)) (now (transitions .entry))) (parts instances (now (queue .entry)) connections count) v s) ⌝ }
 {
+    let head = slot_at(queue, (s.id as usize) * 8);
     let m = current(behaviors, v, head);
     let plan = plan_of(source, destination, places, transitions, v, m, s);
     if plan.refused != 0 {
@@ -144,7 +159,10 @@ fn plan_move<'a>(
         uses,
         places,
         transitions,
-        c,
+        instances,
+        queue,
+        connections,
+        count,
         s.id,
         v,
         after,
@@ -159,8 +177,8 @@ fn plan_move<'a>(
     }
 }
 
-// A step on c, where `due` is the instruction that is due, if one is left. v is the instance that the step names, `kind` its type and `head` the
-// head of its queue; w is the instance that `due` names second.
+// A step, where `due` is the instruction that is due, if one is left. v is the instance that the step names and `kind` its type; w is the
+// instance that `due` names second.
 pub fn plan_step<'a>(
     depth: u8,
     types: [ComponentType; 16],
@@ -171,15 +189,17 @@ pub fn plan_step<'a>(
     uses: &'a [u8; 256],
     places: &'a [u32; 256],
     transitions: &'a [u32; 256],
-    c: Configuration,
+    instances: [Instance; 32],
+    queue: &'a [u8; 256],
+    connections: [Connection; 64],
+    count: u8,
     s: Step,
     left: bool,
     due: Instruction,
     v: Instance,
     w: Instance,
-    head: u8,
 ) -> Plan
-    ensures { λ r. ⌜ ((own count : ℕ) → r ≡ stepPlan depth (whole own count types (now (source .entry)) (now (destination .entry)) (now (behaviors .entry)) (now (uses .entry)) (now (places .entry)) (now (transitions .entry))) c s left due kind v w head) ⌝ }
+    ensures { λ r. ⌜ ((own known : ℕ) → r ≡ stepPlan depth (whole own known types (now (source .entry)) (now (destination .entry)) (now (behaviors .entry)) (now (uses .entry)) (now (places .entry)) (now (transitions .entry))) (parts instances (now (queue .entry)) connections count) s left due kind v w) ⌝ }
 {
     if s.verb != 0 {
         return plan_move(
@@ -190,14 +210,28 @@ pub fn plan_step<'a>(
             uses,
             places,
             transitions,
-            c,
+            instances,
+            queue,
+            connections,
+            count,
             v,
-            head,
             s,
         );
     }
     if !left {
         return none_left(v);
     }
-    plan_instruction(depth, types, kind, uses, places, transitions, c, v, w, due)
+    plan_instruction(
+        depth,
+        types,
+        kind,
+        uses,
+        places,
+        transitions,
+        connections,
+        count,
+        v,
+        w,
+        due,
+    )
 }

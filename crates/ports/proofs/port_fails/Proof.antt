@@ -2,7 +2,7 @@ use mathlib.Core.Path.{sym, _∙_}
 use borrow.Author.Tests.{not-true}
 use borrow.Author.Needs.{needs}
 use Rattle.rules.specs.Instance.{active}
-use Rattle.ports.specs.Rows.{rows}
+use Rattle.ports.specs.Rows.{rows, parts}
 use Rattle.ports.proofs.Marks.{fails-wanted, fails-marked}
 use Rattle.ports.proofs.port_fails.Statement.{statement}
 use Rattle.ports.proofs.port_fails.Tie as tie
@@ -20,7 +20,7 @@ returns-2 c =
     let s = c .before .before .before .before .before .before .before in
     let a = s .args in
     let t = rows (a .source .now) (a .behaviors .now) (a .uses .now) (a .places .now) (a .transitions .now) in
-    c .some-port .ensures ∙ rw (m .mark .ensures, m .before .before .asked-by .ensures) (fails-marked (a .test) (a .n) t (a .c) (a .i) (a .v) (a .w) (search needs))
+    c .some-port .ensures ∙ rw (m .mark .ensures, m .before .before .asked-by .ensures) (fails-marked (a .test) (a .n) t (parts (a .instances) (a .queue .now) (a .connections) (a .count)) (a .i) (a .v) (a .w) (search needs))
 
 pub port-fails-spec : {M : Type 1} → statement M
 port-fails-spec =

@@ -71,8 +71,7 @@ come : (q : tie.After-plan-step Inv-loop μ-loop)
     → Comes (begin (turn q) .args .default) (begin (turn q) .args .t2) (begin (turn q) .args .t3) (turn q .before .loop .now)
     (getD (begin (turn q) .args .t5 .steps) (turn q .before .loop .i) noStep) (q .plan-step .result)
 come q =
-    let head = q .before .before .before .before .before .before .before .before in
-    let kind = head .before .before .before .before in
+    let kind = q .before .before .before .before .before .before .before .before .before .before .before .before in
     let w = kind .before .before .before .before in
     let v = w .before .before .before .before in
     let a = v .before .before .before in
@@ -84,13 +83,12 @@ come q =
     let first = rw (v .before .before .smaller3 .ensures .0) at (v .instance-in .ensures) in
     let second = rw (w .before .before .smaller4 .ensures .0) at (w .instance-in2 .ensures) in
     let of = rw (kind .before .before .smaller5 .ensures .0) at (kind .type-in .ensures) in
-    comes _ _ _ _ _ (rw (depth .ensures .0) at (depth .ensures .1)) full _ _ _ _ _ _ _ _
-    (depth .ensures .0) refl
-    (told q)
+    let x = getD (s .args .t5 .steps) (l .before .loop .i) noStep in
+    comes (s .args .default) (s .args .t2) (s .args .t3) now x (rw (depth .ensures .0) at (depth .ensures .1)) full _ _ _ _ _ _ _ (depth .ensures .0) refl (told q)
     (first ∙ seen (now .instances) absent 31 (named q) full ∙ ap (instance now) (a .actor .ensures))
     (second ∙ seen (now .instances) absent 31 (instructed q .provider) full)
     (of ∙ seen (s .args .t2 .types) noType 15 (v .instance-in .result .kind) (types-full s))
-    (rw (a .actor .ensures) at (head .slot-at .ensures)) (q .plan-step .ensures (s .args .t2 .depth) (s .args .t2 .count))
+    (q .plan-step .ensures (s .args .t2 .depth) (s .args .t2 .count))
 
 -- which step is due
 within : (l : tie.In-loop Inv-loop μ-loop) → l .before .loop .i < min (begin l .args .t5 .count) 1024
@@ -177,4 +175,4 @@ pub walk-spec : {M : Type 1} → statement M
 walk-spec =
     tie.close
     (tie.spec
-    Inv-loop μ-loop (λ c κs. search needs) (λ c κs. search needs) loop-holds (λ c. search needs) (λ c. search needs) (λ c κs. search needs) (λ c. search needs) (λ c. search needs) (λ c κs. search needs) (λ c κs. search needs) (λ c. search needs) (λ c κs. search needs) (λ c. search needs) (λ c. search needs) (λ c κs. search needs) (λ c. search needs) (λ c κs. search needs) (λ c. search needs) (λ c. search needs) (λ c κs. search needs) (λ c. search needs) (λ c κs. search needs) (λ c. search needs) (λ c. search needs) (λ c κs. search needs) (λ c. search needs) (λ c κs. search needs) (λ c κs. search needs) (λ c κs. search needs) returns (λ c κs. search needs) (λ c. search needs) (λ c. search needs) (λ c κs. search needs) (λ c κs. search needs) (λ c κs. search needs) add-i loop-less loop-again (λ c κs. search needs) returns-2)
+    Inv-loop μ-loop (λ c κs. search needs) (λ c κs. search needs) loop-holds (λ c. search needs) (λ c. search needs) (λ c κs. search needs) (λ c. search needs) (λ c. search needs) (λ c κs. search needs) (λ c κs. search needs) (λ c. search needs) (λ c κs. search needs) (λ c. search needs) (λ c. search needs) (λ c κs. search needs) (λ c. search needs) (λ c κs. search needs) (λ c. search needs) (λ c. search needs) (λ c κs. search needs) (λ c. search needs) (λ c κs. search needs) (λ c. search needs) (λ c. search needs) (λ c κs. search needs) (λ c κs. search needs) (λ c κs. search needs) returns (λ c κs. search needs) (λ c. search needs) (λ c. search needs) (λ c κs. search needs) (λ c κs. search needs) (λ c κs. search needs) add-i loop-less loop-again (λ c κs. search needs) returns-2)

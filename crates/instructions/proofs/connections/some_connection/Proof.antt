@@ -6,7 +6,7 @@ use lib.ListN.{getD}
 use borrow.Author.Needs.{needs}
 use Rattle.sets.proofs.Laws.{any-end, any-hit, any-more, any-start}
 use Rattle.sets.specs.Test.{any}
-use Rattle.model.proofs.View.{array-length, past-end}
+use Rattle.model.proofs.View.{past-end}
 use Rattle.model.specs.Empty.{noConnection}
 use Rattle.rules.specs.Ports.{someConnection}
 use Rattle.instructions.specs.Passes.{passes}
@@ -14,21 +14,19 @@ use Rattle.instructions.proofs.connections.some_connection.Statement.{s
 use Rattle.instructions.proofs.connections.some_connection.Tie as tie
 
 abbrev Inv-loop : tie.InvT-loop
-Inv-loop test ks n l₀ l = (l ≤ n) × (any l (λ x. passes test (getD ks x noConnection)) ≡ false)
+Inv-loop test count ks n l₀ l = (l ≤ n) × (any l (λ x. passes test (getD ks x noConnection)) ≡ false)
 
 abbrev μ-loop : tie.MeasureT-loop
-μ-loop test ks n l₀ l = n - l
+μ-loop test count ks n l₀ l = n - l
 
 loop-holds : tie.Need-loop-holds Inv-loop μ-loop
 loop-holds c = (search needs, any-start _)
 
 -- the connection that the turn looks at
-read : (a : tie.Joined1 Inv-loop μ-loop)
-    → a .if1 .k ≡ getD (a .before .before .before .before .before .args .c .connections) (a .before .before .loop .l) noConnection
+read : (a : tie.Joined1 Inv-loop μ-loop) → a .if1 .k ≡ getD (a .before .before .before .before .args .t2) (a .before .before .loop .l) noConnection
 read a =
-    let s = a .before .before .before .before .before in
-    let full = array-length _ (s .args .c .connections) (s .good .1 .0 .1 .1 .1 .1 .0 .1 .0 .1) in
-    ⊎-elim (λ w. w .2) (λ w. w .2 ∙ w .1 .ensures ∙ sym (past-end (s .args .c .connections) noConnection full (w .0 .left))) (a .if1 .came)
+    let s = a .before .before .before .before in
+    ⊎-elim (λ w. w .2) (λ w. w .2 ∙ w .1 .ensures ∙ sym (past-end (s .args .t2) noConnection (s .good .1 .0 .1 .0 .1) (w .0 .left))) (a .if1 .came)
 
 returns : tie.Need-returns Inv-loop μ-loop
 unfolding someConnection
