@@ -42,7 +42,7 @@ struct TypeRead {
     known: ComponentType,
 }
 
-// The same of the rows of one kind, which are in the slots that were lent: how many.
+// The same of the rows of one kind: how many there are. The rows themselves are in the lent arrays.
 struct RowsRead {
     went: Went,
     at: usize,
@@ -111,8 +111,8 @@ fn read_transitions(
         return refused_count(text, start, line);
     };
     let count = n as u8;
-    let rows = model::wide(count);
-    let first = model::wide(kind) * 32;
+    let rows = n as usize;
+    let first = kind as usize * 32;
     let mut at = next;
     let mut i: usize = 0;
     while i < rows {
@@ -148,8 +148,8 @@ fn read_behaviors(
         return refused_count(text, start, line);
     };
     let count = n as u8;
-    let rows = model::wide(count);
-    let first = model::wide(kind) * 8;
+    let rows = n as usize;
+    let first = kind as usize * 8;
     let mut at = next;
     let mut i: usize = 0;
     while i < rows {
@@ -186,8 +186,8 @@ fn read_ports(
         return refused_count(text, start, line);
     };
     let count = n as u8;
-    let rows = model::wide(count);
-    let first = model::wide(kind) * 16;
+    let rows = n as usize;
+    let first = kind as usize * 16;
     let mut at = next;
     let mut i: usize = 0;
     while i < rows {

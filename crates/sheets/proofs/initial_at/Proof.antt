@@ -10,19 +10,25 @@ returns : tie.Need-returns
 returns c =
     let a = c .before .before .before .before .before .before .args in
     let p = c .before .before .before .before .place-in in
-    rw (c .enum-told .given .1) (line-told lineSays (initialLine (a .places)) (a .text .now) (a .start) (p .result) (p .ensures) _ (c .before .before .initial-line .ensures) (c .enum-told .given .1))
+    rw (c .enum-told .given .1)
+    (line-told lineSays (initialLine (a .places)) (a .text .now) (a .start) (p .result) (p .ensures) _ (c .before .before .initial-line .ensures) (c .enum-told .given .1))
 
 add-next : tie.Need-add-next
 add-next c =
     let a = c .before .before .before .before .before .before .before .args in
     let p = c .before .before .before .before .before .place-in in
-    omega (arith, line-told lineSays (initialLine (a .places)) (a .text .now) (a .start) (p .result) (p .ensures) _ (c .before .before .before .initial-line .ensures) (c .before .line .given .1) .within)
+    omega (
+      arith,
+      line-told lineSays (initialLine (a .places)) (a .text .now) (a .start) (p .result) (p .ensures) _
+          (c .before .before .before .initial-line .ensures) (c .before .line .given .1) .within,
+    )
 
 returns-2 : tie.Need-returns-2
 returns-2 c =
     let a = c .before .before .before .before .before .before .before .args in
     let p = c .before .before .before .before .before .place-in in
-    line-told lineSays (initialLine (a .places)) (a .text .now) (a .start) (p .result) (p .ensures) _ (c .before .before .before .initial-line .ensures) (c .before .line .given .1)
+    line-told lineSays (initialLine (a .places)) (a .text .now) (a .start) (p .result) (p .ensures) _
+    (c .before .before .before .initial-line .ensures) (c .before .line .given .1)
 
 pub initial-at-spec : {M : Type 1} → statement M
 initial-at-spec =

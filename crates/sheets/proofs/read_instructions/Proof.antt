@@ -28,7 +28,8 @@ returns c =
     let line = c .before .before .before in
     let here = line .before .before .before in
     let l = here .loop in
-    fill-stop instructionSays (doLine (here .before .before .before .before .args .types)) withInstruction _ 0 _ _ _ (l .inv) (line .before .before .loop-test .taken) (l .i) (sym (zero-add _)) _ (line .do-line .ensures) (c .before .enum-told .given .1) refl (c .do-refusal .ensures)
+    fill-stop instructionSays (doLine (here .before .before .before .before .args .types)) withInstruction _ 0 _ _ _
+    (l .inv) (line .before .before .loop-test .taken) (l .i) (sym (zero-add _)) _ (line .do-line .ensures) (c .before .enum-told .given .1) refl (c .do-refusal .ensures)
 
 loop-again : tie.Need-loop-again Inv-loop μ-loop
 unfolding instruct withInstruction
@@ -36,7 +37,8 @@ loop-again c =
     let line = c .before .before .before in
     let here = line .before .before .before in
     let l = here .loop in
-    fill-turn instructionSays (doLine (here .before .before .before .before .args .types)) withInstruction _ 0 _ _ _ (l .inv) (line .before .before .loop-test .taken) (l .i) (sym (zero-add _)) _ (line .do-line .ensures) (c .before .line .given .1) refl
+    fill-turn instructionSays (doLine (here .before .before .before .before .args .types)) withInstruction _ 0 _ _ _
+    (l .inv) (line .before .before .loop-test .taken) (l .i) (sym (zero-add _)) _ (line .do-line .ensures) (c .before .line .given .1) refl
 
 pub read-instructions-spec : {M : Type 1} → statement M
 read-instructions-spec =

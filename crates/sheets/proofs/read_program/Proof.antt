@@ -11,14 +11,16 @@ returns : tie.Need-returns
 unfolding programRun
 returns c =
     let line = c .before .before .before in
-    head-refused lineSays _ _ _ _ _ _ (c .before .place-in .ensures) (line .before .before .count-at .ensures .reads) (line .enum-told .given .1) refl (c .before .before .line-refusal .ensures)
+    head-refused lineSays _ _ _ _ _ _ (c .before .place-in .ensures) (line .before .before .count-at .ensures .reads) (line .enum-told .given .1) refl
+    (c .before .before .line-refusal .ensures)
 
 returns-2 : tie.Need-returns-2
 unfolding programRun
 returns-2 c =
     let read = c .before .before in
     let line = read .before .before in
-    line-then _ _ _ (told lineSays _ (line .before .before .count-at .ensures .reads) (line .line .given .1)) (run-refused _ _ (read .read-instructions .ensures) (c .enum-told3 .given .1))
+    line-then _ _ _ (told lineSays _ (line .before .before .count-at .ensures .reads) (line .line .given .1))
+    (run-refused _ _ (read .read-instructions .ensures) (c .enum-told3 .given .1))
 
 returns-3 : tie.Need-returns-3
 unfolding programRun
