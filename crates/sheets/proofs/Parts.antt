@@ -1,6 +1,6 @@
 -- The rows of a type are those of its definition, its lines by what they fill are the type, and the parts of a sheet are the sheet.
 -- Assumes nothing.
-use Prim.Native.Nat.{ℕ, _*_}
+use Prim.Native.Nat.{ℕ, _*_, _<_, _≤_}
 use mathlib.Core.List.{List}
 use mathlib.Core.Path.{_≡_, refl, sym, ap, _∙_, fun-ext}
 use lib.ListN.{drop, set}
@@ -15,14 +15,22 @@ use Rattle.reading.specs.Lines.{Run, Lines, next, give, lineOf, line, each, atE
 use Rattle.reading.specs.Kinds.{dueLine, countLine, initialLine, tranLine, behaviorLine, portLine}
 use Rattle.reading.specs.Fill.{headed, withTransition, withPort, withType, programOf}
 use Rattle.reading.specs.Texts.{tran, behavior, port, type, instruct, sheet}
-use Rattle.texts.specs.Reads.{past, Reads}
+use Rattle.texts.specs.Reads.{fault, refusal, Reads}
+use Rattle.texts.proofs.Laws.{told}
+use Rattle.lines.specs.declared.Line.{Line}
+use Rattle.lines.specs.declared.Line.the-variants.{Got}
 use Rattle.lines.specs.declared.Went.{Went}
-use Rattle.lines.specs.declared.Went.the-variants.{Stop}
+use Rattle.lines.specs.declared.Went.the-variants.{On, Stop}
+use Rattle.lines.specs.Counts.{lineSays}
 use Rattle.lines.specs.Runs.{RunsTo}
-use Rattle.lines.proofs.Runs.{filling, line-then, run-refused, run-seen, next-same, next-next}
+use Rattle.lines.proofs.Lines.{part}
+use Rattle.lines.proofs.Runs.{Upto, upto-end, filling, fill-stop, line-then, run-refused, run-seen, next-same, next-next}
 use Rattle.sheet_lines.specs.declared.Row.{Row}
+use Rattle.sheet_lines.specs.declared.Rows.{Rows}
 use Rattle.sheet_lines.specs.declared.Rows.the-variants as rows
+use Rattle.sheet_lines.specs.declared.RowLine.{RowLine}
 use Rattle.sheet_lines.specs.Rows.{rowLine}
+use Rattle.sheet_lines.specs.Says.{rowSays}
 use Rattle.sheets.specs.Filled.{endsOf, portsOf, Filled, filledOf, put}
 use Rattle.sheets.specs.Onward.{transitionRows, behaviorRows, portRows, fromRows, typeHead, typeRun, sheetHead, programRun}
 
@@ -55,16 +63,20 @@ module _ (c : ComponentType) where
   unfolding port rowLine withPort
   port-row = fun-ext (λ j. fun-ext (λ qs. fun-ext (λ s. row-made (portLine (c .places) (c .transitions) (c .initial) s) s _ _ _ (λ a. refl))))
 
--- the count n of rows was read, and then as many rows, or up to a refusal
-module _ {A : Type 0} (x : Reply ℕ) (t : List ℕ) {row : ℕ → A → Lines A} (m : Reader Row) (fill : A → ℕ → Row → A) (e : row ≡ filling m fill) (base : ℕ) (old : A)
-    {s : List ℕ} {n start : ℕ} (h : Reads s (past n start) x) {w : Went} {at : ℕ} where
-  pub rows-read : {b : A} → RunsTo s w at b (each (filling m fill) n base old (drop start s))
-      → RunsTo {A = ℕ × A} s w at (n, b) (next (lineOf x t) (λ k q. next (each row k base old q) (λ ys. give (k, ys))))
-  rows-read {b = b} r = let g : RunsTo s w at b (each row n base old (drop start s)) = rw e r in line-then x t _ h (run-seen (λ ys. (n, ys)) _ g)
+-- n rows are due, by the answer l to the line of their count: i have been read, up to the place at, and gave b
+module _ {A : Type 0} (r : Rows) (c : ComponentType) (fill : A → ℕ → Row → A) {row : ℕ → A → Lines A} (e : row ≡ filling (rowLine r c) fill)
+    (x : Reply ℕ) (t : List ℕ) (base : ℕ) (old : A) {s : List ℕ} {l : Line} {n start i at : ℕ} {b : A}
+    (h : Reads s (lineSays l) x) (q : l ≡ Got n start) (u : Upto (filling (rowLine r c) fill) n base old s start i at b) where
+  pub rows-end : n ≤ i → RunsTo {A = ℕ × A} s On at (n, b) (next (lineOf x t) (λ k p. next (each row k base old p) (λ ys. give (k, ys))))
+  rows-end m =
+      let ran : RunsTo s On at b (each row n base old (drop start s)) = rw e (upto-end _ _ _ _ _ _ u m) in
+      line-then x t _ (told lineSays _ h q) (run-seen (λ ys. (n, ys)) _ ran)
 
-  pub rows-refused : {k : ℕ} {c : ℕ × A} → RunsTo s w at old (each (filling m fill) n base old (drop start s)) → w ≡ Stop k
-      → RunsTo {A = ℕ × A} s w at c (next (lineOf x t) (λ k q. next (each row k base old q) (λ ys. give (k, ys))))
-  rows-refused r p = let g : RunsTo s w at old (each row n base old (drop start s)) = rw e r in line-then x t _ h (run-refused _ _ g p)
+  pub rows-stop : {d k : ℕ} {z : ℕ × A} {y : RowLine} → i < n → (v : RowLine) → Reads (part s at) (rowSays y) (rowLine r c (part s at)) → y ≡ v
+      → rowSays v ≡ fault k → d ≡ refusal (rowSays y) → RunsTo {A = ℕ × A} s (Stop d) at z (next (lineOf x t) (λ k p. next (each row k base old p) (λ ys. give (k, ys))))
+  rows-stop {d = d} m v o p g f =
+      let ran : RunsTo s (Stop d) at old (each row n base old (drop start s)) = rw e (fill-stop rowSays (rowLine r c) fill _ _ _ _ _ u m _ refl v o p g f) in
+      line-then x t _ (told lineSays _ h q) (run-refused _ _ ran refl)
 
 -- how many rows, and as many, then on with h
 counted-then : {A B : Type 0} (x : Run ℕ) (read : ℕ → Lines A) (h : ℕ × A → Lines B)
