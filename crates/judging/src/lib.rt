@@ -26,7 +26,7 @@ const LONGEST: usize = 32768;
 
 const DEFAULT: u8 = 4;
 
-// The bytes of the longest report that two texts can come to.
+// No report that two texts come to has more bytes.
 const LARGEST: usize = 8182;
 
 // A text is refused with a number at a place of it, or both are read.
@@ -223,7 +223,7 @@ pub fn place_in_room(w: Walked, size: usize, answer: &[u8], room: usize) -> Plac
     walk_place(w, size <= room, answer)
 }
 
-// Whether the report has room. Its length is looked for only where a walk's report can lack it, so that else it is written but once.
+// Whether the report has room. Where every report has, its length isn't looked for: that would write it once more.
 fn has_room(w: Walked, room: usize) -> bool
     requires { ⌜ length (report w) ≤ 8182 ⌝ }
     ensures { λ r. ⌜ r ≡ leb (length (report w)) room ⌝ }

@@ -65,7 +65,7 @@ fn write_connection(t: &mut [u8], k: Connection) -> usize
     write_byte(t, at, b'\n')
 }
 
-// Its line, nothing where it is absent.
+// An instance's line, nothing where it is absent.
 fn write_present(t: &mut [u8], i: usize, w: Instance, slots: &[u8]) -> usize
     ensures { λ r. ⌜ Written (now (t .entry)) (when (w .present) (instanceText i w (listOf (w .queued) (λ s. getD (now (slots .entry)) s 0)))) (now (t .exit)) 0 r ⌝ }
 {
@@ -183,7 +183,7 @@ fn users_of(connections: [Connection; 64], count: u8) -> u32
     users
 }
 
-// The lines of the connections by user and then port. Most users have none, and nothing is looked for.
+// The lines of the connections by user and then port. Most users have none, and then nothing is looked for.
 fn write_connection_lines(t: &mut [u8], c: Configuration) -> usize
     ensures { λ r. ⌜ Written (now (t .entry)) (connectionsText c) (now (t .exit)) 0 r ⌝ }
 {
