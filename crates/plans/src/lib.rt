@@ -55,11 +55,10 @@ pub fn one_less(n: u8) -> u8
 pub fn turn_slots(queue: &mut [u8; 256], i: u8, slots: Slots)
     ensures { λ r. ⌜ now (queue .exit) ≡ turned (now (queue .entry)) i slots ⌝ }
 {
-    let at = (i as usize) * 8;
     match slots {
-        Slots::Headless(n) => close_head(queue, at, n),
-        Slots::Emptied => zero_slots(queue, at),
-        Slots::Longer(n, b) => put_slot(queue, at + n as usize, b),
+        Slots::Headless(n) => close_head(queue, i, n),
+        Slots::Emptied => zero_slots(queue, i),
+        Slots::Longer(n, b) => put_slot(queue, (i as usize) * 8 + n as usize, b),
     }
 }
 

@@ -13,4 +13,4 @@ unfolding headless
 returns-2 c = rw (ne-eqb _ _ (c .before .before .if1 .left)) (c .close-gap .ensures)
 
 pub close-head-spec : {M : Type 1} → statement M
-close-head-spec = tie.close (tie.spec returns (λ c. search needs) (λ c κs. search needs) returns-2)
+close-head-spec = tie.close (tie.spec returns (λ c. search needs) (λ c. search needs) (λ c κs. search needs) returns-2)

@@ -8,10 +8,10 @@ use Rattle.plans.proofs.queue.zero_slots.Statement.{statement}
 use Rattle.plans.proofs.queue.zero_slots.Tie as tie
 
 abbrev Inv-loop : tie.InvT-loop
-Inv-loop queue₀ at r₀ queue r = (r ≤ 8) × (queue ≡ zeroed queue₀ at r)
+Inv-loop queue₀ i at r₀ queue r = (r ≤ 8) × (queue ≡ zeroed queue₀ at r)
 
 abbrev μ-loop : tie.MeasureT-loop
-μ-loop queue₀ at r₀ queue r = 8 - r
+μ-loop queue₀ i at r₀ queue r = 8 - r
 
 loop-holds : tie.Need-loop-holds Inv-loop μ-loop
 loop-holds c = (search needs, zeroed-start _ _)
@@ -28,5 +28,5 @@ pub zero-slots-spec : {M : Type 1} → statement M
 zero-slots-spec =
     tie.close
     (tie.spec
-    Inv-loop μ-loop loop-holds (λ c. search needs) (λ c κs. search needs) (λ c. search needs) (λ c. search needs) loop-again
+    Inv-loop μ-loop (λ c. search needs) loop-holds (λ c. search needs) (λ c κs. search needs) (λ c. search needs) (λ c. search needs) loop-again
     returns)
