@@ -9,7 +9,6 @@ use connections::mark;
 use instance::active;
 use model::Connection;
 use model::Instance;
-use model::Tables;
 use model::no_instance;
 use model::number_at;
 ghost use mathlib.Core.Path.{_≡_};
@@ -17,7 +16,6 @@ ghost use mathlib.Core.List.{[]};
 ghost use Rattle.sets.specs.Test.{any};
 ghost use Rattle.model.specs.View.{instance, put};
 ghost use Rattle.rules.specs.Refusal.{_⇒_∣_};
-ghost use Rattle.rules.specs.Instance.{active};
 ghost use Rattle.ports.specs.Rows.{rows, parts};
 ghost use Rattle.ports.specs.Tests.{wantsKind, wantsActivity, wantsPort, askedBy, isFault, fails, failsBy, inUseCheck, refusingCheck, portsCheck};
 
@@ -356,11 +354,4 @@ pub fn port_check<'a>(
         v,
         w,
     )
-}
-
-// The same as `active` of one instance, for a caller that has the tables.
-pub fn is_active(t: Tables, v: Instance, q: u8) -> bool
-    ensures { λ r. ⌜ r ≡ active t v q ⌝ }
-{
-    active(&t.ports.places, &t.ports.transitions, v, q)
 }
