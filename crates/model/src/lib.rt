@@ -1,10 +1,12 @@
 // What the two texts say (tables, program, answer), the configuration, and what judging answers: structs by value, nothing derived.
 // Promised: each reader answers what stands at a place of its table, and 0, an absent instance or an empty record past its end.
 ghost use mathlib.Core.Path.{_≡_};
-ghost use Prim.Native.Nat.{_<_};
+ghost use mathlib.Core.Bool.{cond};
+ghost use Prim.Native.Nat.{_+_, _*_, _≤_, _<_, min};
+ghost use lib.Dec.{eqb};
 ghost use lib.ListN.{getD};
 ghost use Rattle.model.specs.Empty.{noType, noInstruction, noStep, absent, noConnection, noTables, noProgram, noAnswer, start};
-ghost use Rattle.model.specs.View.{typeOf, instance, connection, put};
+ghost use Rattle.model.specs.View.{typeOf, instance, connection};
 
 // How many places a type has, which are initial, and how many transitions, behaviors and ports it has.
 pub struct ComponentType {
@@ -131,6 +133,28 @@ pub fn mask_at(a: &[u32], i: usize) -> u32
     ensures { λ r. ⌜ r ≡ getD (now (a .entry)) i 0 ⌝ }
 {
     if i < a.len() { a[i] } else { 0 }
+}
+
+pub fn smaller(a: usize, b: usize) -> usize
+    ensures value { λ r. ⌜ r ≡ min a b ⌝ }
+    ensures small { λ r. ⌜ r ≤ b ⌝ }
+{
+    if a < b { a } else { b }
+}
+
+// How many behaviors a queue may hold: 0 stands for the default.
+pub fn depth_of(default: u8, depth: u8) -> u8
+    ensures value { λ r. ⌜ r ≡ cond (eqb depth 0) default depth ⌝ }
+    ensures small { λ r. ⌜ r < 256 ⌝ }
+{
+    if depth == 0 { default } else { depth }
+}
+
+// Whether port q of type k is a use port.
+pub fn is_use(uses: &[u8; 256], k: u8, q: u8) -> bool
+    ensures { λ r. ⌜ r ≡ eqb (getD (now (uses .entry)) (k * 16 + q) 0) 1 ⌝ }
+{
+    number_at(uses, wide(k) * 16 + wide(q)) == 1
 }
 
 // What stands where nothing was written.
@@ -267,15 +291,4 @@ pub fn connection_of(c: Configuration, l: usize) -> Connection
     } else {
         no_connection()
     }
-}
-
-// Instance i is w, and nothing else changes; past the last instance nothing does.
-pub fn put_instance(c: Configuration, i: usize, w: Instance) -> Configuration
-    ensures { λ r. ⌜ r ≡ put c i w ⌝ }
-{
-    let mut next = c;
-    if i < 32 {
-        next.instances[i] = w;
-    }
-    next
 }
