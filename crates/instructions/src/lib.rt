@@ -6,8 +6,8 @@ use connections::ConnectionTest;
 use connections::some_connection;
 use model::Connection;
 use model::Instance;
+use model::is_use;
 use model::no_instance;
-use model::number_at;
 use plans::Joins;
 use plans::Plan;
 use plans::Slots;
@@ -16,7 +16,6 @@ use ports::instance::active;
 use ports::refuse_if;
 ghost use mathlib.Core.Path.{_≡_};
 ghost use mathlib.Core.List.{[]};
-ghost use Rattle.model.specs.View.{isUse};
 ghost use Rattle.ports.specs.Rows.{rows, parts};
 ghost use Rattle.instructions.specs.Orders.{joining, addPlan, delPlan, pushbPlan, conPlan, dconPlan, waitPlan};
 
@@ -113,12 +112,6 @@ pub fn pushb(depth: u8, behaviors: u8, v: Instance, b: u8) -> Plan
         slots,
         joins,
     }
-}
-
-fn is_use(uses: &[u8; 256], k: u8, q: u8) -> bool
-    ensures { λ r. ⌜ r ≡ isUse (rows [] [] (now (uses .entry)) [] []) k q ⌝ }
-{
-    number_at(uses, (k as usize) * 16 + q as usize) == 1
 }
 
 // v is the user and w the provider, whose types have so many ports.
