@@ -35,9 +35,11 @@ use Rattle.answers.specs.Answer.{answered as answerAnswered, answerRead}
 use Rattle.judged.specs.Course.{Course, faulty, reached, goOn, short, read, default, both, course}
 use Rattle.judged.specs.Judged.{faultLine}
 use Rattle.judged.proofs.Read.{both-read}
+use Rattle.judging.specs.declared.Outcome.{Outcome}
 use Rattle.judging.specs.declared.Outcome.the-variants.{Reached}
+use Rattle.judging.specs.declared.Seen.{Seen}
 use Rattle.judging.specs.declared.Pair.{Pair}
-use Rattle.judging.specs.Came.{Comes}
+use Rattle.judging.specs.Came.{came, saying, sheetSeen, answerSeen, Comes}
 
 -- ---- the length of a text
 
@@ -107,6 +109,13 @@ module _ (s a : List ℕ) where
       pub both-said : y .refused ≡ 0 → reached (r .tables, r .program, y .answer) ≡ both s a
       unfolding both
       both-said f = rw (not-long text.Sheet s p, not-long text.Answer a q, sheet-read s p is .reaches e, answer-read a q also .reaches f)
+
+  -- the outcome of what their readers answered, r and y
+  module _ {r : Sheet} {y : AnswerRead} (is : r ≡ sheetRead s) (also : y ≡ answerRead a) (o : Outcome) {p q : Seen}
+      (h : ((t b : List ℕ) → p ≡ sheetSeen t → q ≡ answerSeen b → came o (saying t b) ≡ both t b)) where
+    pub outcome-comes : p ≡ record { size = length s; refused = r .refused; place = r .place } → q ≡ record { size = length a; refused = y .refused; place = y .place }
+        → came o (r .tables, r .program, y .answer) ≡ both s a
+    outcome-comes e f = rw (is, also) (h s a (rw is at e) (rw also at f))
 
   -- the course goes on with what they say
   pub both-fault : (x : Text) (n at : ℕ) → faulty x n at ≡ both s a → faulty x n at ≡ course s a

@@ -17,7 +17,7 @@ ghost use Rattle.rules.specs.Walk.{walkAnswer};
 ghost use Rattle.judged.specs.Course.{default, both};
 ghost use Rattle.reading.specs.Place.{lineStart};
 ghost use Rattle.judged.specs.Judged.{faultLine, afterFault, emptyAt, lineAt, faultPlace, stepPlace, noRoom, afterWalk, inRoom, judged, over, buffer, printed};
-ghost use Rattle.judging.specs.Came.{nothingSaid, Comes};
+ghost use Rattle.judging.specs.Came.{came, saying, sheetSeen, answerSeen, nothingSaid, Comes};
 ghost use Rattle.judging.specs.Counts.{Counts};
 ghost use Rattle.judging.specs.Part.{PartAt};
 
@@ -59,33 +59,66 @@ fn nothing_said(outcome: Outcome) -> Pair
     }
 }
 
+// What a text's reader answered beside what it read: its length, 0 or the number of the refusal, and the place.
+struct Seen {
+    size: usize,
+    refused: u8,
+    place: usize,
+}
+
 // "length of the sheet, of the answer, then the sheet's lines, the answer's lines"
+fn outcome_of(sheet: Seen, answer: Seen) -> Outcome
+    ensures { λ r. ⌜ ((s a : List ℕ) → sheet ≡ sheetSeen s → answer ≡ answerSeen a → came r (saying s a) ≡ both s a) ⌝ }
+{
+    if LONGEST < sheet.size {
+        return Outcome::InSheet(1, 0);
+    }
+    if LONGEST < answer.size {
+        return Outcome::InAnswer(1, 0);
+    }
+    if sheet.refused != 0 {
+        return Outcome::InSheet(sheet.refused, sheet.place);
+    }
+    if answer.refused != 0 {
+        return Outcome::InAnswer(answer.refused, answer.place);
+    }
+    Outcome::Reached
+}
+
+fn look_at(s: &[u8], refused: u8, place: usize) -> Seen
+    ensures { λ r. ⌜ r ≡ record { size = length (now (s .entry)); refused = refused; place = place } ⌝ }
+{
+    let size = s.len();
+    Seen {
+        size,
+        refused,
+        place,
+    }
+}
+
+// What both texts say, by value.
 pub fn read_both(sheet: &[u8], answer: &[u8]) -> Pair
     ensures { λ r. ⌜ Comes r (both (now (sheet .entry)) (now (answer .entry))) ⌝ }
 {
-    if LONGEST < sheet.len() {
-        return nothing_said(Outcome::InSheet(1, 0));
-    }
-    if LONGEST < answer.len() {
-        return nothing_said(Outcome::InAnswer(1, 0));
-    }
     let said = sheets::read_sheet(sheet);
-    if said.refused != 0 {
-        return nothing_said(Outcome::InSheet(said.refused, said.place));
-    }
     let given = answers::read_answer(answer);
-    if given.refused != 0 {
-        return nothing_said(Outcome::InAnswer(given.refused, given.place));
-    }
-    let outcome = Outcome::Reached;
-    let tables = said.tables;
-    let program = said.program;
-    let steps = given.answer;
-    Pair {
-        outcome,
-        tables,
-        program,
-        steps,
+    let one = look_at(sheet, said.refused, said.place);
+    let two = look_at(answer, given.refused, given.place);
+    let outcome = outcome_of(one, two);
+    match outcome {
+        Outcome::InSheet(n, at) => nothing_said(Outcome::InSheet(n, at)),
+        Outcome::InAnswer(n, at) => nothing_said(Outcome::InAnswer(n, at)),
+        Outcome::Reached => {
+            let tables = said.tables;
+            let program = said.program;
+            let steps = given.answer;
+            Pair {
+                outcome,
+                tables,
+                program,
+                steps,
+            }
+        }
     }
 }
 

@@ -1,43 +1,40 @@
-use mathlib.Core.Path.{refl}
-use Rattle.judging.proofs.Order.{sheet-long, answer-long, sheet-refused, answer-refused, both-said}
+use mathlib.Core.Path.{_≡_, refl}
+use Rattle.judged.specs.Course.{both}
+use Rattle.judging.specs.Came.{came}
+use Rattle.judging.proofs.Order.{outcome-comes}
 use borrow.Author.Needs.{needs}
 use Rattle.judging.proofs.read_both.Statement.{statement}
 use Rattle.judging.proofs.read_both.Tie as tie
 
+-- the outcome is that of the two texts
+ordered : (c : tie.After-outcome-of)
+    → let y = c .before .before .before .read-answer .result in
+    let r = c .before .before .before .before .read-sheet .result in
+    let x = c .before .before .before .before .before .before .before .args in
+    came (c .outcome-of .result) (r .tables, r .program, y .answer) ≡ both (x .sheet .now) (x .answer .now)
+ordered c =
+    let one = c .before .before in
+    outcome-comes _ _ (one .before .before .read-sheet .ensures) (one .before .read-answer .ensures) (c .outcome-of .result) (c .outcome-of .ensures) (one .look-at .ensures)
+    (c .before .look-at2 .ensures)
+
 returns : tie.Need-returns
-returns c = rw (c .nothing-said .ensures) (record { same = sheet-long _ _ (c .before .if1 .taken); beside = refl })
+returns c =
+    let d = c .before .before in
+    rw (c .nothing-said .ensures) (record { same = rw (d .outcome .given .1) at (ordered (d .before .before)); beside = refl })
 
 returns-2 : tie.Need-returns-2
-returns-2 c = rw (c .nothing-said2 .ensures) (record { same = answer-long _ _ (c .before .before .if1 .left) (c .before .if2 .taken); beside = refl })
+returns-2 c =
+    let d = c .before .before in
+    rw (c .nothing-said2 .ensures) (record { same = rw (d .outcome2 .given .1) at (ordered (d .before .before)); beside = refl })
 
 returns-3 : tie.Need-returns-3
 returns-3 c =
     let d = c .before .before .before in
-    rw (c .nothing-said3 .ensures) (record { same = sheet-refused _ _ (d .before .before .if1 .left) (d .before .if2 .left) (d .read-sheet .ensures) (c .before .if3 .taken); beside = refl })
-
-returns-4 : tie.Need-returns-4
-returns-4 c =
-    let g = c .before .before .before in
-    let d = g .before .before .before in
-    rw (c .nothing-said4 .ensures)
-    (record {
-      same = answer-refused _ _ (d .before .before .if1 .left) (d .before .if2 .left) (d .read-sheet .ensures) (g .before .if3 .left) (g .read-answer .ensures) (c .before .if4 .taken);
-      beside = refl;
-    })
-
-returns-5 : tie.Need-returns-5
-returns-5 c =
-    let f = c .before .before .before in
-    let g = f .before .before in
-    let d = g .before .before .before in
-    record {
-      same = both-said _ _ (d .before .before .if1 .left) (d .before .if2 .left) (d .read-sheet .ensures) (g .before .if3 .left) (g .read-answer .ensures) (f .if4 .left);
-      beside = tt;
-    }
+    record { same = ordered (d .before .before); beside = rw (d .enum-told .given .1) tt }
 
 pub read-both-spec : {M : Type 1} → statement M
 read-both-spec =
     tie.close
     (tie.spec
-    (λ c κs. search needs) returns (λ c κs. search needs) returns-2 (λ c κs. search needs) (λ c κs. search needs) returns-3
-    (λ c κs. search needs) (λ c κs. search needs) returns-4 returns-5)
+    (λ c κs. search needs) (λ c κs. search needs) (λ c κs. search needs) (λ c κs. search needs) (λ c κs. search needs) (λ c. search needs)
+    (λ c κs. search needs) (λ c. search needs) (λ c κs. search needs) (λ c. search needs) returns returns-2 returns-3)
