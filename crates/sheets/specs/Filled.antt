@@ -1,8 +1,9 @@
 -- The lent arrays as the groups of the tables that they fill, and what is answered beside a refusal.
 use Prim.Native.Nat.{ℕ}
 use mathlib.Core.List.{List}
-use lib.ListN.{replicate}
+use lib.ListN.{replicate, set}
 use denote.Ref.{RefT, now}
+use Rattle.forms.specs.Reader.{bytes}
 use Rattle.model.specs.declared.ComponentType.{ComponentType}
 use Rattle.model.specs.declared.Transitions.{Transitions}
 use Rattle.model.specs.declared.Ports.{Ports}
@@ -11,8 +12,13 @@ use Rattle.model.specs.Empty.{noType}
 use Rattle.reading.specs.Lines.{each}
 use Rattle.reading.specs.Fill.{withType}
 use Rattle.reading.specs.Texts.{type}
+use Rattle.lines.specs.declared.Limit.{Limit}
+use Rattle.lines.specs.declared.Limit.the-variants as limit
 use Rattle.lines.specs.declared.Went.the-variants.{On, Stop}
 use Rattle.lines.specs.Runs.{RunsTo}
+use Rattle.sheet_lines.specs.declared.Row.{Row}
+use Rattle.sheet_lines.specs.declared.Rows.{Rows}
+use Rattle.sheet_lines.specs.declared.Rows.the-variants as rows
 use Rattle.sheets.specs.declared.TypeRead.{TypeRead}
 use Rattle.sheets.specs.declared.RowsRead.{RowsRead}
 use Rattle.sheets.specs.declared.TypesRead.{TypesRead}
@@ -36,6 +42,44 @@ filled ss ds bs us ps ts = record { transitions = endsOf ss ds; behaviors = bs; 
 -- the same of what the arrays hold that are lent
 abbrev pub lent : RefT (List ℕ) → RefT (List ℕ) → RefT (List ℕ) → RefT (List ℕ) → RefT (List ℕ) → RefT (List ℕ) → Filled
 lent ss ds bs us ps ts = filled (now ss) (now ds) (now bs) (now us) (now ps) (now ts)
+
+-- by the kind of the rows: how many slots all types have, and each type; the key and the limit of the line that says how many
+abbrev pub slots : Rows → ℕ
+slots rows.Transitions = 512
+slots rows.Behaviors = 128
+slots rows.Ports = 256
+
+abbrev pub perType : Rows → ℕ
+perType rows.Transitions = 32
+perType rows.Behaviors = 8
+perType rows.Ports = 16
+
+abbrev pub rowsKey : Rows → List ℕ
+rowsKey rows.Transitions = bytes "transitions="
+rowsKey rows.Behaviors = bytes "behaviors="
+rowsKey rows.Ports = bytes "ports="
+
+abbrev pub rowsLimit : Rows → Limit
+rowsLimit rows.Transitions = limit.Transitions
+rowsLimit rows.Behaviors = limit.Behaviors
+rowsLimit rows.Ports = limit.Ports
+
+-- the same rows but for those of one kind
+abbrev pub withEnds : Filled → Transitions → Filled
+withEnds f xs = record { transitions = xs; behaviors = f .behaviors; ports = f .ports }
+
+abbrev pub withBehaviors : Filled → List ℕ → Filled
+withBehaviors f bs = record { transitions = f .transitions; behaviors = bs; ports = f .ports }
+
+abbrev pub withPorts : Filled → Ports → Filled
+withPorts f qs = record { transitions = f .transitions; behaviors = f .behaviors; ports = qs }
+
+-- row j of a kind, counted over all types
+abbrev pub putRow : Rows → Filled → ℕ → Row → Filled
+putRow rows.Transitions f j x = withEnds f (endsOf (set (f .transitions .source) j (x .source)) (set (f .transitions .destination) j (x .destination)))
+putRow rows.Behaviors f j x = withBehaviors f (set (f .behaviors) j (x .transitions))
+putRow rows.Ports f j x =
+    withPorts f (portsOf (set (f .ports .uses) j (x .uses)) (set (f .ports .places) j (x .places)) (set (f .ports .transitions) j (x .transitions)))
 
 abbrev pub tablesOf : ℕ → ℕ → List ComponentType → Filled → Tables
 tablesOf d n cs f = record { depth = d; count = n; types = cs; transitions = f .transitions; behaviors = f .behaviors; ports = f .ports }

@@ -9,6 +9,7 @@ use model::Program;
 use model::Tables;
 use model::Transitions;
 use sheet_lines::Do;
+use sheet_lines::Row;
 use sheet_lines::RowLine;
 use sheet_lines::Rows;
 use texts::Due;
@@ -18,13 +19,13 @@ ghost use lib.ListN.{length, drop, replicate};
 ghost use Rattle.model.specs.Empty.{noType};
 ghost use Rattle.texts.specs.Reads.{Reads, refusal};
 ghost use Rattle.reading.specs.Lines.{each};
-ghost use Rattle.reading.specs.Kinds.{initialLine};
+ghost use Rattle.reading.specs.Kinds.{countLine, initialLine};
 ghost use Rattle.reading.specs.Fill.{headed, programOf};
 ghost use Rattle.reading.specs.Texts.{type, instruct};
-ghost use Rattle.lines.specs.Counts.{lineSays};
+ghost use Rattle.lines.specs.Counts.{lineSays, limitOk, Counts};
 ghost use Rattle.lines.specs.Runs.{RunsTo};
-ghost use Rattle.sheets.specs.Filled.{endsOf, portsOf, lent, refusedRows, refusedType, refusedHead, beforeTypes, TypesTo};
-ghost use Rattle.sheets.specs.Onward.{transitionRows, behaviorRows, portRows, fromRows, typeHead, typeRun, sheetHead, programRun};
+ghost use Rattle.sheets.specs.Filled.{endsOf, portsOf, lent, slots, perType, rowsKey, rowsLimit, putRow, refusedRows, refusedType, refusedHead, beforeTypes, TypesTo};
+ghost use Rattle.sheets.specs.Onward.{rowsOf, fromRows, typeHead, typeRun, sheetHead, programRun};
 ghost use Rattle.sheets.specs.Sheet.{refusedSheet, sheetRead};
 
 // What a sheet says, or the number of the refusal and the place of the line at fault beside empty tables and an empty program.
@@ -93,113 +94,105 @@ fn refused_count(text: &[u8], start: usize, line: Line) -> RowsRead
     refused_rows(k, at)
 }
 
-// The transitions of a type: how many, and as many, each in its slot.
-fn read_transitions(
+// The line that says how many rows of a kind a type has.
+fn rows_at(text: &[u8], at: usize, rows: Rows) -> Line
+    ensures { λ r. ⌜ Counts (now (text .entry)) (rowsLimit rows) r (countLine (rowsKey rows) (limitOk (rowsLimit rows)) (drop at (now (text .entry)))) ⌝ }
+{
+    match rows {
+        Rows::Transitions => lines::count_at(text, at, b"transitions=", Limit::Transitions),
+        Rows::Behaviors => lines::count_at(text, at, b"behaviors=", Limit::Behaviors),
+        Rows::Ports => lines::count_at(text, at, b"ports=", Limit::Ports),
+    }
+}
+
+// How many slots each type has for its rows of a kind.
+fn per_type(rows: Rows) -> usize
+    ensures { λ r. ⌜ r ≡ perType rows ⌝ }
+{
+    match rows {
+        Rows::Transitions => 32,
+        Rows::Behaviors => 8,
+        Rows::Ports => 16,
+    }
+}
+
+// A row in its slot, counted over all types.
+fn put_row(
+    rows: Rows,
+    slot: usize,
+    row: Row,
+    source: &mut [u8; 512],
+    destination: &mut [u8; 512],
+    behaviors: &mut [u32; 128],
+    uses: &mut [u8; 256],
+    places: &mut [u32; 256],
+    transitions: &mut [u32; 256],
+)
+    requires { ⌜ slot < slots rows ⌝ }
+    ensures { λ r. ⌜ lent (source .exit) (destination .exit) (behaviors .exit) (uses .exit) (places .exit) (transitions .exit)
+        ≡ putRow rows (lent (source .entry) (destination .entry) (behaviors .entry) (uses .entry) (places .entry) (transitions .entry)) slot row ⌝ }
+{
+    match rows {
+        Rows::Transitions => {
+            source[slot] = row.source;
+            destination[slot] = row.destination;
+        }
+        Rows::Behaviors => {
+            behaviors[slot] = row.transitions;
+        }
+        Rows::Ports => {
+            uses[slot] = row.uses;
+            places[slot] = row.places;
+            transitions[slot] = row.transitions;
+        }
+    }
+}
+
+// The rows of one kind of a type: how many, and as many, each in its slot.
+fn read_rows(
     text: &[u8],
     start: usize,
+    rows: Rows,
     kind: u8,
     known: ComponentType,
     source: &mut [u8; 512],
     destination: &mut [u8; 512],
-) -> RowsRead
-    requires { ⌜ kind < 16 ⌝ }
-    ensures { λ r. ⌜ RunsTo (now (text .entry)) (r .went) (r .at) (r .count, endsOf (now (source .exit)) (now (destination .exit)))
-        (transitionRows kind known (endsOf (now (source .entry)) (now (destination .entry))) (drop start (now (text .entry)))) ⌝ }
-{
-    let line = lines::count_at(text, start, b"transitions=", Limit::Transitions);
-    let Line::Got(n, next) = line else {
-        return refused_count(text, start, line);
-    };
-    let count = n as u8;
-    let rows = n as usize;
-    let first = kind as usize * 32;
-    let mut at = next;
-    let mut i: usize = 0;
-    while i < rows {
-        let line = sheet_lines::row_line(&text[at..], Rows::Transitions, known);
-        let RowLine::Got(row, used) = line else {
-            let k = sheet_lines::row_refusal(line);
-            return refused_rows(k, at);
-        };
-        let slot = first + i;
-        source[slot] = row.source;
-        destination[slot] = row.destination;
-        at = at + used;
-        i = i + 1;
-    }
-    let went = Went::On;
-    RowsRead { went, at, count }
-}
-
-// The behaviors of a type: how many, and as many, each in its slot.
-fn read_behaviors(
-    text: &[u8],
-    start: usize,
-    kind: u8,
-    known: ComponentType,
     behaviors: &mut [u32; 128],
-) -> RowsRead
-    requires { ⌜ kind < 16 ⌝ }
-    ensures { λ r. ⌜ RunsTo (now (text .entry)) (r .went) (r .at) (r .count, now (behaviors .exit))
-        (behaviorRows kind known (now (behaviors .entry)) (drop start (now (text .entry)))) ⌝ }
-{
-    let line = lines::count_at(text, start, b"behaviors=", Limit::Behaviors);
-    let Line::Got(n, next) = line else {
-        return refused_count(text, start, line);
-    };
-    let count = n as u8;
-    let rows = n as usize;
-    let first = kind as usize * 8;
-    let mut at = next;
-    let mut i: usize = 0;
-    while i < rows {
-        let line = sheet_lines::row_line(&text[at..], Rows::Behaviors, known);
-        let RowLine::Got(row, used) = line else {
-            let k = sheet_lines::row_refusal(line);
-            return refused_rows(k, at);
-        };
-        let slot = first + i;
-        behaviors[slot] = row.transitions;
-        at = at + used;
-        i = i + 1;
-    }
-    let went = Went::On;
-    RowsRead { went, at, count }
-}
-
-// The ports of a type: how many, and as many, each in its slot.
-fn read_ports(
-    text: &[u8],
-    start: usize,
-    kind: u8,
-    known: ComponentType,
     uses: &mut [u8; 256],
     places: &mut [u32; 256],
     transitions: &mut [u32; 256],
 ) -> RowsRead
     requires { ⌜ kind < 16 ⌝ }
-    ensures { λ r. ⌜ RunsTo (now (text .entry)) (r .went) (r .at) (r .count, portsOf (now (uses .exit)) (now (places .exit)) (now (transitions .exit)))
-        (portRows kind known (portsOf (now (uses .entry)) (now (places .entry)) (now (transitions .entry))) (drop start (now (text .entry)))) ⌝ }
+    ensures { λ r. ⌜ RunsTo (now (text .entry)) (r .went) (r .at)
+        (r .count, lent (source .exit) (destination .exit) (behaviors .exit) (uses .exit) (places .exit) (transitions .exit))
+        (rowsOf rows kind known (lent (source .entry) (destination .entry) (behaviors .entry) (uses .entry) (places .entry) (transitions .entry)) (drop start (now (text .entry)))) ⌝ }
 {
-    let line = lines::count_at(text, start, b"ports=", Limit::Ports);
+    let line = rows_at(text, start, rows);
     let Line::Got(n, next) = line else {
         return refused_count(text, start, line);
     };
     let count = n as u8;
-    let rows = n as usize;
-    let first = kind as usize * 16;
+    let most = n as usize;
+    let first = model::wide(kind) * per_type(rows);
     let mut at = next;
     let mut i: usize = 0;
-    while i < rows {
-        let line = sheet_lines::row_line(&text[at..], Rows::Ports, known);
+    while i < most {
+        let line = sheet_lines::row_line(&text[at..], rows, known);
         let RowLine::Got(row, used) = line else {
             let k = sheet_lines::row_refusal(line);
             return refused_rows(k, at);
         };
-        let slot = first + i;
-        uses[slot] = row.uses;
-        places[slot] = row.places;
-        transitions[slot] = row.transitions;
+        put_row(
+            rows,
+            first + i,
+            row,
+            source,
+            destination,
+            behaviors,
+            uses,
+            places,
+            transitions,
+        );
         at = at + used;
         i = i + 1;
     }
@@ -226,21 +219,57 @@ fn from_rows(
         (fromRows kind known (lent (source .entry) (destination .entry) (behaviors .entry) (uses .entry) (places .entry) (transitions .entry)) (drop start (now (text .entry)))) ⌝ }
 {
     let mut c = known;
-    let first = read_transitions(text, start, kind, c, source, destination);
+    let first = read_rows(
+        text,
+        start,
+        Rows::Transitions,
+        kind,
+        c,
+        source,
+        destination,
+        behaviors,
+        uses,
+        places,
+        transitions,
+    );
     let went = first.went;
     let at = first.at;
     c.transitions = first.count;
     let Went::On = went else {
         return TypeRead { went, at, known: c };
     };
-    let second = read_behaviors(text, at, kind, c, behaviors);
+    let second = read_rows(
+        text,
+        at,
+        Rows::Behaviors,
+        kind,
+        c,
+        source,
+        destination,
+        behaviors,
+        uses,
+        places,
+        transitions,
+    );
     let went = second.went;
     let at = second.at;
     c.behaviors = second.count;
     let Went::On = went else {
         return TypeRead { went, at, known: c };
     };
-    let third = read_ports(text, at, kind, c, uses, places, transitions);
+    let third = read_rows(
+        text,
+        at,
+        Rows::Ports,
+        kind,
+        c,
+        source,
+        destination,
+        behaviors,
+        uses,
+        places,
+        transitions,
+    );
     let went = third.went;
     let at = third.at;
     c.ports = third.count;
