@@ -8,6 +8,7 @@ use Rattle.forms.specs.Reader.{Reply, got, refused, bind, bytes}
 use Rattle.forms.specs.Reader as reader
 use Rattle.model.specs.declared.ComponentType.{ComponentType}
 use Rattle.model.specs.declared.Tables.{Tables}
+use Rattle.model.specs.Empty.{noTables}
 use Rattle.reading.specs.Limits.{depthOk, typesOk, placesOk, transitionsOk, behaviorsOk, portsOk, programOk}
 use Rattle.reading.specs.Lines.{Run, Lines, next, give, lineOf, line, each, atEnd}
 use Rattle.reading.specs.Kinds.{dueLine, countLine, initialLine, tranLine, behaviorLine, portLine}
@@ -21,7 +22,8 @@ use Rattle.sheet_lines.specs.declared.Row.{Row}
 use Rattle.sheet_lines.specs.declared.Rows.{Rows}
 use Rattle.sheet_lines.specs.declared.Rows.the-variants as rows
 use Rattle.sheet_lines.specs.Rows.{rowLine}
-use Rattle.sheets.specs.Filled.{Filled, slots, perType, rowsKey, rowsLimit, withEnds, withBehaviors, withPorts, filledOf, put}
+use Rattle.sheets.specs.declared.TypesRead.{TypesRead}
+use Rattle.sheets.specs.Filled.{Filled, tablesOf, noRows, TypesTo, slots, perType, rowsKey, rowsLimit, withEnds, withBehaviors, withPorts, filledOf, put}
 use Rattle.sheets.specs.Onward.{row, rowsOf, fromRows, typeHead, typeRun, sheetHead, programRun}
 
 -- the slots of a type lie within those of all types
@@ -114,6 +116,12 @@ module _ (i : ℕ) (t : Tables) where
 
   pub type-read : (q : List ℕ) {s : List ℕ} {w : Went} {to : ℕ} {x : ComponentType × Filled} → RunsTo s w to x (typeRun i (filledOf t) q) → RunsTo s w to (put t i x) (type i t q)
   type-read q r = rw (type-lines q) (run-seen (put t i) _ r)
+
+-- the types of a sheet of any depth, read into arrays that held no row
+pub types-read : {s : List ℕ} {n : ℕ} (r : TypesRead) {g f : Filled} (q : List ℕ) → f ≡ noRows → TypesTo s n r g f q
+    → (d : ℕ) → RunsTo s (r .last .went) (r .last .at) (tablesOf d n (r .types) g) (each type n 0 (headed d n) q)
+unfolding headed noTables
+types-read r q e h d = rw e at (h d)
 
 -- a sheet's first lines, its types and its program
 pub sheet-parts : (s : List ℕ)

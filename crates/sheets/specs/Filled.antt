@@ -1,5 +1,5 @@
 -- The lent arrays as the groups of the tables that they fill, and what is answered beside a refusal.
-use Prim.Native.Nat.{ℕ}
+use Prim.Native.Nat.{ℕ, zero, suc}
 use mathlib.Core.List.{List}
 use lib.ListN.{replicate, set}
 use denote.Ref.{RefT, now}
@@ -8,7 +8,7 @@ use Rattle.model.specs.declared.ComponentType.{ComponentType}
 use Rattle.model.specs.declared.Transitions.{Transitions}
 use Rattle.model.specs.declared.Ports.{Ports}
 use Rattle.model.specs.declared.Tables.{Tables}
-use Rattle.model.specs.Empty.{noType}
+use Rattle.model.specs.Empty.{noType, noProgram}
 use Rattle.reading.specs.Lines.{each}
 use Rattle.reading.specs.Fill.{withType}
 use Rattle.reading.specs.Texts.{type}
@@ -23,6 +23,7 @@ use Rattle.sheets.specs.declared.TypeRead.{TypeRead}
 use Rattle.sheets.specs.declared.RowsRead.{RowsRead}
 use Rattle.sheets.specs.declared.TypesRead.{TypesRead}
 use Rattle.sheets.specs.declared.HeadRead.{HeadRead}
+use Rattle.sheets.specs.declared.SheetRead.{SheetRead}
 
 abbrev pub endsOf : List ℕ → List ℕ → Transitions
 endsOf ss ds = record { source = ss; destination = ds }
@@ -42,6 +43,15 @@ filled ss ds bs us ps ts = record { transitions = endsOf ss ds; behaviors = bs; 
 -- the same of what the arrays hold that are lent
 abbrev pub lent : RefT (List ℕ) → RefT (List ℕ) → RefT (List ℕ) → RefT (List ℕ) → RefT (List ℕ) → RefT (List ℕ) → Filled
 lent ss ds bs us ps ts = filled (now ss) (now ds) (now bs) (now us) (now ps) (now ts)
+
+-- no row is written down
+abbrev pub noRows : Filled
+noRows = filled (replicate 512 0) (replicate 512 0) (replicate 128 0) (replicate 256 0) (replicate 256 0) (replicate 256 0)
+
+-- the rows that count beside the number of a refusal: those that were read, where there is none
+abbrev pub beside : ℕ → Filled → Filled
+beside zero f = f
+beside (suc k) f = noRows
 
 -- by the kind of the rows: how many slots all types have, and each type; the key and the limit of the line that says how many
 abbrev pub slots : Rows → ℕ
@@ -100,6 +110,9 @@ refusedType k at = record { went = Stop k; at = at; known = noType }
 
 abbrev pub refusedHead : ℕ → ℕ → HeadRead
 refusedHead k at = record { went = Stop k; at = at; depth = 0; count = 0 }
+
+abbrev pub refusedLines : ℕ → ℕ → SheetRead
+refusedLines k at = record { refused = k; place = at; depth = 0; count = 0; types = replicate 16 noType; program = noProgram }
 
 -- the first type starts at the place at
 abbrev pub beforeTypes : ℕ → TypeRead

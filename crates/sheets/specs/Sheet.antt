@@ -11,6 +11,12 @@ use Rattle.reading.specs.Limits.{lengthOk}
 use Rattle.reading.specs.Lines.{Run, on, stop}
 use Rattle.reading.specs.Texts.{sheet}
 use Rattle.sheets.specs.declared.Sheet.{Sheet}
+use Rattle.sheets.specs.declared.SheetRead.{SheetRead}
+use Rattle.sheets.specs.Filled.{Filled, tablesOf}
+
+-- what was read and the rows f in the lent arrays, as one sheet
+abbrev pub said : SheetRead → Filled → Sheet
+said r f = record { refused = r .refused; place = r .place; tables = tablesOf (r .depth) (r .count) (r .types) f; program = r .program }
 
 -- nothing is handed out beside a refusal
 abbrev pub refusedSheet : ℕ → ℕ → Sheet
@@ -25,6 +31,9 @@ answered s (stop k r) = refusedSheet k (length s - length r)
 unfoldable pub sheetRead : List ℕ → Sheet
 sheetRead s = elim (lengthOk (length s)) [ true ↦ answered s (sheet s) | false ↦ refusedSheet 1 0 ]
 
--- no other answer fits the promise
+-- no other answer fits the promise; and no other with the rows that stand beside it
 unfoldable pub NoOtherSheet : Type 0
 NoOtherSheet = (s : List ℕ) (r q : Sheet) → r ≡ sheetRead s → q ≡ sheetRead s → r ≡ q
+
+unfoldable pub NoOtherRows : Type 0
+NoOtherRows = (s : List ℕ) (r q : SheetRead) (f g : Filled) → said r f ≡ sheetRead s → said q g ≡ sheetRead s → (r ≡ q) × (f ≡ g)

@@ -1,5 +1,6 @@
 // A sheet read whole: its types with their rows, then its program, each line from the part of the text that starts with it.
-// Promised: for every text `read_sheet` answers the one number, place, tables and program that `sheetRead` gives of it.
+// Promised: for every text `read_sheet` answers the one number, place, tables and program that `sheetRead` gives of it, and `fill_sheet`
+// the same with the rows in arrays that the caller lends, whatever they held before.
 use lines::Limit;
 use lines::Line;
 use lines::Went;
@@ -20,19 +21,29 @@ ghost use Rattle.model.specs.Empty.{noType};
 ghost use Rattle.texts.specs.Reads.{Reads, refusal};
 ghost use Rattle.reading.specs.Lines.{each};
 ghost use Rattle.reading.specs.Kinds.{countLine, initialLine};
-ghost use Rattle.reading.specs.Fill.{headed, programOf};
-ghost use Rattle.reading.specs.Texts.{type, instruct};
+ghost use Rattle.reading.specs.Fill.{programOf};
+ghost use Rattle.reading.specs.Texts.{instruct};
 ghost use Rattle.lines.specs.Counts.{lineSays, limitOk, Counts};
-ghost use Rattle.lines.specs.Runs.{RunsTo};
-ghost use Rattle.sheets.specs.Filled.{endsOf, portsOf, lent, slots, perType, rowsKey, rowsLimit, putRow, refusedRows, refusedType, refusedHead, beforeTypes, TypesTo};
+ghost use Rattle.lines.specs.Runs.{refusalOf, RunsTo};
+ghost use Rattle.sheets.specs.Filled.{lent, noRows, beside, slots, perType, rowsKey, rowsLimit, putRow, refusedRows, refusedType, refusedHead, refusedLines, beforeTypes, TypesTo};
 ghost use Rattle.sheets.specs.Onward.{rowsOf, fromRows, typeHead, typeRun, sheetHead, programRun};
-ghost use Rattle.sheets.specs.Sheet.{refusedSheet, sheetRead};
+ghost use Rattle.sheets.specs.Sheet.{said, sheetRead};
 
 // What a sheet says, or the number of the refusal and the place of the line at fault beside empty tables and an empty program.
 pub struct Sheet {
     pub refused: u8,
     pub place: usize,
     pub tables: Tables,
+    pub program: Program,
+}
+
+// The same where the rows are in lent arrays: the depth, the types and the program.
+pub struct SheetRead {
+    pub refused: u8,
+    pub place: usize,
+    pub depth: u8,
+    pub count: u8,
+    pub types: [ComponentType; 16],
     pub program: Program,
 }
 
@@ -62,13 +73,6 @@ struct HeadRead {
     at: usize,
     depth: u8,
     count: u8,
-}
-
-// The same of the tables.
-struct TablesRead {
-    went: Went,
-    at: usize,
-    tables: Tables,
 }
 
 struct ProgramRead {
@@ -429,64 +433,6 @@ fn read_types(
     TypesRead { last, types }
 }
 
-fn ends_of(source: [u8; 512], destination: [u8; 512]) -> Transitions
-    ensures { λ r. ⌜ r ≡ endsOf source destination ⌝ }
-{
-    Transitions {
-        source,
-        destination,
-    }
-}
-
-fn ports_of(uses: [u8; 256], places: [u32; 256], transitions: [u32; 256]) -> Ports
-    ensures { λ r. ⌜ r ≡ portsOf uses places transitions ⌝ }
-{
-    Ports {
-        uses,
-        places,
-        transitions,
-    }
-}
-
-// The lines of so many types, in a sheet of that depth: the rows are filled where they stand, and nothing is copied for a line.
-fn read_tables(text: &[u8], start: usize, depth: u8, count: u8) -> TablesRead
-    requires { ⌜ count ≤ 16 ⌝ }
-    ensures { λ r. ⌜ RunsTo (now (text .entry)) (r .went) (r .at) (r .tables) (each type count 0 (headed depth count) (drop start (now (text .entry)))) ⌝ }
-{
-    let mut source = [0u8; 512];
-    let mut destination = [0u8; 512];
-    let mut behaviors = [0u32; 128];
-    let mut uses = [0u8; 256];
-    let mut places = [0u32; 256];
-    let mut transitions = [0u32; 256];
-    let read = read_types(
-        text,
-        start,
-        count,
-        &mut source,
-        &mut destination,
-        &mut behaviors,
-        &mut uses,
-        &mut places,
-        &mut transitions,
-    );
-    let last = read.last;
-    let went = last.went;
-    let at = last.at;
-    let types = read.types;
-    let ends = ends_of(source, destination);
-    let ports = ports_of(uses, places, transitions);
-    let tables = Tables {
-        depth,
-        count,
-        types,
-        transitions: ends,
-        behaviors,
-        ports,
-    };
-    TablesRead { went, at, tables }
-}
-
 fn refused_head(refused: u8, at: usize) -> HeadRead
     ensures { λ r. ⌜ r ≡ refusedHead refused at ⌝ }
 {
@@ -582,52 +528,165 @@ fn read_program(text: &[u8], start: usize, types: u8) -> ProgramRead
 }
 
 // Beside a refusal nothing of what was read is handed out.
-fn refused_sheet(refused: u8, place: usize) -> Sheet
-    ensures { λ r. ⌜ r ≡ refusedSheet refused place ⌝ }
+fn refused_lines(went: Went, place: usize) -> SheetRead
+    ensures { λ r. ⌜ r ≡ refusedLines (refusalOf went) place ⌝ }
 {
-    let tables = model::no_tables();
+    let refused = lines::refusal(went);
+    let types = no_types();
     let program = model::no_program();
-    Sheet {
+    SheetRead {
         refused,
         place,
-        tables,
+        depth: 0,
+        count: 0,
+        types,
         program,
     }
+}
+
+// The lines of a text of any length, the rows into arrays that hold none yet. Beside a refusal those read before it are left in them.
+fn read_lines(
+    text: &[u8],
+    source: &mut [u8; 512],
+    destination: &mut [u8; 512],
+    behaviors: &mut [u32; 128],
+    uses: &mut [u8; 256],
+    places: &mut [u32; 256],
+    transitions: &mut [u32; 256],
+) -> SheetRead
+    requires { ⌜ lent source destination behaviors uses places transitions ≡ noRows ⌝ }
+    ensures { λ r. ⌜ said r (beside (r .refused) (lent (source .exit) (destination .exit) (behaviors .exit) (uses .exit) (places .exit) (transitions .exit))) ≡ sheetRead (now (text .entry)) ⌝ }
+{
+    if 32768 < text.len() {
+        let long = Went::Stop(1);
+        return refused_lines(long, 0);
+    }
+    let head = sheet_head(text);
+    let went = head.went;
+    let Went::On = went else {
+        return refused_lines(went, head.at);
+    };
+    let read = read_types(
+        text,
+        head.at,
+        head.count,
+        source,
+        destination,
+        behaviors,
+        uses,
+        places,
+        transitions,
+    );
+    let last = read.last;
+    let went = last.went;
+    let Went::On = went else {
+        return refused_lines(went, last.at);
+    };
+    let rest = read_program(text, last.at, head.count);
+    let went = rest.went;
+    let Went::On = went else {
+        return refused_lines(went, rest.at);
+    };
+    let types = read.types;
+    let program = rest.program;
+    SheetRead {
+        refused: 0,
+        place: rest.at,
+        depth: head.depth,
+        count: head.count,
+        types,
+        program,
+    }
+}
+
+// No row is written down.
+fn clear(
+    source: &mut [u8; 512],
+    destination: &mut [u8; 512],
+    behaviors: &mut [u32; 128],
+    uses: &mut [u8; 256],
+    places: &mut [u32; 256],
+    transitions: &mut [u32; 256],
+)
+    ensures { λ r. ⌜ lent (source .exit) (destination .exit) (behaviors .exit) (uses .exit) (places .exit) (transitions .exit) ≡ noRows ⌝ }
+{
+    *source = [0u8; 512];
+    *destination = [0u8; 512];
+    *behaviors = [0u32; 128];
+    *uses = [0u8; 256];
+    *places = [0u32; 256];
+    *transitions = [0u32; 256];
+}
+
+// The sheet of a text of any length, its rows in the lent arrays, whatever they held before; nothing stands in them beside a refusal.
+pub fn fill_sheet(
+    text: &[u8],
+    source: &mut [u8; 512],
+    destination: &mut [u8; 512],
+    behaviors: &mut [u32; 128],
+    uses: &mut [u8; 256],
+    places: &mut [u32; 256],
+    transitions: &mut [u32; 256],
+) -> SheetRead
+    ensures { λ r. ⌜ said r (lent (source .exit) (destination .exit) (behaviors .exit) (uses .exit) (places .exit) (transitions .exit)) ≡ sheetRead (now (text .entry)) ⌝ }
+{
+    clear(source, destination, behaviors, uses, places, transitions);
+    let read = read_lines(
+        text,
+        source,
+        destination,
+        behaviors,
+        uses,
+        places,
+        transitions,
+    );
+    if read.refused != 0 {
+        clear(source, destination, behaviors, uses, places, transitions);
+    }
+    read
 }
 
 // The sheet of a text of any length.
 pub fn read_sheet(text: &[u8]) -> Sheet
     ensures { λ r. ⌜ r ≡ sheetRead (now (text .entry)) ⌝ }
 {
-    if 32768 < text.len() {
-        return refused_sheet(1, 0);
-    }
-    let head = sheet_head(text);
-    let went = head.went;
-    let at = head.at;
-    let Went::On = went else {
-        let k = lines::refusal(went);
-        return refused_sheet(k, at);
+    let mut source = [0u8; 512];
+    let mut destination = [0u8; 512];
+    let mut behaviors = [0u32; 128];
+    let mut uses = [0u8; 256];
+    let mut places = [0u32; 256];
+    let mut transitions = [0u32; 256];
+    let read = fill_sheet(
+        text,
+        &mut source,
+        &mut destination,
+        &mut behaviors,
+        &mut uses,
+        &mut places,
+        &mut transitions,
+    );
+    let types = read.types;
+    let ends = Transitions {
+        source,
+        destination,
     };
-    let read = read_tables(text, at, head.depth, head.count);
-    let went = read.went;
-    let at = read.at;
-    let Went::On = went else {
-        let k = lines::refusal(went);
-        return refused_sheet(k, at);
+    let ports = Ports {
+        uses,
+        places,
+        transitions,
     };
-    let rest = read_program(text, at, head.count);
-    let end = rest.went;
-    let place = rest.at;
-    let Went::On = end else {
-        let k = lines::refusal(end);
-        return refused_sheet(k, place);
+    let tables = Tables {
+        depth: read.depth,
+        count: read.count,
+        types,
+        transitions: ends,
+        behaviors,
+        ports,
     };
-    let tables = read.tables;
-    let program = rest.program;
+    let program = read.program;
     Sheet {
-        refused: 0,
-        place,
+        refused: read.refused,
+        place: read.place,
         tables,
         program,
     }
