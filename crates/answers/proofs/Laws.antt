@@ -8,6 +8,7 @@ use borrow.Author.Tests.{lt-leb, le-leb}
 use Rattle.forms.specs.Reader.{bytes}
 use Rattle.model.specs.declared.Answer.{Answer}
 use Rattle.model.specs.Empty.{noAnswer}
+use Rattle.model.specs.Lent.{stepsIn, answerIn}
 use Rattle.texts.specs.Reads.{past, Reads}
 use Rattle.reading.specs.Limits.{stepsOk}
 use Rattle.reading.specs.Lines.{Lines, _>>=_, _>>_, give, each, atEnd}
@@ -32,6 +33,12 @@ module _ (s : List ℕ) (l : length s ≤ 32768) {at : ℕ} where
   pub answer-read : {a : Answer} → RunsTo s On at a (answer s) → record { refused = 0; place = at; answer = a } ≡ answerRead s
   unfolding answerRead
   answer-read h = rw (le-leb (length s) 32768 l, answerRead, sym (h .same), place-is s at (h .within))
+
+-- the steps that are read into lists with no step are those of a new answer
+pub from-none : {s : List ℕ} {w : Went} {at : ℕ} {a : Answer} (n : ℕ) (vs is ns r : List ℕ) → stepsIn vs is ns ≡ noAnswer .steps
+    → RunsTo s w at a (each stepAt n 0 (answerIn n vs is ns) r) → RunsTo s w at a (each stepAt n 0 (answerOf n) r)
+unfolding answerOf
+from-none n vs is ns r e h = rw (sym e) h
 
 -- an answer of k steps from the first of them on
 unfoldable pub fromSteps : ℕ → Lines Answer

@@ -1,5 +1,6 @@
 // An answer read whole: its two first lines, then its steps, each line from the part of the text that starts with it.
-// Promised: for every text `read_answer` answers the one number, place and answer that `answerRead` gives of it.
+// Promised: for every text `read_answer` answers the one number, place and answer that `answerRead` gives of it, and `fill_answer` the same with
+// the steps in three lent arrays, whatever these held before.
 use lines::Limit;
 use lines::Line;
 use lines::Went;
@@ -12,14 +13,15 @@ use texts::TwoNumbers;
 ghost use mathlib.Core.Path.{_≡_};
 ghost use Prim.Native.Nat.{_≤_};
 ghost use lib.ListN.{drop};
+ghost use Rattle.model.specs.Empty.{noAnswer};
+ghost use Rattle.model.specs.Lent.{stepsIn, answerIn};
 ghost use Rattle.texts.specs.Reads.{Reads, refusal};
 ghost use Rattle.reading.specs.Lines.{each};
 ghost use Rattle.reading.specs.Kinds.{stepId, stepNumber, stepLine};
-ghost use Rattle.reading.specs.Fill.{answerOf};
 ghost use Rattle.reading.specs.Texts.{stepAt};
 ghost use Rattle.lines.specs.Runs.{RunsTo};
 ghost use Rattle.answers.specs.Says.{runsTo, stepSays};
-ghost use Rattle.answers.specs.Answer.{refusedAnswer, answerRead};
+ghost use Rattle.answers.specs.Answer.{refusedAnswer, answerRead, given};
 
 // The codes of the verbs, as in model::Step.
 const NEXT: u8 = 0;
@@ -45,11 +47,17 @@ pub struct AnswerRead {
     pub answer: Answer,
 }
 
-// The steps so far, and the place of the next line or of the line at fault.
-struct StepsRead {
+// The same where the steps are in lent arrays: how many there are.
+pub struct StepsRead {
+    pub refused: u8,
+    pub place: usize,
+    pub count: usize,
+}
+
+// Whether a run of lines went on, and the place of the next line or of the line at fault.
+struct LinesRead {
     went: Went,
     at: usize,
-    answer: Answer,
 }
 
 // What follows `step=finish,`.
@@ -128,73 +136,143 @@ pub fn step_refusal(line: StepLine) -> u8
 }
 
 // So many step lines, from the place start on, each read from the part of the text that starts with it.
-fn read_steps(text: &[u8], start: usize, count: usize) -> StepsRead
+fn read_steps(
+    text: &[u8],
+    start: usize,
+    count: usize,
+    verbs: &mut [u8; 1024],
+    ids: &mut [u8; 1024],
+    numbers: &mut [u8; 1024],
+) -> LinesRead
     requires { ⌜ count ≤ 1024 ⌝ }
-    ensures { λ r. ⌜ RunsTo (now (text .entry)) (r .went) (r .at) (r .answer) (each stepAt count 0 (answerOf count) (drop start (now (text .entry)))) ⌝ }
+    ensures { λ r. ⌜ RunsTo (now (text .entry)) (r .went) (r .at) (answerIn count (now (verbs .exit)) (now (ids .exit)) (now (numbers .exit))) (each stepAt count 0 (answerIn count (now (verbs .entry)) (now (ids .entry)) (now (numbers .entry))) (drop start (now (text .entry)))) ⌝ }
 {
     let mut at = texts::place_in(text, start);
-    let mut answer = model::no_answer();
-    answer.count = count;
     let mut i: usize = 0;
     while i < count {
         let line = step_line(&text[at..]);
         let StepLine::Got(step, used) = line else {
             let k = step_refusal(line);
             let went = Went::Stop(k);
-            return StepsRead { went, at, answer };
+            return LinesRead { went, at };
         };
-        answer.steps[i] = step;
+        verbs[i] = step.verb;
+        ids[i] = step.id;
+        numbers[i] = step.number;
         at = at + used;
         i = i + 1;
     }
     let went = Went::On;
-    StepsRead { went, at, answer }
+    LinesRead { went, at }
+}
+
+// No step is written down.
+fn clear(verbs: &mut [u8; 1024], ids: &mut [u8; 1024], numbers: &mut [u8; 1024])
+    ensures { λ _. ⌜ stepsIn (now (verbs .exit)) (now (ids .exit)) (now (numbers .exit)) ≡ noAnswer .steps ⌝ }
+{
+    *verbs = [0u8; 1024];
+    *ids = [0u8; 1024];
+    *numbers = [0u8; 1024];
 }
 
 // Beside a refusal nothing of what was read is handed out.
-fn refused_answer(refused: u8, place: usize) -> AnswerRead
-    ensures { λ r. ⌜ r ≡ refusedAnswer refused place ⌝ }
+fn refused_steps(
+    refused: u8,
+    place: usize,
+    verbs: &mut [u8; 1024],
+    ids: &mut [u8; 1024],
+    numbers: &mut [u8; 1024],
+) -> StepsRead
+    ensures { λ r. ⌜ given r (now (verbs .exit)) (now (ids .exit)) (now (numbers .exit)) ≡ refusedAnswer refused place ⌝ }
 {
-    let answer = model::no_answer();
-    AnswerRead {
+    clear(verbs, ids, numbers);
+    StepsRead {
         refused,
         place,
-        answer,
+        count: 0,
     }
+}
+
+// The answer of a text of any length, its steps in the lent arrays, whatever these held before.
+pub fn fill_answer(
+    text: &[u8],
+    verbs: &mut [u8; 1024],
+    ids: &mut [u8; 1024],
+    numbers: &mut [u8; 1024],
+) -> StepsRead
+    ensures { λ r. ⌜ given r (now (verbs .exit)) (now (ids .exit)) (now (numbers .exit)) ≡ answerRead (now (text .entry)) ⌝ }
+{
+    if 32768 < text.len() {
+        return refused_steps(1, 0, verbs, ids, numbers);
+    }
+    let Due::Past(at) = lines::due_at(text, 0, b"answer=", 1) else {
+        return refused_steps(2, 0, verbs, ids, numbers);
+    };
+    let line = lines::count_at(text, at, b"steps=", Limit::Steps);
+    let Line::Got(n, next) = line else {
+        let k = lines::line_refusal(line);
+        return refused_steps(k, at, verbs, ids, numbers);
+    };
+    let count = n as usize;
+    clear(verbs, ids, numbers);
+    let read = read_steps(text, next, count, verbs, ids, numbers);
+    let went = read.went;
+    let place = read.at;
+    let Went::On = went else {
+        let k = lines::refusal(went);
+        return refused_steps(k, place, verbs, ids, numbers);
+    };
+    let end = lines::at_end(text, place);
+    let Went::On = end else {
+        let k = lines::refusal(end);
+        return refused_steps(k, place, verbs, ids, numbers);
+    };
+    StepsRead {
+        refused: 0,
+        place,
+        count,
+    }
+}
+
+// The steps of three arrays.
+fn steps_of(verbs: &[u8; 1024], ids: &[u8; 1024], numbers: &[u8; 1024]) -> [Step; 1024]
+    ensures { λ r. ⌜ r ≡ stepsIn (now (verbs .entry)) (now (ids .entry)) (now (numbers .entry)) ⌝ }
+{
+    // As slices they have lengths, which the proof cites.
+    let all_verbs: &[u8] = verbs;
+    let all_ids: &[u8] = ids;
+    let all_numbers: &[u8] = numbers;
+    let none = model::no_step();
+    let mut steps = [none; 1024];
+    let mut i: usize = 0;
+    while i < 1024 {
+        let step = Step {
+            verb: all_verbs[i],
+            id: all_ids[i],
+            number: all_numbers[i],
+        };
+        steps[i] = step;
+        i = i + 1;
+    }
+    steps
 }
 
 // The answer of a text of any length.
 pub fn read_answer(text: &[u8]) -> AnswerRead
     ensures { λ r. ⌜ r ≡ answerRead (now (text .entry)) ⌝ }
 {
-    if 32768 < text.len() {
-        return refused_answer(1, 0);
-    }
-    let Due::Past(at) = lines::due_at(text, 0, b"answer=", 1) else {
-        return refused_answer(2, 0);
+    let mut verbs = [0u8; 1024];
+    let mut ids = [0u8; 1024];
+    let mut numbers = [0u8; 1024];
+    let read = fill_answer(text, &mut verbs, &mut ids, &mut numbers);
+    let steps = steps_of(&verbs, &ids, &numbers);
+    let answer = Answer {
+        steps,
+        count: read.count,
     };
-    let line = lines::count_at(text, at, b"steps=", Limit::Steps);
-    let Line::Got(n, next) = line else {
-        let k = lines::line_refusal(line);
-        return refused_answer(k, at);
-    };
-    let count = n as usize;
-    let read = read_steps(text, next, count);
-    let went = read.went;
-    let place = read.at;
-    let Went::On = went else {
-        let k = lines::refusal(went);
-        return refused_answer(k, place);
-    };
-    let end = lines::at_end(text, place);
-    let Went::On = end else {
-        let k = lines::refusal(end);
-        return refused_answer(k, place);
-    };
-    let answer = read.answer;
     AnswerRead {
-        refused: 0,
-        place,
+        refused: read.refused,
+        place: read.place,
         answer,
     }
 }
