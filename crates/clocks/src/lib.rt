@@ -8,6 +8,7 @@ use model::Tables;
 use model::Walked;
 use model::instance_of;
 use model::mask_at;
+use model::smaller;
 use model::start;
 use sets::member;
 use sets::without;
@@ -15,7 +16,7 @@ use times::Times;
 use walks::step;
 ghost use mathlib.Core.Path.{_≡_};
 ghost use mathlib.Core.Bool.{cond};
-ghost use Prim.Native.Nat.{_+_, _≤_, min, max};
+ghost use Prim.Native.Nat.{_+_, _≤_, max};
 ghost use lib.ListN.{getD, set};
 ghost use Rattle.sets.specs.Mask.{member};
 ghost use Rattle.rules.specs.Walk.{walkAnswer};
@@ -34,12 +35,6 @@ const FULL_MARK: usize = 1000;
 pub struct TimedWalk {
     pub walked: Walked,
     pub mark: usize,
-}
-
-fn smaller(a: usize, b: usize) -> usize
-    ensures { λ r. ⌜ r ≡ min a b ⌝ }
-{
-    if a < b { a } else { b }
 }
 
 fn later(a: usize, b: usize) -> usize

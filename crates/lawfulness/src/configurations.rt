@@ -6,7 +6,9 @@ use model::Connection;
 use model::Instance;
 use model::Tables;
 use model::connection_of;
+use model::depth_of;
 use model::instance_of;
+use model::is_use;
 use model::number_at;
 use model::type_of;
 use model::wide;
@@ -14,9 +16,7 @@ ghost use mathlib.Core.Path.{_≡_};
 ghost use Prim.Native.Nat.{_≤_};
 ghost use lib.Dec.{ltb};
 ghost use Rattle.sets.specs.Test.{all};
-ghost use Rattle.model.specs.View.{isUse};
 ghost use Rattle.rules.specs.Instance.{portsOf};
-ghost use Rattle.rules.specs.PushB.{depthOf};
 ghost use Rattle.lawfulness.specs.Lent.{queuedLent};
 ghost use Rattle.lawfulness.specs.Lawful.{numbersLawful, instanceLawful, connectedBefore, endsLawful, connectionLawful, connectionsLawful};
 
@@ -40,13 +40,6 @@ fn queue_lawful(queue: &[u8; 256], v: ComponentType, i: u8, n: u8) -> bool
     true
 }
 
-// How many behaviors a queue may hold: 0 stands for the default.
-fn depth_of(default: u8, t: Tables) -> u8
-    ensures { λ r. ⌜ r ≡ depthOf default t ⌝ }
-{
-    if t.depth == 0 { default } else { t.depth }
-}
-
 fn numbers_lawful(default: u8, t: Tables, c: Configuration, i: u8) -> bool
     ensures { λ r. ⌜ r ≡ numbersLawful default t c i ⌝ }
 {
@@ -56,7 +49,7 @@ fn numbers_lawful(default: u8, t: Tables, c: Configuration, i: u8) -> bool
     let marked = mask_ok(kind.places, v.marked);
     let running = mask_ok(kind.transitions, v.running);
     let ended = mask_ok(kind.transitions, v.ended);
-    let depth = depth_of(default, t);
+    let depth = depth_of(default, t.depth);
     (v.kind < t.count) & (marked & (running & (ended & ((v.queued <= depth) & queue))))
 }
 
@@ -105,19 +98,14 @@ fn has_port(t: Tables, v: Instance, q: u8) -> bool
     q < kind.ports
 }
 
-fn is_use(t: Tables, v: Instance, q: u8) -> bool
-    ensures { λ r. ⌜ r ≡ isUse t (v .kind) q ⌝ }
-{
-    number_at(&t.ports.uses, wide(v.kind) * 16 + wide(q)) == 1
-}
-
 fn ends_lawful(t: Tables, c: Configuration, k: Connection) -> bool
     ensures { λ r. ⌜ r ≡ endsLawful t c k ⌝ }
 {
     let user = instance_of(c, wide(k.user));
     let provider = instance_of(c, wide(k.provider));
-    let uses = has_port(t, user, k.useport) & is_use(t, user, k.useport);
-    let provides = has_port(t, provider, k.provideport) & !is_use(t, provider, k.provideport);
+    let uses = has_port(t, user, k.useport) & is_use(&t.ports.uses, user.kind, k.useport);
+    let provides = has_port(t, provider, k.provideport)
+        & !is_use(&t.ports.uses, provider.kind, k.provideport);
     user.present & (provider.present & (uses & (provides & (k.user != k.provider))))
 }
 

@@ -10,7 +10,7 @@ returns c = rw (eq-eqb _ _ (c .if1 .taken))
 
 returns-2 : tie.Need-returns-2
 unfolding markOf nearest
-returns-2 c = rw (ne-eqb _ _ (c .before .if1 .left)) (c .smaller .ensures)
+returns-2 c = rw (ne-eqb _ _ (c .before .if1 .left)) (c .smaller .ensures .0)
 
 pub mark-spec : {M : Type 1} → statement M
 mark-spec =

@@ -30,7 +30,7 @@ returns c =
     let m = c .before .before .before in
     let g = m .before .before in
     let n = g .before .before .before in
-    let due = rw (n .smaller .ensures) at (g .loop-test .taken) in
+    let due = rw (n .smaller .ensures .0) at (g .loop-test .taken) in
     let met = at-refusal _ _ _ _ _ (full (n .before)) (g .before .loop .inv .2) _ due (m .step .ensures) (c .if1 .taken) in
     (met .walked-is, met .mark-is)
 
@@ -38,7 +38,7 @@ tick-requires : tie.Need-tick-requires Inv-loop μ-loop
 tick-requires c κs =
     let g = c .before .before .before .before .before .before .before .before .before in
     let h = g .before .loop .inv .2 in
-    let n = g .before .before .before .smaller .ensures in
+    let n = g .before .before .before .smaller .ensures .0 in
     record { small = omega (arith, h .slow, g .loop-test .taken, n); past = h .past }
 
 loop-again : tie.Need-loop-again Inv-loop μ-loop
@@ -48,7 +48,7 @@ loop-again c =
     let m = x .before .before .before in
     let g = m .before .before in
     let n = g .before .before .before in
-    let due = rw (n .smaller .ensures) at (g .loop-test .taken) in
+    let due = rw (n .smaller .ensures .0) at (g .loop-test .taken) in
     let e = c .before .tick .ensures in (
       search needs,
       search needs,
@@ -58,13 +58,13 @@ loop-again c =
 mark-requires : tie.Need-mark-requires Inv-loop μ-loop
 mark-requires c κs =
     let h = c .before .loop .inv in
-    omega (arith, h .2 .slow, h .0, c .before .before .before .smaller .ensures)
+    omega (arith, h .2 .slow, h .0, c .before .before .before .smaller .ensures .0)
 
 returns-2 : tie.Need-returns-2 Inv-loop μ-loop
 returns-2 c =
     let g = c .before in
     let n = g .before .before .before in
-    let past = rw (n .smaller .ensures) at (g .loop-test .left) in
+    let past = rw (n .smaller .ensures .0) at (g .loop-test .left) in
     let met = at-end _ _ _ _ _ (full (n .before)) (g .before .loop .inv .2) past in
     (met .walked-is, c .mark .ensures ∙ met .mark-is)
 

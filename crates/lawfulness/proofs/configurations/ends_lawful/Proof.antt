@@ -8,7 +8,8 @@ returns : tie.Need-returns
 unfolding endsLawful isUsePort isProvidePort
 returns c =
     let u = c .before .before .before in
-    let h = u .before .before .before in
+    let o = u .before .before .before in
+    let h = o .before .before .before .before in
     let i = h .before in
     let j = i .before .before in
     rw (
@@ -17,8 +18,8 @@ returns c =
       ← i .instance-of2 .ensures,
       ← j .instance-of .ensures,
       h .has-port .ensures,
-      u .before .before .is-use .ensures,
-      u .before .has-port2 .ensures,
+      o .before .is-use .ensures,
+      o .has-port2 .ensures,
       u .is-use2 .ensures,
     )
 

@@ -22,7 +22,7 @@ returns c =
       m .mask-ok .ensures,
       d .before .before .mask-ok2 .ensures,
       d .before .mask-ok3 .ensures,
-      d .depth-of .ensures,
+      d .depth-of .ensures .0,
     )
 
 pub numbers-lawful-spec : {M : Type 1} → statement M
