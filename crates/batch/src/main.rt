@@ -34,11 +34,12 @@ struct Header {
 }
 
 // The bytes of the input from `at` to `to` are still to be read, and the first `used` of the output still to be written.
+// `ended` is 1 once no case follows, else 0: as wide as the rest, so that no padding is copied for each case.
 struct Flow {
     at: usize,
     to: usize,
     used: usize,
-    ended: bool,
+    ended: usize,
 }
 
 fn no_header() -> Header
@@ -134,7 +135,7 @@ fn refill(input: &mut [u8], out: &[u8], flow: Flow) -> Flow
         at: 0,
         to: kept + more,
         used: 0,
-        ended: false,
+        ended: 0,
     }
 }
 
@@ -257,7 +258,7 @@ fn bad_header(out: &mut [u8], flow: Flow) -> Flow
         at: flow.at,
         to: flow.to,
         used: inks::write_key(out, used, b"bad header\n"),
-        ended: true,
+        ended: 1,
     }
 }
 
@@ -285,7 +286,7 @@ fn run_texts(
         at: at + need,
         to,
         used,
-        ended: false,
+        ended: 0,
     }
 }
 
@@ -301,7 +302,7 @@ fn run_case(input: &mut [u8], report: &mut [u8; 16384], out: &mut [u8], flow: Fl
             at,
             to,
             used: start.used,
-            ended: true,
+            ended: 1,
         };
     }
     let header = read_header(&input[at..to]);
@@ -316,11 +317,11 @@ fn run(input: &mut [u8], report: &mut [u8; 16384], out: &mut [u8]) {
         at: 0,
         to: 0,
         used: 0,
-        ended: false,
+        ended: 0,
     };
     // A loop that is proved ends, so it counts its turns down.
     let mut turns = u64::MAX;
-    while 0 < turns && !flow.ended {
+    while 0 < turns && flow.ended == 0 {
         flow = run_case(input, report, out, flow);
         turns -= 1;
     }
