@@ -1,8 +1,10 @@
 // What a marker is shown: a candidate's bytes as printable ASCII, every other byte and the backslash as `\xNN` in lower case; and the place of a line.
 // Promised: every byte of the lent buffer, by `shown` and `placeText`. What is shown is always printable, and no two texts look alike (specs/Readable).
+// Beside it stands the path of a text's file, for the programs that show many texts.
 use judged::Place;
 use model::Text;
 ghost use mathlib.Core.Path.{_≡_};
+ghost use mathlib.Core.List.{_++_};
 ghost use Prim.Native.Nat.{_+_, _<_, min};
 ghost use lib.ListN.{length};
 ghost use Rattle.judged.specs.Judged.{over};
@@ -115,4 +117,13 @@ pub fn show_place(place: Place, out: &mut [u8; 32]) -> usize
     let e = inks::write_byte(out, d, b',');
     let f = inks::write_number(out, e, place.size);
     inks::write_byte(out, f, b'\n')
+}
+
+// NAME and what its file's name ends in, cut where the path has no room.
+pub fn path_of(path: &mut [u8], name: &[u8], ending: &[u8]) -> usize
+    ensures written { λ r. ⌜ Written (now (path .entry)) (now (name .entry) ++ now (ending .entry)) (now (path .exit)) 0 r ⌝ }
+    ensures counts { λ r. ⌜ Counts r (now (path .exit)) ⌝ }
+{
+    let at = inks::write_key(path, 0, name);
+    inks::write_key(path, at, ending)
 }

@@ -5,20 +5,12 @@ use libc::STDOUT_FILENO;
 use model::Text;
 ghost use Rattle.io.specs.Counts.{Counts};
 
-// NAME and what its file's name ends in, cut where the path has no room.
-fn path_of(path: &mut [u8], name: &[u8], ending: &[u8]) -> usize
-    ensures { λ r. ⌜ Counts r (now (path .exit)) ⌝ }
-{
-    let at = inks::write_key(path, 0, name);
-    inks::write_key(path, at, ending)
-}
-
 // What stands in a file; a missing one has no descriptor, and a read from none gives no bytes.
 fn read_text(name: &[u8], ending: &[u8], text: &mut [u8]) -> usize
     ensures { λ r. ⌜ Counts r (now (text .exit)) ⌝ }
 {
     let mut path = [0u8; 80];
-    let size = path_of(&mut path, name, ending);
+    let size = shown::path_of(&mut path, name, ending);
     let file = os::open_read(&path[..size]);
     let n = io::read_full(file, text);
     libc::close(file);
