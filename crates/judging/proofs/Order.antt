@@ -36,10 +36,9 @@ use Rattle.judged.specs.Course.{Course, faulty, reached, goOn, short, read, def
 use Rattle.judged.specs.Judged.{faultLine}
 use Rattle.judged.proofs.Read.{both-read}
 use Rattle.judging.specs.declared.Outcome.{Outcome}
-use Rattle.judging.specs.declared.Outcome.the-variants.{Reached}
+use Rattle.judging.specs.declared.Outcome.the-variants.{InSheet, InAnswer, Reached}
 use Rattle.judging.specs.declared.Seen.{Seen}
-use Rattle.judging.specs.declared.Pair.{Pair}
-use Rattle.judging.specs.Came.{came, saying, sheetSeen, answerSeen, Comes}
+use Rattle.judging.specs.Came.{came, saying, sheetSeen, answerSeen}
 
 -- ---- the length of a text
 
@@ -117,17 +116,12 @@ module _ (s a : List ℕ) where
         → came o (r .tables, r .program, y .answer) ≡ both s a
     outcome-comes e f = rw (is, also) (h s a (rw is at e) (rw also at f))
 
-  -- the course goes on with what they say
-  pub both-fault : (x : Text) (n at : ℕ) → faulty x n at ≡ both s a → faulty x n at ≡ course s a
+  -- the course goes on with the walk of what they say
+  pub outcome-walks : (o : Outcome) (t : Tables) (p : Program) (y : Answer) {w : Walked} → came o (t, p, y) ≡ both s a → w ≡ walkAnswer default t p y → came o w ≡ course s a
   unfolding course
-  both-fault x n at e = rw (← e)
-
-  both-walked : (t : Tables) (p : Program) (y : Answer) → reached (t, p, y) ≡ both s a → reached (walkAnswer default t p y) ≡ course s a
-  unfolding course
-  both-walked t p y e = rw (← e)
-
-  pub pair-walked : (r : Pair) (w : Walked) → Comes r (both s a) → r .outcome ≡ Reached → w ≡ walkAnswer default (r .tables) (r .program) (r .steps) → reached w ≡ course s a
-  pair-walked r w h o e = ap reached e ∙ both-walked (r .tables) (r .program) (r .steps) (rw o at (h .same))
+  outcome-walks (InSheet n at) t p y e f = rw (← e)
+  outcome-walks (InAnswer n at) t p y e f = rw (← e)
+  outcome-walks Reached t p y e f = rw (← e, f)
 
 -- ---- what is known of a walk, and of a fault
 

@@ -7,14 +7,16 @@ use model::Program;
 use model::Tables;
 use model::Text;
 use model::Walked;
+use sheets::SheetRead;
 ghost use mathlib.Core.Path.{_≡_};
 ghost use mathlib.Core.List.{List};
 ghost use Prim.Native.Nat.{ℕ, _+_, _≤_};
 ghost use lib.Dec.{leb};
 ghost use lib.ListN.{length};
 ghost use Rattle.report.specs.Report.{report};
-ghost use Rattle.rules.specs.Walk.{walkAnswer};
-ghost use Rattle.judged.specs.Course.{default, both};
+ghost use Rattle.sheets.specs.Filled.{filled};
+ghost use Rattle.sheets.specs.Sheet.{said, sheetRead};
+ghost use Rattle.judged.specs.Course.{both, course};
 ghost use Rattle.reading.specs.Place.{lineStart};
 ghost use Rattle.judged.specs.Judged.{faultLine, afterFault, emptyAt, lineAt, faultPlace, stepPlace, noRoom, afterWalk, inRoom, judged, over, buffer, printed};
 ghost use Rattle.judging.specs.Came.{came, saying, sheetSeen, answerSeen, nothingSaid, Comes};
@@ -122,14 +124,86 @@ pub fn read_both(sheet: &[u8], answer: &[u8]) -> Pair
     }
 }
 
-// ".. the steps"
-fn walk_pair(pair: Pair) -> Walked
-    ensures { λ r. ⌜ r ≡ walkAnswer default (pair .tables) (pair .program) (pair .steps) ⌝ }
+// How far the two texts came, and the walk where both are read.
+struct Came {
+    outcome: Outcome,
+    walked: Walked,
+}
+
+// ".. the answer's lines, the steps", of a sheet that was read so, its rows in lent arrays.
+fn walk_sheet<'a>(
+    sheet: &[u8],
+    answer: &[u8],
+    read: SheetRead,
+    source: &'a [u8; 512],
+    destination: &'a [u8; 512],
+    behaviors: &'a [u32; 128],
+    uses: &'a [u8; 256],
+    places: &'a [u32; 256],
+    transitions: &'a [u32; 256],
+) -> Came
+    requires { ⌜ said read (filled (now source) (now destination) (now behaviors) (now uses) (now places) (now transitions)) ≡ sheetRead (now sheet) ⌝ }
+    ensures { λ r. ⌜ came (r .outcome) (r .walked) ≡ course (now (sheet .entry)) (now (answer .entry)) ⌝ }
 {
-    let tables = pair.tables;
-    let program = pair.program;
-    let steps = pair.steps;
-    walks::walk_answer(DEFAULT, tables, program, steps)
+    let mut verbs = [0u8; 1024];
+    let mut ids = [0u8; 1024];
+    let mut numbers = [0u8; 1024];
+    let given = answers::fill_answer(answer, &mut verbs, &mut ids, &mut numbers);
+    let one = look_at(sheet, read.refused, read.place);
+    let two = look_at(answer, given.refused, given.place);
+    let outcome = outcome_of(one, two);
+    let types = read.types;
+    let program = read.program;
+    let walked = walks::walk(
+        DEFAULT,
+        read.depth,
+        types,
+        source,
+        destination,
+        behaviors,
+        uses,
+        places,
+        transitions,
+        program,
+        model::start(),
+        &verbs,
+        &ids,
+        &numbers,
+        given.count,
+    );
+    Came { outcome, walked }
+}
+
+// How far the two texts come. The rows and the steps stand in arrays of this function and the one before: to hand them on would be to copy them.
+fn walk_texts(sheet: &[u8], answer: &[u8]) -> Came
+    ensures { λ r. ⌜ came (r .outcome) (r .walked) ≡ course (now (sheet .entry)) (now (answer .entry)) ⌝ }
+{
+    let mut source = [0u8; 512];
+    let mut destination = [0u8; 512];
+    let mut behaviors = [0u32; 128];
+    let mut uses = [0u8; 256];
+    let mut places = [0u32; 256];
+    let mut transitions = [0u32; 256];
+    let read = sheets::fill_sheet(
+        sheet,
+        &mut source,
+        &mut destination,
+        &mut behaviors,
+        &mut uses,
+        &mut places,
+        &mut transitions,
+    );
+    walk_sheet(
+        sheet,
+        answer,
+        read,
+        &source,
+        &destination,
+        &behaviors,
+        &uses,
+        &places,
+        &transitions,
+    )
 }
 
 // "`line=` (from 1; .. 0 for number 1)"
@@ -306,12 +380,13 @@ pub fn judge_and_place(sheet: &[u8], answer: &[u8], report: &mut [u8]) -> Judged
     ensures place { λ r. ⌜ r .place ≡ judged (now (sheet .entry)) (now (answer .entry)) (length (now (report .entry))) .place ⌝ }
     ensures buffer { λ r. ⌜ now (report .exit) ≡ buffer (now (sheet .entry)) (now (answer .entry)) (now (report .entry)) ⌝ }
 {
-    let pair = read_both(sheet, answer);
-    let outcome = pair.outcome;
+    let came = walk_texts(sheet, answer);
+    let outcome = came.outcome;
+    let walked = came.walked;
     match outcome {
         Outcome::InSheet(n, at) => judge_fault(Text::Sheet, sheet, n, at),
         Outcome::InAnswer(n, at) => judge_fault(Text::Answer, answer, n, at),
-        Outcome::Reached => judge_walk(walk_pair(pair), answer, report),
+        Outcome::Reached => judge_walk(walked, answer, report),
     }
 }
 
@@ -327,13 +402,13 @@ pub fn judge(sheet: &[u8], answer: &[u8], report: &mut [u8]) -> Verdict
 pub fn place(sheet: &[u8], answer: &[u8], room: usize) -> Place
     ensures { λ r. ⌜ r ≡ judged (now (sheet .entry)) (now (answer .entry)) room .place ⌝ }
 {
-    let pair = read_both(sheet, answer);
-    let outcome = pair.outcome;
+    let came = walk_texts(sheet, answer);
+    let outcome = came.outcome;
+    let walked = came.walked;
     match outcome {
         Outcome::InSheet(n, at) => fault_place(Text::Sheet, sheet, n, at),
         Outcome::InAnswer(n, at) => fault_place(Text::Answer, answer, n, at),
         Outcome::Reached => {
-            let walked = walk_pair(pair);
             let fits = has_room(walked, room);
             walk_place(walked, fits, answer)
         }

@@ -2,7 +2,6 @@
 // Promised: both are those of rules/specs for every table, program, configuration and answer, past the ends of arrays too.
 mod steps;
 
-use model::Answer;
 use model::ComponentType;
 use model::Configuration;
 use model::Instance;
@@ -12,30 +11,26 @@ use model::Step;
 use model::Stepped;
 use model::Tables;
 use model::Walked;
+use model::depth_of;
 use model::no_instance;
 use model::no_instruction;
 use model::no_type;
-use model::start;
+use model::smaller;
 use plans::changes_list;
 use plans::join;
 use plans::turn_slots;
 use steps::plan_step;
 ghost use mathlib.Core.Bool.{cond};
 ghost use mathlib.Core.Path.{_≡_};
-ghost use Prim.Native.Nat.{_≤_, _<_, min};
-ghost use lib.Dec.{eqb, ltb};
+ghost use Prim.Native.Nat.{ℕ, min};
+ghost use lib.Dec.{ltb};
+ghost use lib.ListN.{length};
 ghost use Rattle.model.specs.Empty.{noType, noInstruction, absent};
+ghost use Rattle.model.specs.Lent.{answerIn};
 ghost use Rattle.model.specs.View.{stepsOf};
 ghost use Rattle.rules.specs.Step.{step};
-ghost use Rattle.rules.specs.Walk.{walk, walkAnswer};
-ghost use Rattle.walks.specs.Plans.{actor, doneAfter};
-
-fn smaller(a: usize, b: usize) -> usize
-    ensures value { λ r. ⌜ r ≡ min a b ⌝ }
-    ensures small { λ r. ⌜ r ≤ b ⌝ }
-{
-    if a < b { a } else { b }
-}
+ghost use Rattle.rules.specs.Walk.{walk};
+ghost use Rattle.walks.specs.Plans.{whole, actor, doneAfter};
 
 // What stands at number i of a list: what was read there, or nothing where i lies past the last and the last was read in its place.
 fn type_in(i: u8, kind: ComponentType) -> ComponentType
@@ -73,14 +68,6 @@ fn done_after(s: Step, done: usize, count: usize) -> usize
     if done < count { done + 1 } else { done }
 }
 
-// How many behaviors a queue may hold: 0 stands for the default.
-fn depth_of(default: u8, depth: u8) -> u8
-    ensures value { λ r. ⌜ r ≡ cond (eqb depth 0) default depth ⌝ }
-    ensures small { λ r. ⌜ r < 256 ⌝ }
-{
-    if depth == 0 { default } else { depth }
-}
-
 fn reached(accepted: usize, refused: u8, configuration: Configuration) -> Walked
     ensures { λ r. ⌜ r ≡ record { accepted = accepted; refused = refused; configuration = configuration } ⌝ }
 {
@@ -91,17 +78,46 @@ fn reached(accepted: usize, refused: u8, configuration: Configuration) -> Walked
     }
 }
 
-// The walk of an answer from a configuration. A step changes the configuration in place: to hand it on would be to copy it.
-pub fn walk(default: u8, t: Tables, p: Program, c: Configuration, a: Answer) -> Walked
-    ensures { λ r. ⌜ r ≡ walk default t p c (stepsOf a) ⌝ }
+// How many steps there are, where `count` were written: no more than the arrays hold, whose lengths are learnt where they are lent as slices.
+fn step_count(verbs: &[u8], ids: &[u8], numbers: &[u8], count: usize) -> usize
+    ensures { λ r. ⌜ r ≡ min count (min (length (now (verbs .entry))) (min (length (now (ids .entry))) (length (now (numbers .entry))))) ⌝ }
 {
-    let n = smaller(a.count, 1024);
-    let depth = depth_of(default, t.depth);
-    let types = t.types;
+    smaller(
+        count,
+        smaller(verbs.len(), smaller(ids.len(), numbers.len())),
+    )
+}
+
+// The walk of an answer from a configuration. A step changes the configuration in place: to hand it on would be to copy it.
+pub fn walk<'a>(
+    default: u8,
+    own: u8,
+    types: [ComponentType; 16],
+    source: &'a [u8; 512],
+    destination: &'a [u8; 512],
+    behaviors: &'a [u32; 128],
+    uses: &'a [u8; 256],
+    places: &'a [u32; 256],
+    transitions: &'a [u32; 256],
+    p: Program,
+    c: Configuration,
+    verbs: &'a [u8; 1024],
+    ids: &'a [u8; 1024],
+    numbers: &'a [u8; 1024],
+    count: usize,
+) -> Walked
+    ensures { λ r. ⌜ ((known : ℕ) → r ≡ walk default (whole own known types (now (source .entry)) (now (destination .entry)) (now (behaviors .entry)) (now (uses .entry)) (now (places .entry)) (now (transitions .entry))) p c (stepsOf (answerIn count (now (verbs .entry)) (now (ids .entry)) (now (numbers .entry))))) ⌝ }
+{
+    let n = step_count(verbs, ids, numbers, count);
+    let depth = depth_of(default, own);
     let mut now = c;
     let mut i: usize = 0;
     while i < n {
-        let s = a.steps[i];
+        let s = Step {
+            verb: verbs[i],
+            id: ids[i],
+            number: numbers[i],
+        };
         let done = now.done;
         let due = instruction_in(done, p.instructions[smaller(done, 255)]);
         let id = actor(s, due);
@@ -111,19 +127,19 @@ pub fn walk(default: u8, t: Tables, p: Program, c: Configuration, a: Answer) -> 
             due.provider,
             now.instances[smaller(due.provider as usize, 31)],
         );
-        let kind = type_in(v.kind, t.types[smaller(v.kind as usize, 15)]);
+        let kind = type_in(v.kind, types[smaller(v.kind as usize, 15)]);
         let instances = now.instances;
         let connections = now.connections;
         let plan = plan_step(
             depth,
             types,
             kind,
-            &t.transitions.source,
-            &t.transitions.destination,
-            &t.behaviors,
-            &t.ports.uses,
-            &t.ports.places,
-            &t.ports.transitions,
+            source,
+            destination,
+            behaviors,
+            uses,
+            places,
+            transitions,
             instances,
             &now.queue,
             connections,
@@ -161,20 +177,30 @@ pub fn walk(default: u8, t: Tables, p: Program, c: Configuration, a: Answer) -> 
 pub fn step(default: u8, t: Tables, p: Program, c: Configuration, s: Step) -> Stepped
     ensures { λ r. ⌜ r ≡ step default t p c s ⌝ }
 {
-    let alone = Answer {
-        steps: [s; 1024],
-        count: 1,
-    };
-    let w = walk(default, t, p, c, alone);
+    let types = t.types;
+    let verbs = [s.verb; 1024];
+    let ids = [s.id; 1024];
+    let numbers = [s.number; 1024];
+    let w = walk(
+        default,
+        t.depth,
+        types,
+        &t.transitions.source,
+        &t.transitions.destination,
+        &t.behaviors,
+        &t.ports.uses,
+        &t.ports.places,
+        &t.ports.transitions,
+        p,
+        c,
+        &verbs,
+        &ids,
+        &numbers,
+        1,
+    );
     let configuration = w.configuration;
     Stepped {
         refused: w.refused,
         configuration,
     }
-}
-
-pub fn walk_answer(default: u8, t: Tables, p: Program, a: Answer) -> Walked
-    ensures { λ r. ⌜ r ≡ walkAnswer default t p a ⌝ }
-{
-    walk(default, t, p, start(), a)
 }

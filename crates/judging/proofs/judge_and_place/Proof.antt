@@ -2,7 +2,6 @@ use mathlib.Core.Path.{_≡_, sym}
 use Rattle.model.specs.declared.Text.the-variants as text
 use Rattle.judged.specs.Course.{reached, course}
 use Rattle.judged.proofs.Room.{read-fits}
-use Rattle.judging.proofs.Order.{both-fault, pair-walked}
 use Rattle.judging.proofs.Judgement.{fault-judges, walk-judges, fault-places, walk-places}
 use borrow.Author.Needs.{needs}
 use Rattle.judging.proofs.judge_and_place.Statement.{statement}
@@ -11,23 +10,23 @@ use Rattle.judging.proofs.judge_and_place.Tie as tie
 returns : tie.Need-returns
 returns c =
     let d = c .before .before in
-    let e = both-fault _ _ _ _ _ (rw (d .outcome .given .1) at (d .before .before .read-both .ensures .same)) in
+    let e = rw (d .outcome .given .1) at (d .before .before .before .walk-texts .ensures) in
     let j = fault-judges _ _ _ text.Sheet _ _ e (c .judge-fault .ensures .0) in
     (j .0, (fault-places _ _ _ text.Sheet _ _ e (c .judge-fault .ensures .1), j .1))
 
 returns-2 : tie.Need-returns-2
 returns-2 c =
     let d = c .before .before in
-    let e = both-fault _ _ _ _ _ (rw (d .outcome2 .given .1) at (d .before .before .read-both .ensures .same)) in
+    let e = rw (d .outcome2 .given .1) at (d .before .before .before .walk-texts .ensures) in
     let j = fault-judges _ _ _ text.Answer _ _ e (c .judge-fault2 .ensures .0) in
     (j .0, (fault-places _ _ _ text.Answer _ _ e (c .judge-fault2 .ensures .1), j .1))
 
 -- the walk is the one that the two texts come to
-walked : (p : tie.After-walk-pair)
-    → (let x = p .before .before .before .before .before .before .before .args in reached (p .walk-pair .result) ≡ course (x .sheet .now) (x .answer .now))
-walked p =
-    let e = p .before in
-    pair-walked _ _ _ _ (e .before .before .read-both .ensures) (e .enum-told .given .1) (p .walk-pair .ensures)
+walked : (e : tie.After-enum-told)
+    → let t = e .before .before .before in
+    let x = t .before .before .before .before .args in
+    reached (t .walk-texts .result .walked) ≡ course (x .sheet .now) (x .answer .now)
+walked e = rw (e .enum-told .given .1) at (e .before .before .before .walk-texts .ensures)
 
 judge-walk-requires : tie.Need-judge-walk-requires
 judge-walk-requires c κs = read-fits _ _ _ (sym (walked (c .before))) .0
@@ -35,15 +34,15 @@ judge-walk-requires c κs = read-fits _ _ _ (sym (walked (c .before))) .0
 returns-3 : tie.Need-returns-3
 returns-3 c =
     let d = c .before .before in
-    let p = d .before .before in
-    let x = p .before .before .before .before .before .before .before .args in
+    let e = d .before .before in
+    let x = e .before .before .before .before .before .before .before .args in
     let h = d .judge-walk .ensures in
-    let j = walk-judges _ _ (x .report .now) _ (walked p) (h .0) (h .1 .1) in
-    (j .0, (walk-places _ _ _ _ (walked p) (h .1 .0), j .1))
+    let j = walk-judges _ _ (x .report .now) _ (walked e) (h .0) (h .1 .1) in
+    (j .0, (walk-places _ _ _ _ (walked e) (h .1 .0), j .1))
 
 pub judge-and-place-spec : {M : Type 1} → statement M
 judge-and-place-spec =
     tie.close
     (tie.spec
     (λ c κs. search needs) (λ c. search needs) (λ c κs. search needs) (λ c. search needs) (λ c κs. search needs) (λ c. search needs)
-    (λ c κs. search needs) judge-walk-requires returns returns-2 (λ c. search needs) returns-3)
+    judge-walk-requires returns returns-2 (λ c. search needs) returns-3)
