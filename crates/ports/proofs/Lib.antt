@@ -1,3 +1,4 @@
 pub mod Closing
+pub mod Checks
 pub mod Marks
 pub mod Tests

@@ -89,12 +89,14 @@ isFault PortTest.InUse found = found
 abbrev pub failsBy : PortTest → Tables → Instance → Instance → List ℕ → ℕ → Bool
 failsBy test t v w found q = isFault test (eqb (getD found q 0) 1) && wantsPort test t v w q
 
--- 36 over n ports; 35, and where it passes 36; 34, 35 and 36
-abbrev pub inUseCheck : ℕ → Tables → Configuration → ℕ → Instance → Instance → ℕ
-inUseCheck n t c i v w = any n (failsInUse t c i v w) ⇒ serviceInUse ∣ allowed
+-- the tests in their order, and the number of each
+abbrev pub testAt : ℕ → PortTest
+testAt r = cond (eqb r 0) PortTest.Unserved (cond (eqb r 1) PortTest.Refusing PortTest.InUse)
 
-abbrev pub refusingCheck : ℕ → Tables → Configuration → ℕ → Instance → Instance → ℕ
-refusingCheck n t c i v w = any n (failsRefusing t c i v w) ⇒ providerRefusing ∣ inUseCheck n t c i v w
+abbrev pub numberOf : PortTest → ℕ
+numberOf PortTest.Unserved = unserved
+numberOf PortTest.Refusing = providerRefusing
+numberOf PortTest.InUse = serviceInUse
 
 unfoldable pub portsCheck : ℕ → Tables → Configuration → ℕ → Instance → Instance → ℕ
 portsCheck n t c i v w =

@@ -17,7 +17,7 @@ ghost use Rattle.sets.specs.Test.{any};
 ghost use Rattle.model.specs.View.{instance, put};
 ghost use Rattle.rules.specs.Refusal.{_⇒_∣_};
 ghost use Rattle.ports.specs.Rows.{rows, parts};
-ghost use Rattle.ports.specs.Tests.{wantsKind, wantsActivity, wantsPort, askedBy, isFault, fails, failsBy, inUseCheck, refusingCheck, portsCheck};
+ghost use Rattle.ports.specs.Tests.{wantsKind, wantsActivity, wantsPort, askedBy, isFault, fails, failsBy, testAt, numberOf, portsCheck};
 
 const UNSERVED: u8 = 34;
 
@@ -204,94 +204,25 @@ pub fn refuse_if(test: bool, number: u8, rest: u8) -> u8
     if test { number } else { rest }
 }
 
-// 36, the last of the port check.
-fn in_use_check<'a>(
-    n: u8,
-    source: &'a [u8; 512],
-    behaviors: &'a [u32; 128],
-    uses: &'a [u8; 256],
-    places: &'a [u32; 256],
-    transitions: &'a [u32; 256],
-    instances: [Instance; 32],
-    queue: &'a [u8; 256],
-    connections: [Connection; 64],
-    count: u8,
-    i: u8,
-    v: Instance,
-    w: Instance,
-) -> u8
-    ensures { λ r. ⌜ r ≡ inUseCheck n (rows (now (source .entry)) (now (behaviors .entry)) (now (uses .entry)) (now (places .entry)) (now (transitions .entry))) (parts instances (now (queue .entry)) connections count) i v w ⌝ }
+// The tests in their order: "34, 35, 36".
+fn test_at(r: u8) -> PortTest
+    ensures { λ t. ⌜ t ≡ testAt r ⌝ }
 {
-    let fails = port_fails(
-        PortTest::InUse,
-        n,
-        source,
-        behaviors,
-        uses,
-        places,
-        transitions,
-        instances,
-        queue,
-        connections,
-        count,
-        i,
-        v,
-        w,
-    );
-    refuse_if(fails, SERVICE_IN_USE, 0)
+    match r {
+        0 => PortTest::Unserved,
+        1 => PortTest::Refusing,
+        _ => PortTest::InUse,
+    }
 }
 
-// 35, and where it passes 36.
-fn refusing_check<'a>(
-    n: u8,
-    source: &'a [u8; 512],
-    behaviors: &'a [u32; 128],
-    uses: &'a [u8; 256],
-    places: &'a [u32; 256],
-    transitions: &'a [u32; 256],
-    instances: [Instance; 32],
-    queue: &'a [u8; 256],
-    connections: [Connection; 64],
-    count: u8,
-    i: u8,
-    v: Instance,
-    w: Instance,
-) -> u8
-    ensures { λ r. ⌜ r ≡ refusingCheck n (rows (now (source .entry)) (now (behaviors .entry)) (now (uses .entry)) (now (places .entry)) (now (transitions .entry))) (parts instances (now (queue .entry)) connections count) i v w ⌝ }
+fn number_of(test: PortTest) -> u8
+    ensures { λ r. ⌜ r ≡ numberOf test ⌝ }
 {
-    if port_fails(
-        PortTest::Refusing,
-        n,
-        source,
-        behaviors,
-        uses,
-        places,
-        transitions,
-        instances,
-        queue,
-        connections,
-        count,
-        i,
-        v,
-        w,
-    ) {
-        return PROVIDER_REFUSING;
+    match test {
+        PortTest::Unserved => UNSERVED,
+        PortTest::Refusing => PROVIDER_REFUSING,
+        PortTest::InUse => SERVICE_IN_USE,
     }
-    in_use_check(
-        n,
-        source,
-        behaviors,
-        uses,
-        places,
-        transitions,
-        instances,
-        queue,
-        connections,
-        count,
-        i,
-        v,
-        w,
-    )
 }
 
 // The port check of a move of instance i, over n ports: v is the instance before it, and after it stands in a trial configuration beside the
@@ -321,37 +252,28 @@ pub fn port_check<'a>(
         trial[at] = after;
         w = trial[at];
     }
-    if port_fails(
-        PortTest::Unserved,
-        n,
-        source,
-        behaviors,
-        uses,
-        places,
-        transitions,
-        instances,
-        queue,
-        connections,
-        count,
-        i,
-        v,
-        w,
-    ) {
-        return UNSERVED;
+    let mut r: u8 = 0;
+    while r < 3 {
+        let test = test_at(r);
+        if port_fails(
+            test,
+            n,
+            source,
+            behaviors,
+            uses,
+            places,
+            transitions,
+            instances,
+            queue,
+            connections,
+            count,
+            i,
+            v,
+            w,
+        ) {
+            return number_of(test);
+        }
+        r += 1;
     }
-    refusing_check(
-        n,
-        source,
-        behaviors,
-        uses,
-        places,
-        transitions,
-        instances,
-        queue,
-        connections,
-        count,
-        i,
-        v,
-        w,
-    )
+    0
 }
