@@ -1,4 +1,4 @@
--- What the lines of a sheet come to, and that no other answer fits.
+-- What the lines of a sheet come to, which rows stand beside it in the lent arrays, and that no other answer fits.
 -- Assumes nothing.
 use Prim.Native.Nat.{ℕ, zero, suc, _≤_, _<_}
 use mathlib.Core.List.{List}
@@ -39,8 +39,8 @@ module _ (s : List ℕ) (l : length s ≤ 32768) {at : ℕ} where
   unfolding sheetRead noTables
   sheet-refused {k = k} f h e =
       let m = run-stop h e in
-      let far = sheet-stops s k (drop at s) m .1 in
-      rw (e, none-beside k f (λ z. omega (arith, far)), le-leb (length s) 32768 l, sheetRead, m, place-is s at (h .within))
+      let two = sheet-stops s k (drop at s) m .1 in
+      rw (e, none-beside k f (λ z. omega (arith, two)), le-leb (length s) 32768 l, sheetRead, m, place-is s at (h .within))
 
   pub sheet-told : {t : Tables} {p : Program} → RunsTo s On at (t, p) (sheet s) → record { refused = 0; place = at; tables = t; program = p } ≡ sheetRead s
   unfolding sheetRead

@@ -23,8 +23,8 @@ use Rattle.sheet_lines.specs.declared.Rows.{Rows}
 use Rattle.sheet_lines.specs.declared.Rows.the-variants as rows
 use Rattle.sheet_lines.specs.Rows.{rowLine}
 use Rattle.sheets.specs.declared.TypesRead.{TypesRead}
-use Rattle.sheets.specs.Filled.{Filled, tablesOf, noRows, TypesTo, slots, perType, rowsKey, rowsLimit, withEnds, withBehaviors, withPorts, filledOf, put}
-use Rattle.sheets.specs.Onward.{row, rowsOf, fromRows, typeHead, typeRun, sheetHead, programRun}
+use Rattle.sheets.specs.Filled.{Filled, tablesOf, noRows, TypesTo, slots, perType, rowsKey, rowsLimit, withCount, withEnds, withBehaviors, withPorts, filledOf, put}
+use Rattle.sheets.specs.Onward.{row, rowsOf, withRows, typeHead, typeRun, sheetHead, programRun}
 
 -- the slots of a type lie within those of all types
 pub rows-fit : (r : Rows) (i n : ℕ) → i < 16 → n ≤ greatest (rowsLimit r) → i * perType r + n ≤ slots r
@@ -48,59 +48,74 @@ row-made : {A X : Type 0} (x : Reply A) (s : List ℕ) (k : A → Row) (fill : R
 row-made (got a r) s k fill made h e = ap (λ (f : Filled). give f r) (e a)
 row-made (refused n) s k fill made h e = refl
 
--- the rows of a kind, then on: as many lines of a part of what they fill, which is seen through h
+-- a type with its rows of a kind, then on: as many lines of a part of what they fill, which is seen through h
 module _ (r : Rows) (i : ℕ) (c : ComponentType) {X Y : Type 0} (h : Y → Filled) (part : ℕ → Y → Lines Y)
-    (same : (j : ℕ) (y : Y) (s : List ℕ) → row r c j (h y) s ≡ next (part j y s) (λ z. give (h z))) (y : Y) (s : List ℕ) (on : ℕ × Filled → Lines X) where
-  kind-then : next (rowsOf r i c (h y) s) on
-      ≡ next (line (countLine (rowsKey r) (limitOk (rowsLimit r))) s) (λ n q. next (each part n (i * perType r) y q) (λ z. on (n, h z)))
-  unfolding rowsOf
+    (same : (j : ℕ) (y : Y) (s : List ℕ) → row r c j (h y) s ≡ next (part j y s) (λ z. give (h z))) (y : Y) (s : List ℕ)
+    (on : ComponentType × Filled → Lines X) where
+  kind-then : next (withRows r i (c, h y) s) on
+      ≡ next (line (countLine (rowsKey r) (limitOk (rowsLimit r))) s) (λ n q. next (each part n (i * perType r) y q) (λ z. on (withCount r c n, h z)))
+  unfolding withRows rowsOf
   kind-then =
-      next-next (line (countLine (rowsKey r) (limitOk (rowsLimit r))) s) _ _
+      next-next (rowsOf r i c (h y) s) _ _
+      ∙ next-next (line (countLine (rowsKey r) (limitOk (rowsLimit r))) s) _ _
       ∙ next-same (line (countLine (rowsKey r) (limitOk (rowsLimit r))) s) _ _ (λ n q.
       next-next (each (row r c) n (i * perType r) (h y) q) _ _
-      ∙ ap (λ (x : Run Filled). next x (λ g. on (n, g))) (each-seen h part (row r c) same n (i * perType r) y q)
+      ∙ ap (λ (x : Run Filled). next x (λ g. on (withCount r c n, g))) (each-seen h part (row r c) same n (i * perType r) y q)
       ∙ next-next (each part n (i * perType r) y q) _ _)
 
-module _ (i : ℕ) (c : ComponentType) (f : Filled) (s : List ℕ) {X : Type 0} (on : ℕ × Filled → Lines X) where
-  transitions-then : next (rowsOf rows.Transitions i c f s) on
-      ≡ next (line (countLine (bytes "transitions=") transitionsOk) s) (λ k r. next (each (tran (c .places)) k (i * 32) (f .transitions) r) (λ xs. on (k, withEnds f xs)))
+module _ (i : ℕ) (c : ComponentType) (f : Filled) (s : List ℕ) {X : Type 0} (on : ComponentType × Filled → Lines X) where
+  transitions-then : next (withRows rows.Transitions i (c, f) s) on
+      ≡ next (line (countLine (bytes "transitions=") transitionsOk) s) (λ k r. next (each (tran (c .places)) k (i * 32) (f .transitions) r) (λ xs.
+      on (withCount rows.Transitions c k, withEnds f xs)))
   unfolding tran row rowLine withTransition
   transitions-then =
       kind-then rows.Transitions i c (λ xs. withEnds f xs) (tran (c .places)) (λ j xs t. row-made (tranLine (c .places) t) t _ _ _ _ (λ a. refl)) (f .transitions) s on
 
-  behaviors-then : next (rowsOf rows.Behaviors i c f s) on
-      ≡ next (line (countLine (bytes "behaviors=") behaviorsOk) s) (λ b r. next (each (behavior (c .transitions)) b (i * 8) (f .behaviors) r) (λ bs. on (b, withBehaviors f bs)))
+  behaviors-then : next (withRows rows.Behaviors i (c, f) s) on
+      ≡ next (line (countLine (bytes "behaviors=") behaviorsOk) s) (λ b r. next (each (behavior (c .transitions)) b (i * 8) (f .behaviors) r) (λ bs.
+      on (withCount rows.Behaviors c b, withBehaviors f bs)))
   unfolding behavior row rowLine
   behaviors-then =
-      kind-then rows.Behaviors i c (λ bs. withBehaviors f bs) (behavior (c .transitions)) (λ j bs t. row-made (behaviorLine (c .transitions) t) t _ _ _ _ (λ a. refl)) (f .behaviors) s on
+      kind-then rows.Behaviors i c (λ bs. withBehaviors f bs) (behavior (c .transitions)) (λ j bs t. row-made (behaviorLine (c .transitions) t) t _ _ _ _ (λ a. refl))
+      (f .behaviors) s on
 
-  ports-then : next (rowsOf rows.Ports i c f s) on
-      ≡ next (line (countLine (bytes "ports=") portsOk) s) (λ p r. next (each (port (c .places) (c .transitions) (c .initial)) p (i * 16) (f .ports) r) (λ qs. on (p, withPorts f qs)))
+  ports-then : next (withRows rows.Ports i (c, f) s) on
+      ≡ next (line (countLine (bytes "ports=") portsOk) s) (λ p r. next (each (port (c .places) (c .transitions) (c .initial)) p (i * 16) (f .ports) r) (λ qs.
+      on (withCount rows.Ports c p, withPorts f qs)))
   unfolding port row rowLine withPort
   ports-then =
       kind-then rows.Ports i c (λ qs. withPorts f qs) (port (c .places) (c .transitions) (c .initial))
       (λ j qs t. row-made (portLine (c .places) (c .transitions) (c .initial) t) t _ _ _ _ (λ a. refl)) (f .ports) s on
 
+-- the lines of a type, one kind of rows after the other
+pub type-parts : (i : ℕ) (f : Filled) (q : List ℕ)
+    → next (next (next (next (typeHead i q) (λ c. give (c, f))) (withRows rows.Transitions i)) (withRows rows.Behaviors i)) (withRows rows.Ports i) ≡ typeRun i f q
+unfolding typeRun
+type-parts i f q =
+    let head : Run (ComponentType × Filled) = next (typeHead i q) (λ c. give (c, f)) in
+    next-next (next head (withRows rows.Transitions i)) (withRows rows.Behaviors i) (withRows rows.Ports i)
+    ∙ next-next head (withRows rows.Transitions i) _
+    ∙ next-next (typeHead i q) (λ c. give (c, f)) _
+
 -- the lines of a type, by what they fill
 module _ (i : ℕ) (t : Tables) where
-  rows-then : (n m : ℕ) (s : List ℕ) → next (fromRows i (record { places = n; initial = m; transitions = 0; behaviors = 0; ports = 0 }) (filledOf t) s) (λ x. give (put t i x))
+  rows-then : (n m : ℕ) (s : List ℕ)
+      → next (next (withRows rows.Transitions i (record { places = n; initial = m; transitions = 0; behaviors = 0; ports = 0 }, filledOf t) s)
+      (λ x r. next (withRows rows.Behaviors i x r) (withRows rows.Ports i))) (λ x. give (put t i x))
       ≡ next (line (countLine (bytes "transitions=") transitionsOk) s) (λ k r. next (each (tran n) k (i * 32) (t .transitions) r) (λ xs r.
       next (line (countLine (bytes "behaviors=") behaviorsOk) r) (λ b r. next (each (behavior k) b (i * 8) (t .behaviors) r) (λ bs r.
       next (line (countLine (bytes "ports=") portsOk) r) (λ p r. next (each (port n k m) p (i * 16) (t .ports) r) (λ qs.
       give (withType t i (record { places = n; initial = m; transitions = k; behaviors = b; ports = p }) xs bs qs)))))))
-  unfolding fromRows
   rows-then n m s =
       let empty : ComponentType = record { places = n; initial = m; transitions = 0; behaviors = 0; ports = 0 } in
-      next-next (rowsOf rows.Transitions i empty (filledOf t) s) _ _
+      next-next (withRows rows.Transitions i (empty, filledOf t) s) _ _
       ∙ transitions-then i empty (filledOf t) s _
       ∙ next-same (line (countLine (bytes "transitions=") transitionsOk) s) _ _ (λ k r. next-same (each (tran n) k (i * 32) (t .transitions) r) _ _ (λ xs r.
-      let ends : ComponentType = record { places = n; initial = m; transitions = k; behaviors = 0; ports = 0 } in
-      next-next (rowsOf rows.Behaviors i ends (withEnds (filledOf t) xs) r) _ _
+      let ends : ComponentType = withCount rows.Transitions empty k in
+      next-next (withRows rows.Behaviors i (ends, withEnds (filledOf t) xs) r) _ _
       ∙ behaviors-then i ends (withEnds (filledOf t) xs) r _
       ∙ next-same (line (countLine (bytes "behaviors=") behaviorsOk) r) _ _ (λ b r. next-same (each (behavior k) b (i * 8) (t .behaviors) r) _ _ (λ bs r.
-      let both : ComponentType = record { places = n; initial = m; transitions = k; behaviors = b; ports = 0 } in
-      next-next (rowsOf rows.Ports i both (withBehaviors (withEnds (filledOf t) xs) bs) r) _ _
-      ∙ ports-then i both (withBehaviors (withEnds (filledOf t) xs) bs) r _))))
+      ports-then i (withCount rows.Behaviors ends b) (withBehaviors (withEnds (filledOf t) xs) bs) r _))))
 
   pub type-lines : (s : List ℕ) → type i t s ≡ next (typeRun i (filledOf t) s) (λ x. give (put t i x))
   unfolding type typeRun typeHead

@@ -91,6 +91,12 @@ putRow rows.Behaviors f j x = withBehaviors f (set (f .behaviors) j (x .transiti
 putRow rows.Ports f j x =
     withPorts f (portsOf (set (f .ports .uses) j (x .uses)) (set (f .ports .places) j (x .places)) (set (f .ports .transitions) j (x .transitions)))
 
+-- what is known of a type, with the count of its rows of a kind
+abbrev pub withCount : Rows → ComponentType → ℕ → ComponentType
+withCount rows.Transitions c n = record { places = c .places; initial = c .initial; transitions = n; behaviors = c .behaviors; ports = c .ports }
+withCount rows.Behaviors c n = record { places = c .places; initial = c .initial; transitions = c .transitions; behaviors = n; ports = c .ports }
+withCount rows.Ports c n = record { places = c .places; initial = c .initial; transitions = c .transitions; behaviors = c .behaviors; ports = n }
+
 abbrev pub tablesOf : ℕ → ℕ → List ComponentType → Filled → Tables
 tablesOf d n cs f = record { depth = d; count = n; types = cs; transitions = f .transitions; behaviors = f .behaviors; ports = f .ports }
 

@@ -1,18 +1,21 @@
 -- A type and a sheet in parts: the lines of `type` in crate reading by what they fill, and those of `sheet` before and after its types.
 use Prim.Native.Nat.{ℕ, _*_}
+use mathlib.Core.List.{List}
 use Rattle.forms.specs.Reader.{bytes}
 use Rattle.model.specs.declared.ComponentType.{ComponentType}
 use Rattle.model.specs.declared.Program.{Program}
 use Rattle.reading.specs.Limits.{depthOk, typesOk, placesOk, programOk}
-use Rattle.reading.specs.Lines.{Lines, _>>=_, _>>_, give, line, each, atEnd}
+use Rattle.reading.specs.Lines.{Run, Lines, next, _>>=_, _>>_, give, line, each, atEnd}
 use Rattle.reading.specs.Kinds.{dueLine, countLine, initialLine}
 use Rattle.reading.specs.Fill.{programOf}
 use Rattle.reading.specs.Texts.{instruct}
 use Rattle.lines.specs.Counts.{limitOk}
+use Rattle.lines.specs.Runs.{RunsTo}
 use Rattle.sheet_lines.specs.declared.Rows.{Rows}
 use Rattle.sheet_lines.specs.declared.Rows.the-variants as rows
 use Rattle.sheet_lines.specs.Rows.{rowLine}
-use Rattle.sheets.specs.Filled.{Filled, perType, rowsKey, rowsLimit, putRow}
+use Rattle.sheets.specs.declared.TypeRead.{TypeRead}
+use Rattle.sheets.specs.Filled.{Filled, perType, rowsKey, rowsLimit, putRow, withCount}
 
 -- row j of a kind, in a type of which c has been read
 unfoldable pub row : Rows → ComponentType → ℕ → Filled → Lines Filled
@@ -27,13 +30,16 @@ rowsOf r i c f = do
   g ← each (row r c) n (i * perType r) f
   give (n, g)
 
--- type i, of which c has been read, from its `transitions=` line on
-unfoldable pub fromRows : ℕ → ComponentType → Filled → Lines (ComponentType × Filled)
-fromRows i c f = do
-  x ← rowsOf rows.Transitions i c f
-  y ← rowsOf rows.Behaviors i (record { places = c .places; initial = c .initial; transitions = x .0; behaviors = c .behaviors; ports = c .ports }) (x .1)
-  z ← rowsOf rows.Ports i (record { places = c .places; initial = c .initial; transitions = x .0; behaviors = y .0; ports = c .ports }) (y .1)
-  give (record { places = c .places; initial = c .initial; transitions = x .0; behaviors = y .0; ports = z .0 }, z .1)
+-- what is known of type i and the rows of all types, with those of one kind of type i
+unfoldable pub withRows : Rows → ℕ → ComponentType × Filled → Lines (ComponentType × Filled)
+withRows r i x = do
+  y ← rowsOf r i (x .0) (x .1)
+  give (withCount r (x .0) (y .0), y .1)
+
+-- whatever was read before, with the answer a and the rows f: with the rows of a kind of type i the answer is r, and the rows are g
+abbrev pub RowsTo : List ℕ → Rows → ℕ → TypeRead → Filled → TypeRead → Filled → Type 0
+RowsTo s k i r g a f =
+    (m : Run (ComponentType × Filled)) → RunsTo s (a .went) (a .at) (a .known, f) m → RunsTo s (r .went) (r .at) (r .known, g) (next m (withRows k i))
 
 -- type i up to its `transitions=` line, and whole
 unfoldable pub typeHead : ℕ → Lines ComponentType
@@ -46,7 +52,9 @@ typeHead i = do
 unfoldable pub typeRun : ℕ → Filled → Lines (ComponentType × Filled)
 typeRun i f = do
   c ← typeHead i
-  fromRows i c f
+  x ← withRows rows.Transitions i (c, f)
+  y ← withRows rows.Behaviors i x
+  withRows rows.Ports i y
 
 -- a sheet up to its first type: its depth, and how many types it has
 unfoldable pub sheetHead : Lines (ℕ × ℕ)

@@ -25,8 +25,8 @@ ghost use Rattle.reading.specs.Fill.{programOf};
 ghost use Rattle.reading.specs.Texts.{instruct};
 ghost use Rattle.lines.specs.Counts.{lineSays, limitOk, Counts};
 ghost use Rattle.lines.specs.Runs.{refusalOf, RunsTo};
-ghost use Rattle.sheets.specs.Filled.{lent, noRows, beside, slots, perType, rowsKey, rowsLimit, putRow, refusedRows, refusedType, refusedHead, refusedLines, beforeTypes, TypesTo};
-ghost use Rattle.sheets.specs.Onward.{rowsOf, fromRows, typeHead, typeRun, sheetHead, programRun};
+ghost use Rattle.sheets.specs.Filled.{lent, noRows, beside, slots, perType, rowsKey, rowsLimit, putRow, withCount, refusedRows, refusedType, refusedHead, refusedLines, beforeTypes, TypesTo};
+ghost use Rattle.sheets.specs.Onward.{rowsOf, RowsTo, typeHead, typeRun, sheetHead, programRun};
 ghost use Rattle.sheets.specs.Sheet.{said, sheetRead};
 
 // What a sheet says, or the number of the refusal and the place of the line at fault beside empty tables and an empty program.
@@ -204,12 +204,31 @@ fn read_rows(
     RowsRead { went, at, count }
 }
 
-// A type from its `transitions=` line on, with what was read of it before.
-fn from_rows(
+// What is known of a type, with the count of its rows of a kind.
+fn with_count(known: ComponentType, rows: Rows, count: u8) -> ComponentType
+    ensures { λ r. ⌜ r ≡ withCount rows known count ⌝ }
+{
+    let mut c = known;
+    match rows {
+        Rows::Transitions => {
+            c.transitions = count;
+        }
+        Rows::Behaviors => {
+            c.behaviors = count;
+        }
+        Rows::Ports => {
+            c.ports = count;
+        }
+    }
+    c
+}
+
+// A type with its rows of one kind, where what was read of it before went on.
+fn with_rows(
     text: &[u8],
-    start: usize,
+    read: TypeRead,
+    rows: Rows,
     kind: u8,
-    known: ComponentType,
     source: &mut [u8; 512],
     destination: &mut [u8; 512],
     behaviors: &mut [u32; 128],
@@ -218,36 +237,20 @@ fn from_rows(
     transitions: &mut [u32; 256],
 ) -> TypeRead
     requires { ⌜ kind < 16 ⌝ }
-    ensures { λ r. ⌜ RunsTo (now (text .entry)) (r .went) (r .at)
-        (r .known, lent (source .exit) (destination .exit) (behaviors .exit) (uses .exit) (places .exit) (transitions .exit))
-        (fromRows kind known (lent (source .entry) (destination .entry) (behaviors .entry) (uses .entry) (places .entry) (transitions .entry)) (drop start (now (text .entry)))) ⌝ }
+    ensures { λ r. ⌜ RowsTo (now (text .entry)) rows kind r (lent (source .exit) (destination .exit) (behaviors .exit) (uses .exit) (places .exit) (transitions .exit))
+        read (lent (source .entry) (destination .entry) (behaviors .entry) (uses .entry) (places .entry) (transitions .entry)) ⌝ }
 {
-    let mut c = known;
-    let first = read_rows(
-        text,
-        start,
-        Rows::Transitions,
-        kind,
-        c,
-        source,
-        destination,
-        behaviors,
-        uses,
-        places,
-        transitions,
-    );
-    let went = first.went;
-    let at = first.at;
-    c.transitions = first.count;
+    let went = read.went;
     let Went::On = went else {
-        return TypeRead { went, at, known: c };
+        return read;
     };
-    let second = read_rows(
+    let known = read.known;
+    let more = read_rows(
         text,
-        at,
-        Rows::Behaviors,
+        read.at,
+        rows,
         kind,
-        c,
+        known,
         source,
         destination,
         behaviors,
@@ -255,29 +258,13 @@ fn from_rows(
         places,
         transitions,
     );
-    let went = second.went;
-    let at = second.at;
-    c.behaviors = second.count;
-    let Went::On = went else {
-        return TypeRead { went, at, known: c };
-    };
-    let third = read_rows(
-        text,
-        at,
-        Rows::Ports,
-        kind,
-        c,
-        source,
-        destination,
-        behaviors,
-        uses,
-        places,
-        transitions,
-    );
-    let went = third.went;
-    let at = third.at;
-    c.ports = third.count;
-    TypeRead { went, at, known: c }
+    let went = more.went;
+    let known = with_count(known, rows, more.count);
+    TypeRead {
+        went,
+        at: more.at,
+        known,
+    }
 }
 
 // The `initial=` line at a place of the text: the part from there on, and the next line's place.
@@ -355,16 +342,35 @@ fn read_type(
         (typeRun kind (lent (source .entry) (destination .entry) (behaviors .entry) (uses .entry) (places .entry) (transitions .entry)) (drop start (now (text .entry)))) ⌝ }
 {
     let head = type_head(text, start, kind);
-    let went = head.went;
-    let Went::On = went else {
-        return head;
-    };
-    let known = head.known;
-    from_rows(
+    let ends = with_rows(
         text,
-        head.at,
+        head,
+        Rows::Transitions,
         kind,
-        known,
+        source,
+        destination,
+        behaviors,
+        uses,
+        places,
+        transitions,
+    );
+    let both = with_rows(
+        text,
+        ends,
+        Rows::Behaviors,
+        kind,
+        source,
+        destination,
+        behaviors,
+        uses,
+        places,
+        transitions,
+    );
+    with_rows(
+        text,
+        both,
+        Rows::Ports,
+        kind,
         source,
         destination,
         behaviors,

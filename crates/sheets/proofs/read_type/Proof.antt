@@ -1,21 +1,25 @@
 use borrow.Author.Needs.{needs}
-use Rattle.lines.proofs.Runs.{run-refused, run-then}
-use Rattle.sheets.specs.Onward.{typeRun}
+use Rattle.model.specs.declared.ComponentType.{ComponentType}
+use Rattle.lines.proofs.Runs.{run-seen}
+use Rattle.sheets.specs.Filled.{filled}
+use Rattle.sheets.proofs.Parts.{type-parts}
 use Rattle.sheets.proofs.read_type.Statement.{statement}
 use Rattle.sheets.proofs.read_type.Tie as tie
 
-returns : tie.Need-returns
-unfolding typeRun
-returns c = run-refused _ _ (c .before .before .type-head .ensures) (c .enum-told2 .given .1)
+with-rows-requires-3 : tie.Need-with-rows-requires-3
+with-rows-requires-3 c κs =
+    let first = c .before .before .before .before .before .before .before .before .before .before .before .before .before in
+    first .before .before .before .before .before .before .before .before .before .pre
 
-returns-2 : tie.Need-returns-2
-unfolding typeRun
-returns-2 c =
-    let on = c .before .before .before .before .before .before .before .before in
-    run-then _ _ (on .before .before .type-head .ensures) (on .enum-told .given .1) (c .from-rows .ensures)
+returns : tie.Need-returns
+returns c =
+    let both = c .before .before .before .before .before .before .before in
+    let ends = both .before .before .before .before .before .before .before in
+    let head = ends .before .before .before .before .before .before .before in
+    let a = head .before .before .args in
+    let old = filled (a .source .now) (a .destination .now) (a .behaviors .now) (a .uses .now) (a .places .now) (a .transitions .now) in
+    rw (← type-parts (a .kind) old _)
+    (c .with-rows3 .ensures _ (both .with-rows2 .ensures _ (ends .with-rows .ensures _ (run-seen (λ (k : ComponentType). (k, old)) _ (head .type-head .ensures)))))
 
 pub read-type-spec : {M : Type 1} → statement M
-read-type-spec =
-    tie.close
-    (tie.spec
-    (λ c κs. search needs) (λ c. search needs) (λ c. search needs) returns (λ c κs. search needs) returns-2)
+read-type-spec = tie.close (tie.spec (λ c κs. search needs) (λ c κs. search needs) (λ c κs. search needs) with-rows-requires-3 returns)
