@@ -1,29 +1,38 @@
 -- Demands 2 and 3 on the texts: what is read is the walk of lawful tables, so each follows from its theorem about walks.
 -- Assumes nothing.
-use Prim.Native.Nat.{ℕ}
-use mathlib.Core.List.{List}
+use Prim.Native.Nat.{ℕ, _<_}
+use mathlib.Core.List.{List, []}
 use mathlib.Core.Path.{_≡_, refl, sym, ap, _∙_}
 use native.Mathlib.Omega.{arith}
 use lib.Dec.{leb}
-use lib.ListN.{length}
+use lib.ListN.{length, length-append}
 use borrow.Author.Tests.{le-leb}
 use Rattle.forms.proofs.Tests.{by-test}
 use Rattle.model.specs.declared.Walked.{Walked}
+use Rattle.model.specs.declared.Text.{Text}
 use Rattle.model.specs.declared.Text.the-variants as text
+use Rattle.model.specs.declared.Step.{Step}
+use Rattle.model.specs.declared.Answer.{Answer}
+use Rattle.model.specs.View.{stepsOf}
+use Rattle.reading.specs.Limits.{lengthOk}
+use Rattle.reading.specs.Lines.{Run, on, stop}
+use Rattle.reading.specs.Texts.{answer}
 use Rattle.reading.specs.Lawful.{Lawful, SheetsAreLawful}
 use Rattle.reading.proofs.Lawful.{sheets-are-lawful}
 use Rattle.rules.specs.Walk.{walkAnswer}
 use Rattle.report.specs.Report.{report}
-use Rattle.judged.specs.Course.{Course, faulty, reached, default, course}
+use Rattle.judged.specs.Course.{Course, faulty, reached, default, short, read, both, course}
 use Rattle.judged.specs.Judged.{afterFault, afterWalk, inRoom, ending, judged, printing, printed}
 use Rattle.judged.specs.Room.{ReportsFit}
 use Rattle.judged.proofs.Read.{both-read, fault-numbered}
 use Rattle.judged.proofs.Room.{reports-fit}
-use Rattle.demands.specs.OnTexts.{tablesIn, programIn, stepsIn, Reads, AllAllowed, walkOn, upTo, ReachedIsTheWalk, SafeOnTexts, QueuesOnTexts, SameReports, ReportsAgreeOnTexts, MovesExchangeOnTexts}
+use Rattle.demands.specs.OnTexts.{tablesIn, programIn, stepsIn, Reads, AllAllowed, walkOn, upTo, ReachedIsTheWalk, SafeOnTexts, QueuesOnTexts, SameReports, ReportsAgreeOnTexts, Exchanged, MovesExchangeOnTexts}
 use Rattle.demands.specs.Safe.{WalksAreSafe}
 use Rattle.demands.specs.Queues.{QueuesAreKept}
 use Rattle.demands.specs.Exchange.{MovesExchange}
 use Rattle.demands.specs.Agree.{ReportsAgree}
+use Rattle.demands.specs.AnswerText.{answerText, AnswersAreTheirTexts}
+use Rattle.demands.proofs.AnswerText.{answers-are-their-texts, exchanged-length}
 use Rattle.demands.proofs.Safe.{walks-are-safe}
 use Rattle.demands.proofs.Queues.{queues-are-kept}
 use Rattle.demands.proofs.Exchange.{moves-exchange}
@@ -80,6 +89,43 @@ alike-where-reached s a b w e f = record {
   bytes-alike = λ room. rw (e, f, ending) (alike-in-room room w a b (report w) .1);
 }
 
+-- ---- the exchanged answer
+
+-- an answer that has steps is read, and is their text
+record Stepped (a : List ℕ) : Type 0 where
+  steps : Answer
+  rest : List ℕ
+  is : answer a ≡ on steps rest
+  text : a ≡ answerText (stepsIn a)
+
+some-steps : (a : List ℕ) → 0 < length (stepsIn a) → Stepped a
+unfolding stepsIn AnswersAreTheirTexts
+some-steps a = go (answer a) refl
+  where
+    go : (z : Run Answer) → answer a ≡ z → 0 < length {A = Step} (elim z [ on y r ↦ stepsOf y | stop n r ↦ [] ]) → Stepped a
+    go (on y r) e l = record { steps = y; rest = r; is = e; text = rw (e, stepsIn) (answers-are-their-texts a r y e) }
+    go (stop n r) e l = absurd (omega arith)
+
+not-reached : {A : Type 0} {x : Text} {n at : ℕ} {w : A} → faulty x n at ≡ reached w → ⊥
+not-reached {x = x} {n = n} {at = at} {w = w} e = let z : _≡_ {A = ℕ} 0 1 = cc in omega arith
+
+-- it is read beside a sheet where one as long is
+as-long-reads : (s a b : List ℕ) → length a ≡ length b → Stepped b → Reads s a → Reads s b
+unfolding course both short read
+as-long-reads s a b l y (w, e) =
+    by-test (lengthOk (length s))
+    (λ p. by-test (lengthOk (length a))
+    (λ q. let x = both-read s a w e in (walkAnswer default (x .tables) (x .program) (y .steps), rw (course, both, short, p, ← l, q, read, x .sheet-is, y .is) refl))
+    (λ q. absurd (not-reached (rw (course, both, short, p, q) at e))))
+    (λ p. absurd (not-reached (rw (course, both, short, p) at e)))
+
+exchanged-reads : (s a b : List ℕ) → Exchanged s a b → Reads s a → Reads s b
+exchanged-reads s a b x r =
+    let y = some-steps a (rw (x .these, length-append (x .before)) (omega arith)) in
+    let z = some-steps b (rw (x .those, length-append (x .before)) (omega arith)) in
+    let l : length (answerText (stepsIn a)) ≡ length (answerText (stepsIn b)) = rw (x .these, x .those) (exchanged-length (x .before) (x .after) (x .m) (x .n)) in
+    as-long-reads s a b (ap length (y .text) ∙ l ∙ sym (ap length (z .text))) z r
+
 -- ---- the demands
 
 pub safe-on-texts : SafeOnTexts
@@ -100,8 +146,8 @@ reports-agree-on-texts s a b p q same =
 
 pub moves-exchange-on-texts : MovesExchangeOnTexts
 unfolding MovesExchangeOnTexts MovesExchange
-moves-exchange-on-texts s a b x p r =
+moves-exchange-on-texts s a b x p =
     let (g, y) = allowed-goes s a p in
-    let h = read-goes s b r in
+    let h = read-goes s b (exchanged-reads s a b x (allowed-reads s a p)) in
     let (still, e) = moves-exchange default (tablesIn s) (programIn s) (x .before) (x .after) (x .m) (x .n) (omega arith) (g .lawful) (x .exchangeable) (rw (x .these) at y) in
     (number-is s b _ (h .is) ∙ rw (x .those) still, alike-where-reached s a b _ (g .is) (h .is ∙ ap reached (rw (x .those, x .these) e)))

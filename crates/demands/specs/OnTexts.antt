@@ -97,4 +97,4 @@ pub record Exchanged (s a b : List ℕ) : Type 0 where
 
 -- "leaves such an answer allowed throughout"; and the reports are the same
 unfoldable pub MovesExchangeOnTexts : Type 0
-MovesExchangeOnTexts = (s a b : List ℕ) → Exchanged s a b → AllAllowed s a → Reads s b → AllAllowed s b × SameReports s a b
+MovesExchangeOnTexts = (s a b : List ℕ) → Exchanged s a b → AllAllowed s a → AllAllowed s b × SameReports s a b
