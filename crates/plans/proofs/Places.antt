@@ -1,4 +1,4 @@
--- The first number that passes a test, as a loop finds it; and where one passes there is one.
+-- The first number that passes a test, as a loop finds it.
 -- Assumes nothing.
 use mathlib.Core.Path.{_≡_}
 use mathlib.Core.Bool.{Bool, true, false}
@@ -6,10 +6,7 @@ use mathlib.Core.Logic.{⊎-elim}
 use Prim.Native.Nat.{ℕ, zero, suc, _+_, _-_, _≤_, _<_}
 use native.Mathlib.Omega.{arith}
 use Rattle.sets.specs.Test.{any}
-use Rattle.sets.proofs.Laws.{any-hit, any-some, below-cases}
-use Rattle.model.specs.declared.Connection.{Connection}
-use Rattle.model.specs.declared.Configuration.{Configuration}
-use Rattle.rules.specs.Ports.{someConnection}
+use Rattle.sets.proofs.Laws.{any-hit, below-cases}
 use Rattle.rules.specs.DCon.{first}
 
 module _ (p : ℕ → Bool) where
@@ -23,7 +20,3 @@ module _ (p : ℕ → Bool) where
   unfolding first
   first-end zero l a b e = omega arith
   first-end (suc n) l a b e = let q : n ≡ l = omega arith in rw (q, e)
-
-pub some-stands : (c : Configuration) (test : Connection → Bool) → someConnection c test ≡ true → 0 < c .count
-unfolding someConnection
-some-stands c test e = let r = any-some (c .count) _ e in let l : r .0 < c .count = r .1 .0 in omega arith

@@ -1,6 +1,6 @@
 -- The marks of the ports that have a connection as asked, and that a port fails by its mark as it does by its connections.
 -- Assumes nothing.
-use mathlib.Core.Path.{_≡_, refl, sym, ap, ap₂, _∙_}
+use mathlib.Core.Path.{_≡_, refl, sym, ap₂, _∙_}
 use mathlib.Core.Logic.{by-cases}
 use mathlib.Core.Bool.{Bool, true, false, _&&_, _||_, cond, or-true, or-false, and-comm}
 use mathlib.Core.List.{List, []}

@@ -10,7 +10,7 @@ use lib.ListN.{length, length-append}
 use borrow.Author.Tests.{leb-true, ltb-true, ltb-false, eq-eqb}
 use Rattle.forms.proofs.Tests.{by-test, and-left, and-right}
 use Rattle.shown.specs.Shown.{plain, hexDigit, shownByte, shown}
-use Rattle.shown.specs.Readable.{Each, Printable, Byte, AlwaysPrintable, NoTwoAlike, FourTimes, InPieces}
+use Rattle.shown.specs.Readable.{Each, Printable, AlwaysPrintable, NoTwoAlike, FourTimes, InPieces}
 
 -- ---- a byte, and a digit
 

@@ -1,7 +1,6 @@
 -- With its mark, too, the report has room in 8,192 bytes, and 6 never occurs there.
 -- Assumes nothing.
 use Prim.Native.Nat.{ℕ}
-use mathlib.Core.List.{List}
 use mathlib.Core.Path.{_≡_, refl}
 use mathlib.Core.Logic.{_≢_}
 use native.Mathlib.Omega.{arith}
@@ -9,7 +8,7 @@ use lib.Dec.{eqb}
 use borrow.Author.Tests.{le-leb}
 use Rattle.forms.proofs.Tests.{by-test}
 use Rattle.model.specs.declared.Walked.{Walked}
-use Rattle.judged.specs.Course.{Course, reached}
+use Rattle.judged.specs.Course.{Course}
 use Rattle.judged.specs.Judged.{afterFault, afterWalk, inRoom}
 use Rattle.judged.proofs.Room.{read-fits}
 use Rattle.times.specs.Refusal.{timesNumber}

@@ -14,7 +14,6 @@ use Rattle.model.specs.declared.Walked.{Walked}
 use Rattle.rules.specs.Walk.{walkAnswer}
 use Rattle.report.specs.Report.{countText, report}
 use Rattle.report.specs.Faults.{faultText}
-use Rattle.judged.specs.declared.Verdict.{Verdict}
 use Rattle.judged.specs.Course.{Course, faulty, reached, _>>=_, _>>_, short, read, default, both}
 use Rattle.judged.specs.Judged.{Judgement, textOf, faultLine, afterFault, inRoom, over}
 use Rattle.times.specs.Text.{times}

@@ -14,13 +14,13 @@ use Rattle.model.specs.declared.Text.the-variants as text
 use Rattle.report.specs.Faults.{faultText}
 use Rattle.judged.specs.declared.Verdict.{Verdict}
 use Rattle.judged.specs.Course.{Course}
-use Rattle.judged.specs.Judged.{faultLine, afterFault, over}
+use Rattle.judged.specs.Judged.{faultLine, afterFault}
 use Rattle.inks.specs.Written.{Written}
 use Rattle.judging.proofs.Order.{walked-numbers}
 use Rattle.judging.proofs.Printed.{fault-short, Chosen, walk-chosen, Prints, report-printed, lines-printed}
 use Rattle.times.specs.Refusal.{timesNumber}
 use Rattle.timed.specs.Timed.{timedCourse, markedReport, numbered, timedEnding, timed, timedVerdict, timedBuffer, timedPrinting, timedPrinted}
-use Rattle.timed.proofs.Same.{Few, Alike, in-sheet, in-answer, in-times, marked, courses-alike, all-read}
+use Rattle.timed.proofs.Same.{Alike, in-sheet, in-answer, in-times, marked, courses-alike, all-read}
 use Rattle.timekeeping.proofs.Order.{TimedTold, sheet-fault, answer-fault, times-fault, clocked-walk, timed-told}
 
 -- of the sheet or the answer, or of the times

@@ -7,7 +7,6 @@ use lib.ListN.{length}
 use Rattle.model.specs.declared.Walked.{Walked}
 use Rattle.model.specs.declared.Text.{Text}
 use Rattle.model.specs.declared.Text.the-variants as text
-use Rattle.judged.specs.declared.Verdict.{Verdict}
 use Rattle.judged.specs.declared.Place.{Place}
 use Rattle.judged.specs.Course.{faulty, reached}
 use Rattle.judged.specs.Judged.{faultPlace, afterFault, inRoom, over}

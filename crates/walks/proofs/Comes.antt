@@ -1,10 +1,10 @@
 -- A step's plan is the step: its number, and where it is allowed all that changes; and what is read of a list is what stands there.
 -- Assumes nothing.
-use mathlib.Core.Path.{_≡_, refl, sym, ap, _∙_}
+use mathlib.Core.Path.{_≡_, refl, sym, ap}
 use mathlib.Core.Bool.{Bool, true, false, true≢false, cond}
 use mathlib.Core.Logic.{_≢_, by-cases}
 use mathlib.Core.List.{List}
-use Prim.Native.Nat.{ℕ, suc, _*_, _≤_, _<_, min}
+use Prim.Native.Nat.{ℕ, suc, _<_, min}
 use native.Mathlib.Nat.{min-eq-left}
 use native.Mathlib.Omega.{arith}
 use native.Mathlib.Decide.{ℕ-discrete, decLt}
@@ -24,7 +24,7 @@ use Rattle.model.specs.View.{typeOf, instance, put, withQueue, withConnections,
 use Rattle.model.proofs.View.{past-end}
 use Rattle.rules.specs.Ports.{someConnection, serves, blocks, employs, failsUnserved, failsRefusing, failsInUse}
 use Rattle.rules.specs.PushB.{depthOf}
-use Rattle.rules.specs.Action.{instruction, check, effect}
+use Rattle.rules.specs.Action.{instruction}
 use Rattle.rules.specs.Step.{line, action, number, after, step}
 use Rattle.ports.specs.Rows.{parts}
 use Rattle.ports.specs.Tests.{portsCheck}

@@ -1,20 +1,20 @@
 -- An instruction's plan is the instruction: its number, and where it is allowed all that changes.
 -- Assumes nothing.
 use mathlib.Core.Path.{_≡_, refl, sym, ap, _∙_}
-use mathlib.Core.Bool.{Bool, true, false, true≢false, cond, not, _&&_}
+use mathlib.Core.Bool.{Bool, true, false, true≢false, not, _&&_}
 use mathlib.Core.Logic.{by-cases}
-use Prim.Native.Nat.{ℕ, suc, _≤_, _<_, min}
+use Prim.Native.Nat.{ℕ, suc, _<_, min}
 use native.Mathlib.Nat.{min-eq-right}
 use native.Mathlib.Omega.{arith}
 use native.Mathlib.Decide.{ℕ-discrete, decLt}
 use lib.Dec.{eqb, ltb}
-use borrow.Author.Tests.{eq-eqb, ne-eqb, lt-ltb, le-ltb}
+use borrow.Author.Tests.{eq-eqb, ne-eqb, le-ltb}
 use Rattle.model.specs.declared.Tables.{Tables}
 use Rattle.model.specs.declared.Instance.{Instance}
 use Rattle.model.specs.declared.Instruction.{Instruction}
 use Rattle.model.specs.declared.Configuration.{Configuration}
 use Rattle.model.specs.Verb.{addVerb, delVerb, pushbVerb, conVerb, dconVerb}
-use Rattle.model.specs.View.{typeOf, isUse, instance, put, withQueue, withConnections}
+use Rattle.model.specs.View.{typeOf, isUse, instance, withQueue, withConnections}
 use Rattle.model.proofs.View.{put-own}
 use Rattle.rules.specs.Refusal.{_⇒_∣_, allowed, idAbsent, noSuch, oneInstance, alreadyConnected, noMoreConnections, queueFull}
 use Rattle.rules.specs.Closing.{renewed}

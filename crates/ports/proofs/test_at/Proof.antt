@@ -1,4 +1,3 @@
-use borrow.Author.Needs.{needs}
 use borrow.Author.Tests.{eq-eqb, ne-eqb}
 use Rattle.ports.proofs.test_at.Statement.{statement}
 use Rattle.ports.proofs.test_at.Tie as tie

@@ -1,6 +1,5 @@
 use borrow.Author.Tests.{ne-eqb}
 use Rattle.times.specs.Refusal.{timesNumber}
-use borrow.Author.Needs.{needs}
 use Rattle.timekeeping.proofs.times_number.Statement.{statement}
 use Rattle.timekeeping.proofs.times_number.Tie as tie
 

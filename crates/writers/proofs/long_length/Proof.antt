@@ -3,7 +3,6 @@ use Prim.Native.Nat.{_≤_}
 use native.Mathlib.Omega.{arith}
 use lib.ListN.{length}
 use Rattle.report.specs.Report.{report}
-use Rattle.inks.proofs.Laws.{fits}
 use Rattle.writers.proofs.Bounds.{queue-short, report-short}
 use Rattle.writers.proofs.long_length.Statement.{statement}
 use Rattle.writers.proofs.long_length.Tie as tie

@@ -1,6 +1,6 @@
 use borrow.Author.Needs.{needs}
 use borrow.Author.Tests.{eq-eqb, ne-eqb, not-true, not-false}
-use Rattle.walks.specs.Plans.{movePlan, ordered, stepPlan}
+use Rattle.walks.specs.Plans.{stepPlan}
 use Rattle.walks.proofs.steps.plan_step.Statement.{statement}
 use Rattle.walks.proofs.steps.plan_step.Tie as tie
 
