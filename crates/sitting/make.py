@@ -65,4 +65,4 @@ for name, content in {b"sheet.txt": sheet, **answers}.items():
 with open(os.path.join(here, "args"), "wb") as file:
     file.write(b"".join(name + b"\n" for name in arguments))
 with open(os.path.join(here, "stdout"), "w") as file:
-    file.write("".join(map(said, arguments)))
+    file.write("".join(map(said, arguments)) + f"candidates={len(arguments)}\n")

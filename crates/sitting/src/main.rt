@@ -1,57 +1,44 @@
 // A marker's aid: the sheet from sheet.txt in the current folder, and for each answer file that an argument names, in order, `candidate=` and its name,
-// what `judge` prints, `place=` and `offending=` with the line at fault; or `unreadable=1`. A candidate's bytes are shown as `shown` promises: `\xNN`, lower case.
+// what `judge` prints, `place=` and `offending=` with the line at fault; or `unreadable=1`; at the end `candidates=` and how many there were. A candidate's
+// bytes are shown as `shown` promises: `\xNN`, lower case. Each candidate is one write, and the first write that fails ends the sitting.
+// Called as `sitting -0 SHEET`, as bin/sitting calls it, it takes the sheet's path from there and the names, each ended by a NUL, from standard input, shows
+// them whole, and tells on descriptor 3 that all was written, and whether every answer was read.
 use judged::Place;
+use judged::Verdict;
+use libc::STDERR_FILENO;
+use libc::STDIN_FILENO;
 use libc::STDOUT_FILENO;
+use model::Text;
 use texts::Due;
-ghost use Prim.Native.Nat.{_≤_, _<_};
+ghost use Prim.Native.Nat.{_≤_};
 ghost use lib.ListN.{length};
 ghost use Rattle.io.specs.Counts.{Counts};
 
-// A read that failed, or how many bytes it gave.
-struct Read {
-    failed: bool,
+// How a sitting went so far: how many candidates, whether something could not be read, whether all was written; of the names on standard input, whether
+// they have ended, and how many bytes there are of the next.
+struct Went {
+    candidates: u64,
+    unread: bool,
+    written: bool,
+    ended: bool,
     size: usize,
 }
 
-fn read_some(file: i32, free: &mut [u8]) -> Read
-    ensures { λ r. ⌜ Counts (r .size) (now (free .exit)) ⌝ }
+// At most so many of a text's bytes. What `judging` promises lies within its buffer and its texts, so it takes none away.
+fn at_most(size: usize, text: &[u8]) -> usize
+    ensures { λ r. ⌜ Counts r (now (text .entry)) ⌝ }
 {
-    let got = libc::read(file, free);
-    Read {
-        failed: got < 0,
-        size: io::count(got, free),
+    if size <= text.len() {
+        return size;
     }
+    text.len()
 }
 
-// What a file holds, up to the buffer's length. One read that fails, as the first of a folder does, makes it unreadable.
-fn read_file(file: i32, text: &mut [u8]) -> Read
-    ensures { λ r. ⌜ Counts (r .size) (now (text .exit)) ⌝ }
-{
-    let mut size: usize = 0;
-    while size < text.len() {
-        let more = read_some(file, &mut text[size..]);
-        if more.failed {
-            return Read {
-                failed: true,
-                size: 0,
-            };
-        }
-        if more.size == 0 {
-            break;
-        }
-        size += more.size;
-    }
-    Read {
-        failed: false,
-        size,
-    }
-}
-
-fn read_named(name: &[u8], text: &mut [u8]) -> Read
+fn read_named(name: &[u8], text: &mut [u8]) -> files::Read
     ensures { λ r. ⌜ Counts (r .size) (now (text .exit)) ⌝ }
 {
     let file = os::open_read(name);
-    let read = read_file(file, text);
+    let read = files::read_text(file, text);
     libc::close(file);
     read
 }
@@ -81,71 +68,274 @@ fn shown_from(name: &[u8]) -> usize
     0
 }
 
-// The next piece of a text, and the place after it.
-fn print_piece(text: &[u8], at: usize) -> usize
-    requires { ⌜ at < length (now text) ⌝ }
-    ensures { λ r. ⌜ (at < r) × (r ≤ length (now (text .entry))) ⌝ }
-{
-    let mut out = [0u8; 4096];
-    let piece = shown::show_piece(text, at, &mut out);
-    let used = piece.used;
-    io::write_all(STDOUT_FILENO, &out[..used]);
-    piece.next
-}
-
 // KEY and a candidate's bytes as they are shown.
-fn print_shown(key: &[u8], text: &[u8]) {
-    io::write_all(STDOUT_FILENO, key);
-    let mut at: usize = 0;
-    while at < text.len() {
-        at = print_piece(text, at);
-    }
-    io::write_all(STDOUT_FILENO, b"\n");
+fn write_shown(block: &mut [u8], at: usize, key: &[u8], text: &[u8]) -> usize {
+    let a = inks::write_key(block, at, key);
+    let b = shown::show(block, a, text);
+    inks::write_byte(block, b, b'\n')
 }
 
-fn print_place(place: Place) {
+fn write_first(block: &mut [u8], at: usize, text: &[u8], size: usize) -> usize {
+    let n = at_most(size, text);
+    inks::write_key(block, at, &text[..n])
+}
+
+// What `judge` prints of this verdict: the report, or after 1 to 5 the three lines.
+fn write_verdict(block: &mut [u8], at: usize, verdict: Verdict, report: &mut [u8]) -> usize {
+    let refused = verdict.refused;
+    let text = verdict.text;
+    match refused {
+        1..=5 => {
+            let used = writers::write_fault(report, text, verdict.line, refused);
+            write_first(block, at, report, used)
+        }
+        _ => write_first(block, at, report, verdict.written),
+    }
+}
+
+fn write_place(block: &mut [u8], at: usize, place: Place) -> usize {
     let mut line = [0u8; 32];
     let used = shown::show_place(place, &mut line);
-    io::write_all(STDOUT_FILENO, &line[..used]);
+    inks::write_key(block, at, &line[..used])
 }
 
-fn print_judgement<'a>(sheet: &'a [u8], answer: &'a [u8]) {
-    let mut out = [0u8; 8192];
-    let used = judging::print(sheet, answer, &mut out);
-    io::write_all(STDOUT_FILENO, &out[..used]);
-    print_place(judging::place(sheet, answer, 8192));
-    print_shown(b"offending=", judging::offending(sheet, answer, 8192));
+// So many bytes of a text, from a place on.
+fn write_part(block: &mut [u8], at: usize, text: &[u8], start: usize, size: usize) -> usize {
+    let from = at_most(start, text);
+    write_line(block, at, &text[from..], size)
 }
 
-fn run_answer(sheet: &[u8], i: usize) {
-    let mut name = [0u8; 4096];
-    let size = name_of(i, &mut name);
-    print_name(&name[..size]);
+fn write_line(block: &mut [u8], at: usize, rest: &[u8], size: usize) -> usize {
+    let n = at_most(size, rest);
+    write_shown(block, at, b"offending=", &rest[..n])
+}
+
+// The line at fault, from whichever text held it.
+fn write_offending(
+    block: &mut [u8],
+    at: usize,
+    sheet: &[u8],
+    answer: &[u8],
+    place: Place,
+) -> usize {
+    let text = place.text;
+    match text {
+        Text::Sheet => write_part(block, at, sheet, place.start, place.size),
+        _ => write_part(block, at, answer, place.start, place.size),
+    }
+}
+
+// One walk gives the report, the verdict and the place.
+fn write_judgement(block: &mut [u8], at: usize, sheet: &[u8], answer: &[u8]) -> usize {
+    let mut report = [0u8; 8192];
+    let judged = judging::judge_and_place(sheet, answer, &mut report);
+    let verdict = judged.verdict;
+    let place = judged.place;
+    let a = write_verdict(block, at, verdict, &mut report);
+    let b = write_place(block, a, place);
+    write_offending(block, b, sheet, answer, place)
+}
+
+fn print(file: i32, block: &[u8], used: usize) -> bool {
+    let n = at_most(used, block);
+    io::write_all(file, &block[..n])
+}
+
+fn say_unreadable(block: &mut [u8], name: &[u8]) {
+    let used = write_shown(block, 0, b"unreadable: ", name);
+    print(STDERR_FILENO, block, used);
+}
+
+fn write_unreadable(block: &mut [u8], name: &[u8]) -> usize {
+    say_unreadable(block, name);
+    let at = write_shown(block, 0, b"candidate=", name);
+    inks::write_key(block, at, b"unreadable=1\n")
+}
+
+fn write_candidate(block: &mut [u8], name: &[u8], sheet: &[u8], answer: &[u8]) -> usize {
+    let at = write_shown(block, 0, b"candidate=", name);
+    write_judgement(block, at, sheet, answer)
+}
+
+fn one_more(went: Went, unread: bool, written: bool) -> Went {
+    Went {
+        candidates: std::num::wrapping_add_u64(went.candidates, 1),
+        unread: went.unread || unread,
+        written,
+        ended: went.ended,
+        size: 0,
+    }
+}
+
+// The candidate whose answer stands in `path`, shown by this name.
+fn run_answer(block: &mut [u8], sheet: &[u8], path: &[u8], name: &[u8], went: Went) -> Went {
     let mut answer = [0u8; 32769];
-    let read = read_named(&name[..size], &mut answer);
+    let read = read_named(path, &mut answer);
+    let size = read.size;
     if read.failed {
-        io::write_all(STDOUT_FILENO, b"unreadable=1\n");
-        return;
+        let used = write_unreadable(block, name);
+        return one_more(went, true, print(STDOUT_FILENO, block, used));
     }
-    let length = read.size;
-    print_judgement(sheet, &answer[..length]);
+    let used = write_candidate(block, name, sheet, &answer[..size]);
+    one_more(went, false, print(STDOUT_FILENO, block, used))
 }
 
-fn print_name(name: &[u8]) {
-    let from = shown_from(name);
-    print_shown(b"candidate=", &name[from..]);
+fn run_path(block: &mut [u8], sheet: &[u8], path: &[u8], went: Went) -> Went {
+    let from = shown_from(path);
+    run_answer(block, sheet, path, &path[from..], went)
 }
 
-fn run(sheet: &[u8]) {
+fn run_argument(block: &mut [u8], sheet: &[u8], i: usize, went: Went) -> Went {
+    let mut path = [0u8; 4096];
+    let size = name_of(i, &mut path);
+    run_path(block, sheet, &path[..size], went)
+}
+
+fn begun() -> Went {
+    Went {
+        candidates: 0,
+        unread: false,
+        written: true,
+        ended: false,
+        size: 0,
+    }
+}
+
+fn run_arguments(block: &mut [u8], sheet: &[u8]) -> Went {
     let count = os::arg_count();
-    for i in 1..count {
-        run_answer(sheet, i);
+    let mut went = begun();
+    let mut i: usize = 1;
+    while i < count && went.written {
+        went = run_argument(block, sheet, i, went);
+        i += 1;
     }
+    went
+}
+
+// A name has ended.
+fn run_name(block: &mut [u8], sheet: &[u8], name: &[u8], went: Went) -> Went {
+    let n = at_most(went.size, name);
+    run_answer(block, sheet, &name[..n], &name[..n], went)
+}
+
+// A name's next byte, or the NUL that ends it. Of a name longer than any path the first bytes are kept, by which no file can be opened.
+fn take_byte(block: &mut [u8], sheet: &[u8], name: &mut [u8], b: u8, went: Went) -> Went {
+    if b == 0 {
+        return run_name(block, sheet, name, went);
+    }
+    Went {
+        candidates: went.candidates,
+        unread: went.unread,
+        written: went.written,
+        ended: went.ended,
+        size: inks::write_byte(name, went.size, b),
+    }
+}
+
+fn take_bytes(block: &mut [u8], sheet: &[u8], name: &mut [u8], bytes: &[u8], went: Went) -> Went {
+    let mut so_far = went;
+    let mut i: usize = 0;
+    while i < bytes.len() && so_far.written {
+        so_far = take_byte(block, sheet, name, bytes[i], so_far);
+        i += 1;
+    }
+    so_far
+}
+
+fn names_ended(went: Went, unread: bool) -> Went {
+    Went {
+        candidates: went.candidates,
+        unread: went.unread || unread,
+        written: went.written,
+        ended: true,
+        size: 0,
+    }
+}
+
+// The last name may lack its NUL.
+fn last_name(block: &mut [u8], sheet: &[u8], name: &[u8], went: Went) -> Went {
+    if went.size == 0 {
+        return names_ended(went, false);
+    }
+    names_ended(run_name(block, sheet, name, went), false)
+}
+
+fn next_names(
+    block: &mut [u8],
+    sheet: &[u8],
+    name: &mut [u8],
+    bytes: &mut [u8],
+    went: Went,
+) -> Went {
+    let read = files::read_some(STDIN_FILENO, bytes);
+    let size = read.size;
+    if read.failed {
+        os::fail(b"standard input");
+        return names_ended(went, true);
+    }
+    if size == 0 {
+        return last_name(block, sheet, name, went);
+    }
+    take_bytes(block, sheet, name, &bytes[..size], went)
+}
+
+fn run_names(block: &mut [u8], sheet: &[u8], name: &mut [u8], bytes: &mut [u8]) -> Went {
+    let mut went = begun();
+    // A loop that is proved ends, so it counts its turns down.
+    let mut turns = u64::MAX;
+    while 0 < turns && went.written && !went.ended {
+        went = next_names(block, sheet, name, bytes, went);
+        turns -= 1;
+    }
+    went
+}
+
+// The last line, and whether all was written.
+fn print_count(block: &mut [u8], went: Went) -> bool {
+    if !went.written {
+        return false;
+    }
+    let mut digits = [0u8; 20];
+    let k = io::decimal(went.candidates, &mut digits);
+    let a = inks::write_key(block, 0, b"candidates=");
+    let b = inks::write_key(block, a, &digits[..k]);
+    let used = inks::write_byte(block, b, b'\n');
+    print(STDOUT_FILENO, block, used)
 }
 
 // Each text has room for a byte more than it may have, so that a longer one still gets 1. A missing sheet counts as empty.
-fn main() {
+fn sit(block: &mut [u8]) {
     let mut sheet = [0u8; 32769];
     let n = read_named(b"sheet.txt", &mut sheet).size;
-    run(&sheet[..n]);
+    let went = run_arguments(block, &sheet[..n]);
+    print_count(block, went);
+}
+
+fn sit_for_script(block: &mut [u8]) {
+    let mut path = [0u8; 4096];
+    let k = name_of(2, &mut path);
+    let mut sheet = [0u8; 32769];
+    let n = read_named(&path[..k], &mut sheet).size;
+    let mut name = [0u8; 4096];
+    let mut bytes = [0u8; 65536];
+    let went = run_names(block, &sheet[..n], &mut name, &mut bytes);
+    if print_count(block, went) {
+        files::tell(went.unread);
+    }
+}
+
+fn called_by_script() -> bool {
+    let mut word = [0u8; 3];
+    os::arg(1, &mut word);
+    word[0] == b'-' && word[1] == b'0' && word[2] == 0
+}
+
+// A candidate's block has at most 155,702 bytes: a name of 4,096, a report and a line of 32,768, each byte of a name or a line shown as up to four.
+fn main() {
+    let mut block = [0u8; 155702];
+    if called_by_script() {
+        sit_for_script(&mut block);
+    } else {
+        sit(&mut block);
+    }
 }

@@ -4,8 +4,8 @@ use native.Mathlib.Omega.{arith}
 use lib.ListN.{length}
 use borrow.Author.Needs.{needs}
 use Rattle.io.proofs.Counting.{counts}
-use Rattle.sitting.proofs.read_file.Statement.{statement}
-use Rattle.sitting.proofs.read_file.Tie as tie
+use Rattle.files.proofs.read_text.Statement.{statement}
+use Rattle.files.proofs.read_text.Tie as tie
 
 abbrev Inv-loop : tie.InvT-loop
 Inv-loop file text₀ size₀ text size = (size ≤ length text) × (length text ≡ length text₀)
@@ -32,8 +32,8 @@ returns-2 c = counts _ _ (omega arith)
 returns-3 : tie.Need-returns-3 Inv-loop μ-loop
 returns-3 c = counts _ _ (omega arith)
 
-pub read-file-spec : {M : Type 1} → statement M
-read-file-spec =
+pub read-text-spec : {M : Type 1} → statement M
+read-text-spec =
     tie.close
     (tie.spec
     Inv-loop μ-loop (λ c. search needs) (λ c. search needs) (λ c. search needs) (λ c. search needs) (λ c κs. search needs)

@@ -1,0 +1,56 @@
+// What the programs read, with the reads that failed, and what they tell the script that called them.
+// Promised: a count within the lent buffer, and no more. What a file holds and whether a call succeeds no contract can say.
+ghost use Rattle.io.specs.Counts.{Counts};
+
+// The descriptor on which a script hears how a program ended, since a program has no exit status.
+const HEARD: i32 = 3;
+
+// A read that failed, or how many bytes it gave.
+pub struct Read {
+    pub failed: bool,
+    pub size: usize,
+}
+
+// One read.
+pub fn read_some(file: i32, free: &mut [u8]) -> Read
+    ensures { λ r. ⌜ Counts (r .size) (now (free .exit)) ⌝ }
+{
+    let got = libc::read(file, free);
+    Read {
+        failed: got < 0,
+        size: io::count(got, free),
+    }
+}
+
+// What a file holds, up to the buffer's length. One read that fails, as the first of a folder does, makes it unreadable.
+pub fn read_text(file: i32, text: &mut [u8]) -> Read
+    ensures { λ r. ⌜ Counts (r .size) (now (text .exit)) ⌝ }
+{
+    let mut size: usize = 0;
+    while size < text.len() {
+        let more = read_some(file, &mut text[size..]);
+        if more.failed {
+            return Read {
+                failed: true,
+                size: 0,
+            };
+        }
+        if more.size == 0 {
+            break;
+        }
+        size += more.size;
+    }
+    Read {
+        failed: false,
+        size,
+    }
+}
+
+// What the script ends with: 0, or 3 where something could not be read. A program that could not write all of its report tells nothing.
+pub fn tell(unread: bool) {
+    if unread {
+        io::write_all(HEARD, b"3");
+    } else {
+        io::write_all(HEARD, b"0");
+    }
+}
