@@ -3,7 +3,6 @@ use Prim.Native.Nat.{ℕ, _+_, _-_, _/_, _%_}
 use mathlib.Core.Bool.{Bool, true, false, _&&_, not}
 use mathlib.Core.List.{List, [], _∷_, _++_}
 use lib.Dec.{leb, ltb, eqb}
-use lib.ListN.{take, drop}
 use Rattle.forms.specs.Reader.{bytes, byte}
 
 -- from the blank to the tilde, the backslash aside
@@ -20,7 +19,3 @@ shownByte b = elim (plain b) [ true ↦ b ∷ [] | false ↦ bytes "\\x" ++ (hex
 unfoldable pub shown : List ℕ → List ℕ
 shown [] = []
 shown (b ∷ s) = shownByte b ++ shown s
-
--- a piece of a text, from a place on
-abbrev pub pieceAt : ℕ → List ℕ → List ℕ
-pieceAt at s = take 1024 (drop at s)

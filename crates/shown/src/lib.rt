@@ -5,11 +5,9 @@ use judged::Place;
 use model::Text;
 ghost use mathlib.Core.Path.{_≡_};
 ghost use mathlib.Core.List.{_++_};
-ghost use Prim.Native.Nat.{_+_, _<_, min};
-ghost use lib.ListN.{length};
-ghost use Rattle.judged.specs.Judged.{over};
+ghost use Prim.Native.Nat.{_<_};
 ghost use Rattle.inks.specs.Written.{Written};
-ghost use Rattle.shown.specs.Shown.{plain, hexDigit, shownByte, shown, pieceAt};
+ghost use Rattle.shown.specs.Shown.{plain, hexDigit, shownByte, shown};
 ghost use Rattle.io.specs.Counts.{Counts};
 ghost use Rattle.shown.specs.Place.{whichText, placeText};
 
@@ -58,39 +56,6 @@ pub fn show(t: &mut [u8], at: usize, text: &[u8]) -> usize
         i += 1;
     }
     p
-}
-
-// How much of a text has been shown, and how many bytes that took.
-pub struct Piece {
-    pub next: usize,
-    pub used: usize,
-}
-
-fn piece_end(length: usize, at: usize) -> usize
-    ensures { λ r. ⌜ r ≡ min (at + 1024) length ⌝ }
-{
-    if length <= at {
-        return length;
-    }
-    if length - at <= 1024 {
-        return length;
-    }
-    at + 1024
-}
-
-// The next 1,024 bytes of a text, or all that are left: four times as much has room, so none is cut.
-pub fn show_piece(text: &[u8], at: usize, out: &mut [u8; 4096]) -> Piece
-    ensures next { λ r. ⌜ r .next ≡ min (at + 1024) (length (now (text .entry))) ⌝ }
-    ensures used { λ r. ⌜ r .used ≡ length (shown (pieceAt at (now (text .entry)))) ⌝ }
-    ensures out { λ r. ⌜ now (out .exit) ≡ over (shown (pieceAt at (now (text .entry)))) (now (out .entry)) ⌝ }
-    ensures counts { λ r. ⌜ Counts (r .used) (now (out .exit)) ⌝ }
-{
-    let next = piece_end(text.len(), at);
-    if next <= at {
-        return Piece { next, used: 0 };
-    }
-    let used = show(out, 0, &text[at..next]);
-    Piece { next, used }
 }
 
 fn write_which(t: &mut [u8], at: usize, text: Text) -> usize
