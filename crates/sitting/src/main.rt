@@ -3,12 +3,16 @@
 // bytes are shown as `shown` promises: `\xNN`, lower case. Each candidate is one write, and the first write that fails ends the sitting.
 // Called as `sitting -0 SHEET`, as bin/sitting calls it, it takes the sheet's path from there and the names, each ended by a NUL, from standard input, shows
 // them whole, and tells on descriptor 3 that all was written, and whether every answer was read.
-use judged::Place;
-use judged::Verdict;
-use libc::STDERR_FILENO;
+mod blocks;
+
+use blocks::LONGEST;
+use blocks::at_most;
+use blocks::print;
+use blocks::print_count;
+use blocks::say_unreadable;
+use blocks::write_candidate;
+use blocks::write_unreadable;
 use libc::STDIN_FILENO;
-use libc::STDOUT_FILENO;
-use model::Text;
 use texts::Due;
 ghost use Prim.Native.Nat.{_≤_};
 ghost use lib.ListN.{length};
@@ -22,16 +26,6 @@ struct Went {
     written: bool,
     ended: bool,
     size: usize,
-}
-
-// At most so many of a text's bytes. What `judging` promises lies within its buffer and its texts, so it takes none away.
-fn at_most(size: usize, text: &[u8]) -> usize
-    ensures { λ r. ⌜ Counts r (now (text .entry)) ⌝ }
-{
-    if size <= text.len() {
-        return size;
-    }
-    text.len()
 }
 
 fn read_named(name: &[u8], text: &mut [u8]) -> files::Read
@@ -68,95 +62,6 @@ fn shown_from(name: &[u8]) -> usize
     0
 }
 
-// KEY and a candidate's bytes as they are shown.
-fn write_shown(block: &mut [u8], at: usize, key: &[u8], text: &[u8]) -> usize {
-    let a = inks::write_key(block, at, key);
-    let b = shown::show(block, a, text);
-    inks::write_byte(block, b, b'\n')
-}
-
-fn write_first(block: &mut [u8], at: usize, text: &[u8], size: usize) -> usize {
-    let n = at_most(size, text);
-    inks::write_key(block, at, &text[..n])
-}
-
-// What `judge` prints of this verdict: the report, or after 1 to 5 the three lines.
-fn write_verdict(block: &mut [u8], at: usize, verdict: Verdict, report: &mut [u8]) -> usize {
-    let refused = verdict.refused;
-    let text = verdict.text;
-    match refused {
-        1..=5 => {
-            let used = writers::write_fault(report, text, verdict.line, refused);
-            write_first(block, at, report, used)
-        }
-        _ => write_first(block, at, report, verdict.written),
-    }
-}
-
-fn write_place(block: &mut [u8], at: usize, place: Place) -> usize {
-    let mut line = [0u8; 32];
-    let used = shown::show_place(place, &mut line);
-    inks::write_key(block, at, &line[..used])
-}
-
-// So many bytes of a text, from a place on.
-fn write_part(block: &mut [u8], at: usize, text: &[u8], start: usize, size: usize) -> usize {
-    let from = at_most(start, text);
-    write_line(block, at, &text[from..], size)
-}
-
-fn write_line(block: &mut [u8], at: usize, rest: &[u8], size: usize) -> usize {
-    let n = at_most(size, rest);
-    write_shown(block, at, b"offending=", &rest[..n])
-}
-
-// The line at fault, from whichever text held it.
-fn write_offending(
-    block: &mut [u8],
-    at: usize,
-    sheet: &[u8],
-    answer: &[u8],
-    place: Place,
-) -> usize {
-    let text = place.text;
-    match text {
-        Text::Sheet => write_part(block, at, sheet, place.start, place.size),
-        _ => write_part(block, at, answer, place.start, place.size),
-    }
-}
-
-// One walk gives the report, the verdict and the place.
-fn write_judgement(block: &mut [u8], at: usize, sheet: &[u8], answer: &[u8]) -> usize {
-    let mut report = [0u8; 8192];
-    let judged = judging::judge_and_place(sheet, answer, &mut report);
-    let verdict = judged.verdict;
-    let place = judged.place;
-    let a = write_verdict(block, at, verdict, &mut report);
-    let b = write_place(block, a, place);
-    write_offending(block, b, sheet, answer, place)
-}
-
-fn print(file: i32, block: &[u8], used: usize) -> bool {
-    let n = at_most(used, block);
-    io::write_all(file, &block[..n])
-}
-
-fn say_unreadable(block: &mut [u8], name: &[u8]) {
-    let used = write_shown(block, 0, b"unreadable: ", name);
-    print(STDERR_FILENO, block, used);
-}
-
-fn write_unreadable(block: &mut [u8], name: &[u8]) -> usize {
-    say_unreadable(block, name);
-    let at = write_shown(block, 0, b"candidate=", name);
-    inks::write_key(block, at, b"unreadable=1\n")
-}
-
-fn write_candidate(block: &mut [u8], name: &[u8], sheet: &[u8], answer: &[u8]) -> usize {
-    let at = write_shown(block, 0, b"candidate=", name);
-    write_judgement(block, at, sheet, answer)
-}
-
 fn one_more(went: Went, unread: bool, written: bool) -> Went {
     Went {
         candidates: std::num::wrapping_add_u64(went.candidates, 1),
@@ -173,11 +78,12 @@ fn run_answer(block: &mut [u8], sheet: &[u8], path: &[u8], name: &[u8], went: We
     let read = read_named(path, &mut answer);
     let size = read.size;
     if read.failed {
+        say_unreadable(block, name);
         let used = write_unreadable(block, name);
-        return one_more(went, true, print(STDOUT_FILENO, block, used));
+        return one_more(went, true, print(block, used));
     }
     let used = write_candidate(block, name, sheet, &answer[..size]);
-    one_more(went, false, print(STDOUT_FILENO, block, used))
+    one_more(went, false, print(block, used))
 }
 
 fn run_path(block: &mut [u8], sheet: &[u8], path: &[u8], went: Went) -> Went {
@@ -270,7 +176,7 @@ fn next_names(
     let read = files::read_some(STDIN_FILENO, bytes);
     let size = read.size;
     if read.failed {
-        os::fail(b"standard input");
+        os::fail(b"sitting: standard input");
         return names_ended(went, true);
     }
     if size == 0 {
@@ -291,16 +197,11 @@ fn run_names(block: &mut [u8], sheet: &[u8], name: &mut [u8], bytes: &mut [u8]) 
 }
 
 // The last line, and whether all was written.
-fn print_count(block: &mut [u8], went: Went) -> bool {
+fn print_last(block: &mut [u8], went: Went) -> bool {
     if !went.written {
         return false;
     }
-    let mut digits = [0u8; 20];
-    let k = io::decimal(went.candidates, &mut digits);
-    let a = inks::write_key(block, 0, b"candidates=");
-    let b = inks::write_key(block, a, &digits[..k]);
-    let used = inks::write_byte(block, b, b'\n');
-    print(STDOUT_FILENO, block, used)
+    print_count(block, went.candidates)
 }
 
 // Each text has room for a byte more than it may have, so that a longer one still gets 1. A missing sheet counts as empty.
@@ -308,7 +209,7 @@ fn sit(block: &mut [u8]) {
     let mut sheet = [0u8; 32769];
     let n = read_named(b"sheet.txt", &mut sheet).size;
     let went = run_arguments(block, &sheet[..n]);
-    print_count(block, went);
+    print_last(block, went);
 }
 
 fn sit_for_script(block: &mut [u8]) {
@@ -319,7 +220,7 @@ fn sit_for_script(block: &mut [u8]) {
     let mut name = [0u8; 4096];
     let mut bytes = [0u8; 65536];
     let went = run_names(block, &sheet[..n], &mut name, &mut bytes);
-    if print_count(block, went) {
+    if print_last(block, went) {
         files::tell(went.unread);
     }
 }
@@ -330,9 +231,8 @@ fn called_by_script() -> bool {
     word[0] == b'-' && word[1] == b'0' && word[2] == 0
 }
 
-// A candidate's block has at most 155,702 bytes: a name of 4,096, a report and a line of 32,768, each byte of a name or a line shown as up to four.
 fn main() {
-    let mut block = [0u8; 155702];
+    let mut block = [0u8; LONGEST];
     if called_by_script() {
         sit_for_script(&mut block);
     } else {

@@ -1,8 +1,8 @@
 use native.Mathlib.Omega.{arith}
 use borrow.Author.Needs.{needs}
 use Rattle.io.proofs.Counting.{counts}
-use Rattle.sitting.proofs.at_most.Statement.{statement}
-use Rattle.sitting.proofs.at_most.Tie as tie
+use Rattle.sitting.proofs.blocks.at_most.Statement.{statement}
+use Rattle.sitting.proofs.blocks.at_most.Tie as tie
 
 returns : tie.Need-returns
 returns c = counts _ _ (omega arith)

@@ -1,0 +1,123 @@
+// A candidate's block, put together in a lent buffer so that it is one write: each function writes at a position and answers the position after.
+use judged::Place;
+use judged::Verdict;
+use libc::STDERR_FILENO;
+use libc::STDOUT_FILENO;
+use model::Text;
+ghost use Rattle.io.specs.Counts.{Counts};
+
+// A name of 4,096 bytes and a line of 32,768, each byte shown as four at most, a report of 8,192, and the keys.
+pub(crate) const LONGEST: usize = 155702;
+
+// At most so many of a text's bytes. What `judging` promises lies within its buffer and its texts, so it takes none away.
+pub(crate) fn at_most(size: usize, text: &[u8]) -> usize
+    ensures { λ r. ⌜ Counts r (now (text .entry)) ⌝ }
+{
+    if size <= text.len() {
+        return size;
+    }
+    text.len()
+}
+
+// KEY and a candidate's bytes as they are shown.
+fn write_shown(block: &mut [u8], at: usize, key: &[u8], text: &[u8]) -> usize {
+    let a = inks::write_key(block, at, key);
+    let b = shown::show(block, a, text);
+    inks::write_byte(block, b, b'\n')
+}
+
+fn write_first(block: &mut [u8], at: usize, text: &[u8], size: usize) -> usize {
+    let n = at_most(size, text);
+    inks::write_key(block, at, &text[..n])
+}
+
+// What `judge` prints of this verdict: the report, or after 1 to 5 the three lines.
+fn write_verdict(block: &mut [u8], at: usize, verdict: Verdict, report: &mut [u8]) -> usize {
+    let refused = verdict.refused;
+    let text = verdict.text;
+    match refused {
+        1..=5 => {
+            let used = writers::write_fault(report, text, verdict.line, refused);
+            write_first(block, at, report, used)
+        }
+        _ => write_first(block, at, report, verdict.written),
+    }
+}
+
+fn write_place(block: &mut [u8], at: usize, place: Place) -> usize {
+    let mut line = [0u8; 32];
+    let used = shown::show_place(place, &mut line);
+    inks::write_key(block, at, &line[..used])
+}
+
+// So many bytes of a text, from a place on.
+fn write_part(block: &mut [u8], at: usize, text: &[u8], start: usize, size: usize) -> usize {
+    let from = at_most(start, text);
+    write_line(block, at, &text[from..], size)
+}
+
+fn write_line(block: &mut [u8], at: usize, rest: &[u8], size: usize) -> usize {
+    let n = at_most(size, rest);
+    write_shown(block, at, b"offending=", &rest[..n])
+}
+
+// The line at fault, from whichever text held it.
+fn write_offending(
+    block: &mut [u8],
+    at: usize,
+    sheet: &[u8],
+    answer: &[u8],
+    place: Place,
+) -> usize {
+    let text = place.text;
+    match text {
+        Text::Sheet => write_part(block, at, sheet, place.start, place.size),
+        _ => write_part(block, at, answer, place.start, place.size),
+    }
+}
+
+// One walk gives the report, the verdict and the place.
+fn write_judgement(block: &mut [u8], at: usize, sheet: &[u8], answer: &[u8]) -> usize {
+    let mut report = [0u8; 8192];
+    let judged = judging::judge_and_place(sheet, answer, &mut report);
+    let verdict = judged.verdict;
+    let place = judged.place;
+    let a = write_verdict(block, at, verdict, &mut report);
+    let b = write_place(block, a, place);
+    write_offending(block, b, sheet, answer, place)
+}
+
+fn write_out(file: i32, block: &[u8], used: usize) -> bool {
+    let n = at_most(used, block);
+    io::write_all(file, &block[..n])
+}
+
+// The first bytes of a block, in one write where the system takes them so.
+pub(crate) fn print(block: &[u8], used: usize) -> bool {
+    write_out(STDOUT_FILENO, block, used)
+}
+
+pub(crate) fn say_unreadable(block: &mut [u8], name: &[u8]) {
+    let used = write_shown(block, 0, b"sitting: unreadable: ", name);
+    write_out(STDERR_FILENO, block, used);
+}
+
+pub(crate) fn write_unreadable(block: &mut [u8], name: &[u8]) -> usize {
+    let at = write_shown(block, 0, b"candidate=", name);
+    inks::write_key(block, at, b"unreadable=1\n")
+}
+
+pub(crate) fn write_candidate(block: &mut [u8], name: &[u8], sheet: &[u8], answer: &[u8]) -> usize {
+    let at = write_shown(block, 0, b"candidate=", name);
+    write_judgement(block, at, sheet, answer)
+}
+
+// `candidates=`, and whether it was written.
+pub(crate) fn print_count(block: &mut [u8], candidates: u64) -> bool {
+    let mut digits = [0u8; 20];
+    let k = io::decimal(candidates, &mut digits);
+    let a = inks::write_key(block, 0, b"candidates=");
+    let b = inks::write_key(block, a, &digits[..k]);
+    let used = inks::write_byte(block, b, b'\n');
+    print(block, used)
+}
