@@ -4,6 +4,7 @@ use Prim.Native.Nat.{ℕ}
 use mathlib.Core.Bool.{Bool, not, _&&_, _||_}
 use lib.Dec.{eqb, leb}
 use Rattle.sets.specs.Test.{all, any}
+use Rattle.model.specs.declared.ComponentType.{ComponentType}
 use Rattle.model.specs.declared.Tables.{Tables}
 use Rattle.model.specs.declared.Program.{Program}
 use Rattle.model.specs.declared.Connection.{Connection}
@@ -14,8 +15,11 @@ use Rattle.rules.specs.PushB.{depthOf}
 use Rattle.rules.specs.Con.{isOf, isUsePort, isProvidePort}
 
 -- "a number of a present instance outside its type": the behavior in slot r of its queue
+abbrev pub queuedIn : ComponentType → ℕ → Bool
+queuedIn v b = endOk (v .behaviors) b
+
 unfoldable pub queuedLawful : Tables → Configuration → ℕ → ℕ → Bool
-queuedLawful t c i r = endOk (typeOf t (instance c i .kind) .behaviors) (slot c i r)
+queuedLawful t c i r = queuedIn (typeOf t (instance c i .kind)) (slot c i r)
 
 -- "a number of a present instance outside its type or the limits above", "a queue past the depth"
 unfoldable pub numbersLawful : ℕ → Tables → Configuration → ℕ → Bool

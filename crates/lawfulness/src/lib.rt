@@ -12,8 +12,7 @@ use model::Step;
 use model::Tables;
 use types::types_lawful;
 ghost use mathlib.Core.Path.{_≡_};
-ghost use Rattle.reading.specs.Lawful.{tablesLawful, instructionLawful, programLawful, stepLawful};
-ghost use Rattle.lawfulness.specs.Lent.{verbLawful};
+ghost use Rattle.reading.specs.Lawful.{tablesLawful, verbLawful, instructionLawful, programLawful, stepLawful};
 ghost use Rattle.lawfulness.specs.Lawful.{configurationLawful};
 
 // Every type counts, also one that no instance has.

@@ -7,31 +7,40 @@ use mathlib.Core.Path.{_≡_}
 use lib.Dec.{eqb}
 use lib.ListN.{getD}
 use Rattle.sets.specs.Test.{all}
+use Rattle.model.specs.declared.ComponentType.{ComponentType}
 use Rattle.model.specs.declared.Tables.{Tables}
 use Rattle.model.specs.declared.Instruction.{Instruction}
 use Rattle.model.specs.declared.Program.{Program}
 use Rattle.model.specs.declared.Step.{Step}
 use Rattle.model.specs.declared.Answer.{Answer}
 use Rattle.model.specs.Empty.{noInstruction, noStep}
-use Rattle.model.specs.View.{typeOf, source, destination, behaviorOf, portKind, isUse, groupPlaces, groupTransitions}
+use Rattle.model.specs.View.{typeOf, source, destination, behaviorOf, portKind, groupPlaces, groupTransitions}
 use Rattle.model.specs.Verb.{addVerb, delVerb, pushbVerb, conVerb, dconVerb, waitVerb, nextVerb, fireVerb, endVerb, enterVerb, finishVerb}
 use Rattle.reading.specs.Limits.{depthOk, typesOk, placesOk, transitionsOk, behaviorsOk, portsOk, programOk, stepsOk, kindOk, maskOk, endOk, idOk, placeOk, portOk, transitionOk, behaviorOk, typeOk, initialOk, endsOk, useOk}
 use Rattle.reading.specs.Lines.{on}
 use Rattle.reading.specs.Texts.{sheet, answer}
 
+-- in a type: a transition from place a to place b; a behavior, as a set; a port of a kind, with its places and transitions
+abbrev pub transitionIn : ComponentType → ℕ → ℕ → Bool
+transitionIn v a b = endOk (v .places) a && (endOk (v .places) b && endsOk a b)
+
+abbrev pub behaviorIn : ComponentType → ℕ → Bool
+behaviorIn v m = maskOk (v .transitions) m
+
+abbrev pub portIn : ComponentType → ℕ → ℕ → ℕ → Bool
+portIn v kind places transitions =
+    maskOk (v .places) places && (maskOk (v .transitions) transitions
+    && (kindOk kind && (not (eqb kind 1) || useOk (v .initial) places)))
+
 -- transition x, behavior b, port q of type i
 unfoldable pub transitionLawful : Tables → ℕ → ℕ → Bool
-transitionLawful t i x =
-    endOk (typeOf t i .places) (source t i x) && (endOk (typeOf t i .places) (destination t i x)
-    && endsOk (source t i x) (destination t i x))
+transitionLawful t i x = transitionIn (typeOf t i) (source t i x) (destination t i x)
 
 unfoldable pub behaviorLawful : Tables → ℕ → ℕ → Bool
-behaviorLawful t i b = maskOk (typeOf t i .transitions) (behaviorOf t i b)
+behaviorLawful t i b = behaviorIn (typeOf t i) (behaviorOf t i b)
 
 unfoldable pub portLawful : Tables → ℕ → ℕ → Bool
-portLawful t i q =
-    maskOk (typeOf t i .places) (groupPlaces t i q) && (maskOk (typeOf t i .transitions) (groupTransitions t i q)
-    && (kindOk (portKind t i q) && (not (isUse t i q) || useOk (typeOf t i .initial) (groupPlaces t i q))))
+portLawful t i q = portIn (typeOf t i) (portKind t i q) (groupPlaces t i q) (groupTransitions t i q)
 
 -- type i
 unfoldable pub typeLawful : Tables → ℕ → Bool
@@ -44,14 +53,16 @@ typeLawful t i =
 unfoldable pub tablesLawful : Tables → Bool
 tablesLawful t = depthOk (t .depth) && (typesOk (t .count) && all (t .count) (typeLawful t))
 
--- an instruction, in a sheet of n types
-unfoldable pub instructionLawful : ℕ → Instruction → Bool
-instructionLawful n x =
-    idOk (x .id)
-    && cond (eqb (x .verb) addVerb) (typeOk n (x .number))
+-- what an instruction's verb asks of its other numbers, in a sheet of n types
+abbrev pub verbLawful : ℕ → Instruction → Bool
+verbLawful n x =
+    cond (eqb (x .verb) addVerb) (typeOk n (x .number))
     (cond (eqb (x .verb) pushbVerb) (behaviorOk (x .number))
     (cond (eqb (x .verb) conVerb || eqb (x .verb) dconVerb) (portOk (x .number) && (idOk (x .provider) && portOk (x .provideport)))
     (eqb (x .verb) delVerb || eqb (x .verb) waitVerb)))
+
+unfoldable pub instructionLawful : ℕ → Instruction → Bool
+instructionLawful n x = idOk (x .id) && verbLawful n x
 
 unfoldable pub programLawful : ℕ → Program → Bool
 programLawful n p = programOk (p .count) && all (p .count) (λ j. instructionLawful n (getD (p .instructions) j noInstruction))

@@ -1,34 +1,26 @@
 use borrow.Author.Tests.{ne-eqb}
-use Rattle.lawfulness.specs.Lent.{verbLawful}
 use Rattle.lawfulness.proofs.verb_lawful.Statement.{statement}
 use Rattle.lawfulness.proofs.verb_lawful.Tie as tie
 
 returns : tie.Need-returns
-unfolding verbLawful
 returns c = rw (c .before .match .keys1)
 
 returns-2 : tie.Need-returns-2
-unfolding verbLawful
 returns-2 c = rw (c .match .keys2)
 
 returns-3 : tie.Need-returns-3
-unfolding verbLawful
 returns-3 c = rw (c .before .match .keys3)
 
 returns-4 : tie.Need-returns-4
-unfolding verbLawful
 returns-4 c = rw (c .before .before .before .match .keys4)
 
 returns-5 : tie.Need-returns-5
-unfolding verbLawful
 returns-5 c = rw (c .before .before .before .match .keys5)
 
 returns-6 : tie.Need-returns-6
-unfolding verbLawful
 returns-6 c = rw (c .match .keys6)
 
 returns-7 : tie.Need-returns-7
-unfolding verbLawful
 returns-7 c =
     let r = c .match .rest in
     rw (
