@@ -8,6 +8,7 @@ use Rattle.model.specs.declared.Program.{Program}
 use Rattle.model.specs.declared.Step.{Step}
 use Rattle.model.specs.declared.Answer.{Answer}
 use Rattle.model.specs.declared.Configuration.{Configuration}
+use Rattle.model.specs.declared.Stepped.{Stepped}
 use Rattle.model.specs.declared.Walked.{Walked}
 use Rattle.model.specs.Empty.{start}
 use Rattle.model.specs.View.{stepsOf}
@@ -16,13 +17,18 @@ use Rattle.rules.specs.Step.{step}
 unfoldable pub oneMore : Walked → Walked
 oneMore w = record { accepted = suc (w .accepted); refused = w .refused; configuration = w .configuration }
 
-unfoldable pub walk : ℕ → Tables → Program → Configuration → List Step → Walked
-walk default t p c [] = record { accepted = 0; refused = 0; configuration = c }
-walk default t p c (s ∷ ss) =
-    elim (eqb (step default t p c s .refused) 0) [
-      | true ↦ oneMore (walk default t p (step default t p c s .configuration) ss)
-      | false ↦ record { accepted = 0; refused = step default t p c s .refused; configuration = step default t p c s .configuration }
+-- the steps by a machine that answers each of them, to their end or to the first that it refuses
+abbrev pub walkBy : (Configuration → Step → Stepped) → Configuration → List Step → Walked
+walkBy answers c [] = record { accepted = 0; refused = 0; configuration = c }
+walkBy answers c (s ∷ ss) =
+    elim (eqb (answers c s .refused) 0) [
+      | true ↦ oneMore (walkBy answers (answers c s .configuration) ss)
+      | false ↦ record { accepted = 0; refused = answers c s .refused; configuration = answers c s .configuration }
     ]
+
+-- by the rules
+unfoldable pub walk : ℕ → Tables → Program → Configuration → List Step → Walked
+walk default t p c ss = walkBy (step default t p) c ss
 
 -- an answer's walk from the empty start
 unfoldable pub walkAnswer : ℕ → Tables → Program → Answer → Walked
