@@ -2,6 +2,9 @@
 // Proved: the marked cases, that 6 never occurs with a room of 8,192, that the four shams are told apart, that no other outcome fits.
 use model::Text;
 
+// "0 stands for the default, 4": `default` of specs/Course, in code.
+pub const DEFAULT_DEPTH: u8 = 4;
+
 // `refused` is the number or 0; `written` the bytes of the report; `text` and `line` are told for 1 to 5 alone.
 pub struct Verdict {
     pub refused: u8,

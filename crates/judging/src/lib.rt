@@ -1,5 +1,6 @@
 // The judge: two texts and a lent buffer come to a verdict, a report, what the program prints, and the line at fault.
 // Promised: on any bytes, every field and byte is what crates/judged/specs says, and the line at fault is that very part of its text.
+use judged::DEFAULT_DEPTH;
 use judged::Place;
 use judged::Verdict;
 use model::Answer;
@@ -23,10 +24,8 @@ ghost use Rattle.judging.specs.Came.{came, saying, sheetSeen, answerSeen
 ghost use Rattle.judging.specs.Counts.{Counts};
 ghost use Rattle.judging.specs.Part.{PartAt};
 
-// "Each text has at most 32,768 bytes"; "0 stands for the default, 4".
+// "Each text has at most 32,768 bytes".
 const LONGEST: usize = 32768;
-
-const DEFAULT: u8 = 4;
 
 // No report that two texts come to has more bytes.
 const LARGEST: usize = 8182;
@@ -155,7 +154,7 @@ fn walk_sheet<'a>(
     let types = read.types;
     let program = read.program;
     let walked = walks::walk(
-        DEFAULT,
+        DEFAULT_DEPTH,
         read.depth,
         types,
         source,

@@ -1,6 +1,7 @@
 // Timing: a sheet, an answer, a text of times and a lent buffer come to the judge's verdict, a report that ends in its mark, and the mark.
 // Promised: on any bytes, every field and byte is what crates/timed/specs says, and the line at fault is that very part of its text.
 use clocks::TimedWalk;
+use judged::DEFAULT_DEPTH;
 use judged::Place;
 use judged::Verdict;
 use judging::Outcome;
@@ -22,9 +23,6 @@ ghost use Rattle.times.specs.Refusal.{timesNumber};
 ghost use Rattle.timed.specs.Timed.{clocked, timedCourse, markedReport, numbered, markInRoom, timed, timedVerdict, timedBuffer, timedPrinted};
 ghost use Rattle.timekeeping.specs.Came.{came};
 ghost use Rattle.timekeeping.specs.Part.{PartOf};
-
-// "0 stands for the default, 4".
-const DEFAULT: u8 = 4;
 
 // A text is refused with a reader's number at a place of it, or all three are read.
 enum TimedOutcome {
@@ -70,7 +68,7 @@ fn clock_pair(pair: Pair, times: &[u8]) -> Ended
     let program = pair.program;
     let steps = pair.steps;
     let seconds = listed.times;
-    let walk = clocks::walk_timed(DEFAULT, tables, program, steps, seconds);
+    let walk = clocks::walk_timed(DEFAULT_DEPTH, tables, program, steps, seconds);
     come_to(TimedOutcome::Reached, walk)
 }
 
