@@ -4,7 +4,7 @@ use mathlib.Core.Path.{_≡_, refl, sym, ap, _∙_}
 use mathlib.Core.Logic.{by-cases}
 use mathlib.Core.Bool.{true, false}
 use mathlib.Core.List.{List, [], _∷_}
-use Prim.Native.Nat.{ℕ, suc, _≤_, _<_}
+use Prim.Native.Nat.{ℕ, suc, _<_}
 use native.Mathlib.Decide.{ℕ-discrete}
 use native.Mathlib.Omega.{arith}
 use lib.Dec.{eqb}
@@ -26,18 +26,19 @@ use Rattle.reading.specs.Limits.{stepsOk}
 use Rattle.reading.specs.Lawful.{Lawful, stepLawful, answerLawful, SheetsAreLawful, AnswersAreLawful}
 use Rattle.reading.proofs.Lawful.{sheets-are-lawful, answers-are-lawful}
 use Rattle.rules.specs.Step.{number, after, step}
-use Rattle.rules.specs.Walk.{oneMore, walk, walkAnswer}
+use Rattle.rules.specs.Walk.{oneMore, walkBy, walk, walkAnswer}
 use Rattle.rules.specs.Proper.{Proper}
-use Rattle.rules.proofs.Walks.{step-on, step-stop, walk-on, walk-stop}
+use Rattle.rules.proofs.Walks.{step-on, step-stop}
 use Rattle.rules.proofs.Tables.{facts}
 use Rattle.rules.proofs.Proper.{start-proper, step-proper}
+use Rattle.judged.specs.Course.{default}
 use Rattle.hall.specs.Screen.{lentLawful, hallStep}
 use Rattle.hall.specs.Agree.{hallWalk, ProperIsLawful, SheetsBreakNone, HallWalksAlike}
 use Rattle.hall.proofs.Proper.{proper-is-lawful}
 
 pub sheets-break-none : SheetsBreakNone
 unfolding SheetsBreakNone SheetsAreLawful Lawful lentLawful
-sheets-break-none default x r t p c s e = let law = sheets-are-lawful x r t p e in rw (law .0, law .1)
+sheets-break-none x r t p c s e = let law = sheets-are-lawful x r t p e in rw (law .0, law .1)
 
 -- each step of the list is one that an answer line can say
 abbrev Steps : List Step → Type 0
@@ -49,32 +50,28 @@ steps-lawful a e j l =
     let b : j < a .count = omega (arith, length-take (a .count) (a .steps)) in
     ap stepLawful (getD-take (a .count) (a .steps) j noStep b) ∙ all-at (a .count) _ (and-right (stepsOk (a .count)) _ e) j b
 
-module _ (default : ℕ) (t : Tables) (p : Program) (small : default ≤ 8) (law : Lawful t p) where
+module _ (t : Tables) (p : Program) (law : Lawful t p) where
   -- a lawful step at a point of a walk gets the rules' answer
-  ruled : (c : Configuration) (s : Step) → Proper default t p c → stepLawful s ≡ true → hallStep default t p c s ≡ step default t p c s
+  ruled : (c : Configuration) (s : Step) → Proper default t p c → stepLawful s ≡ true → hallStep t p c s ≡ step default t p c s
   unfolding ProperIsLawful Lawful hallStep lentLawful
   ruled c s h e = rw (law .0, law .1, e, proper-is-lawful default t p c h)
 
-  -- the screen's walk after its first step
-  onward : List Step → Stepped → Walked
-  onward ss m =
-      elim (eqb (m .refused) 0) [
-        | true ↦ oneMore (hallWalk default t p (m .configuration) ss)
-        | false ↦ record { accepted = 0; refused = m .refused; configuration = m .configuration }
-      ]
-
-  alike : (ss : List Step) (c : Configuration) → Proper default t p c → Steps ss → hallWalk default t p c ss ≡ walk default t p c ss
-  unfolding hallWalk walk onward
+  alike : (ss : List Step) (c : Configuration) → Proper default t p c → Steps ss → hallWalk t p c ss ≡ walk default t p c ss
+  unfolding hallWalk walk
   alike [] c h f = refl
   alike (s ∷ ss) c h f =
       let rest : Steps ss = λ j l. f (suc j) (omega arith) in
       let first = ruled c s h (f 0 (omega arith)) in
       by-cases (ℕ-discrete (number default t p c s) 0)
-      (λ e. ap (onward ss) (first ∙ step-on default t p c s e)
-      ∙ ap oneMore (alike ss (after t p c s) (step-proper default t p (facts default t p small law) c s h e) rest) ∙ sym (walk-on default t p c s ss e))
-      (λ n. ap (onward ss) (first ∙ step-stop default t p c s n) ∙ rw (ne-eqb (number default t p c s) 0 n, onward) (sym (walk-stop default t p c s ss n)))
+      (λ e.
+      let same = first ∙ step-on default t p c s e in
+      rw (walkBy, same, step-on default t p c s e, same, step-on default t p c s e)
+      (ap oneMore (alike ss (after t p c s) (step-proper default t p (facts default t p (omega arith) law) c s h e) rest)))
+      (λ n.
+      let same = first ∙ step-stop default t p c s n in
+      rw (walkBy, same, step-stop default t p c s n, ne-eqb (number default t p c s) 0 n, same, step-stop default t p c s n))
 
 pub hall-walks-alike : HallWalksAlike
 unfolding HallWalksAlike SheetsAreLawful AnswersAreLawful walkAnswer
-hall-walks-alike default x r y q t p a small e f =
-    alike default t p small (sheets-are-lawful x r t p e) (stepsOf a) start (start-proper default t p) (steps-lawful a (answers-are-lawful y q a f))
+hall-walks-alike x r y q t p a e f =
+    alike t p (sheets-are-lawful x r t p e) (stepsOf a) start (start-proper default t p) (steps-lawful a (answers-are-lawful y q a f))

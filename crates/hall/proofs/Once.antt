@@ -5,7 +5,7 @@ use Rattle.hall.specs.Once.{NoOtherStepped, NoOtherLeft}
 
 pub stepped-once : NoOtherStepped
 unfolding NoOtherStepped
-stepped-once default t p c s m n h g = h ∙ sym g
+stepped-once t p c s m n h g = h ∙ sym g
 
 pub left-once : NoOtherLeft
 unfolding NoOtherLeft

@@ -1,4 +1,4 @@
--- The number that the screen answers, and what a refusal of it leaves.
+-- Where the screen answers 7, and what a refusal of it leaves.
 -- Assumes nothing.
 use mathlib.Core.Path.{_≡_, sym, ap, _∙_}
 use mathlib.Core.Logic.{_≢_, by-cases, ⊎-elim}
@@ -15,8 +15,9 @@ use Rattle.rules.specs.Refused.{RefusedChangesNothing}
 use Rattle.rules.specs.Step.{number, step}
 use Rattle.rules.proofs.Walks.{step-on, step-stop, refused-changes-nothing}
 use Rattle.rules.proofs.Numbers.{Numbered, step-numbered}
-use Rattle.hall.specs.Screen.{limitBroken, lentLawful, hallNumber, hallStep}
-use Rattle.hall.specs.Agree.{NumbersAgree, RefusedLeaves, SevenExactly}
+use Rattle.judged.specs.Course.{default}
+use Rattle.hall.specs.Screen.{limitBroken, lentLawful, hallStep}
+use Rattle.hall.specs.Agree.{RefusedLeaves, SevenExactly}
 
 -- the number of a step by value
 pub step-number : (default : ℕ) (t : Tables) (p : Program) (c : Configuration) (s : Step) → step default t p c s .refused ≡ number default t p c s
@@ -24,22 +25,18 @@ step-number default t p c s =
     by-cases (ℕ-discrete (number default t p c s) 0) (λ e. ap (λ (m : Stepped). m .refused) (step-on default t p c s e) ∙ sym e)
     (λ n. ap (λ (m : Stepped). m .refused) (step-stop default t p c s n))
 
-pub numbers-agree : NumbersAgree
-unfolding NumbersAgree hallStep hallNumber
-numbers-agree default t p c s = by-test (lentLawful default t p c s) (λ e. rw e (step-number default t p c s)) (λ e. rw e)
-
 pub refused-leaves : RefusedLeaves
 unfolding RefusedLeaves RefusedChangesNothing hallStep
-refused-leaves default t p c s n =
-    by-test (lentLawful default t p c s) (λ e. rw e (refused-changes-nothing default t p c s (rw e at n))) (λ e. rw e)
+refused-leaves t p c s n =
+    by-test (lentLawful t p c s) (λ e. rw e (refused-changes-nothing default t p c s (rw e at n))) (λ e. rw e)
 
 -- a step's number is 0 or 10 to 37
 not-seven : {n : ℕ} → Numbered n → n ≢ limitBroken
 not-seven {n} h = ⊎-elim (λ e. omega arith) (λ e. omega arith) (h .range)
 
 pub seven-exactly : SevenExactly
-unfolding SevenExactly hallNumber
-seven-exactly default t p c s = (
-  λ q. by-test (lentLawful default t p c s) (λ e. absurd (not-seven (step-numbered default t p c s) (rw e at q))) (λ e. e),
+unfolding SevenExactly hallStep
+seven-exactly t p c s = (
+  λ q. by-test (lentLawful t p c s) (λ e. absurd (not-seven (step-numbered default t p c s) (sym (step-number default t p c s) ∙ (rw e at q)))) (λ e. e),
   λ e. rw e,
 )

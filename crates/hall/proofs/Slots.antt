@@ -33,6 +33,7 @@ use Rattle.rules.proofs.Connections.{place-in}
 use Rattle.rules.proofs.Tables.{facts}
 use Rattle.rules.proofs.Proper.{Lawfully, step-lawfully}
 use Rattle.rules.proofs.Walks.{step-on, number-facts, after-cases, after-done}
+use Rattle.judged.specs.Course.{default}
 use Rattle.lawfulness.specs.Lawful.{numbersLawful, instanceLawful, connectionsLawful, configurationLawful}
 use Rattle.hall.specs.Screen.{lentLawful, hallStep}
 use Rattle.hall.specs.Slots.{Whole, Holds, inInstance, gapClosed, slots, EverySlot}
@@ -147,8 +148,7 @@ module _ (t : Tables) (c : Configuration) (whole : Whole c) where
           count = o .count;
         }
 
-module _ (default : ℕ) (t : Tables) (p : Program) (c : Configuration) (s : Step) (small : default ≤ 8) (whole : Whole c)
-    (lawful : lentLawful default t p c s ≡ true) where
+module _ (t : Tables) (p : Program) (c : Configuration) (s : Step) (whole : Whole c) (lawful : lentLawful t p c s ≡ true) where
   law : Lawful t p
   unfolding Lawful lentLawful
   law = (and-left (tablesLawful t) _ lawful, and-left (programLawful (t .count) p) _ (and-right (tablesLawful t) _ lawful))
@@ -176,16 +176,16 @@ module _ (default : ℕ) (t : Tables) (p : Program) (c : Configuration) (s : Ste
   each : number default t p c s ≡ 0 → Holds (after t p c s) (slots t c (action p c s))
   unfolding withDone
   each e =
-      let l = facts default t p small law in
+      let l = facts default t p (omega arith) law in
       let h = holds t c whole default (l .depth) few short (action p c s) (step-lawfully default t p l c s e) (number-facts default t p c s e .0) in
       after-cases t p (λ (d : Configuration). Holds d (slots t c (action p c s))) c s
       (λ _. record { instances = h .instances; queues = h .queues; connections = h .connections; count = h .count }) (λ _. h)
 
 pub every-slot : EverySlot
 unfolding EverySlot hallStep
-every-slot default t p c s small whole ok =
-    by-test (lentLawful default t p c s)
+every-slot t p c s whole ok =
+    by-test (lentLawful t p c s)
     (λ lawful.
     let e : number default t p c s ≡ 0 = sym (step-number default t p c s) ∙ (rw lawful at ok) in
-    rw (lawful, step-on default t p c s e) (each default t p c s small whole lawful e, after-done t p c s))
+    rw (lawful, step-on default t p c s e) (each t p c s whole lawful e, after-done t p c s))
     (λ broken. absurd (omega (arith, rw broken at ok)))

@@ -1,232 +1,202 @@
--- Each clause of 01's sentence on number 7 by itself, as one table: of what is lawfully lent one number is left open, and the row says a value
--- at which all is lawful and one at which it is not. (No types or places, 17 types and 65 connections break another clause with their own.)
+-- Each clause of 01's sentence on number 7 by itself, as one table: of what is lawfully lent one number is changed, and the row names it and
+-- says a value at which all is lawful and one at which it is not. (No types or places, 17 types and 65 connections break another clause too.)
 use Prim.Native.Nat.{ℕ}
-use mathlib.Core.Bool.{Bool, true, _&&_}
+use Prim.Native.String.{String}
+use mathlib.Core.Bool.{Bool, true, _&&_, cond}
 use mathlib.Core.List.{List, [], _∷_, _++_}
 use mathlib.Core.Path.{_≡_}
 use lib.Dec.{eqb}
-use lib.ListN.{replicate, set}
+use lib.ListN.{replicate}
+use lib.Text.{eqt}
 use Rattle.model.specs.declared.ComponentType.{ComponentType}
 use Rattle.model.specs.declared.Tables.{Tables}
-use Rattle.model.specs.declared.Instruction.{Instruction}
 use Rattle.model.specs.declared.Program.{Program}
 use Rattle.model.specs.declared.Step.{Step}
 use Rattle.model.specs.declared.Instance.{Instance}
-use Rattle.model.specs.declared.Connection.{Connection}
 use Rattle.model.specs.declared.Configuration.{Configuration}
 use Rattle.model.specs.Empty.{noInstruction, absent, noConnection}
-use Rattle.model.specs.Verb.{addVerb, pushbVerb, conVerb, dconVerb, fireVerb, endVerb, enterVerb, finishVerb}
-use Rattle.judged.specs.Course.{default}
+use Rattle.model.specs.Verb.{addVerb, delVerb, pushbVerb, conVerb, dconVerb, waitVerb, fireVerb, endVerb, enterVerb, finishVerb}
+use Rattle.reading.specs.Kinds.{instruction}
 use Rattle.hall.specs.Screen.{limitBroken, lentLawful, hallStep}
 
--- ---- what is lawfully lent, and the same with a part of it given
+-- ---- what is lent, with a number changed
 
--- the type in every row, also in those past the count: two places, the first initial, one transition between them and one behavior of it;
+-- what a number is, given its name and what it is in the base
+abbrev pub Numbers : Type 0
+Numbers = String → ℕ → ℕ
+
+abbrev pub base : Numbers
+base name n = n
+
+-- the numbers f, but the one of this name is k
+abbrev pub but : Numbers → String → ℕ → Numbers
+but f changed k name n = cond (eqt name changed) k (f name n)
+
+-- two places, the first initial, one transition between them and one behavior of it;
 -- port 0 uses and has the second place, port 1 provides and has the first and the transition
-abbrev pub type : ℕ → ℕ → ℕ → ℕ → ℕ → ComponentType
-type places initial transitions behaviors ports =
-    record { places = places; initial = initial; transitions = transitions; behaviors = behaviors; ports = ports }
-
-abbrev pub plain : ComponentType
-plain = type 2 1 1 1 2
-
-abbrev pub tables : ℕ → ℕ → ComponentType → List ℕ → List ℕ → List ℕ → List ℕ → List ℕ → List ℕ → Tables
-tables depth count v source destination behaviors uses places transitions = record {
-  depth = depth;
-  count = count;
-  types = v ∷ replicate 15 plain;
-  transitions = record { source = source; destination = destination };
-  behaviors = behaviors;
-  ports = record { uses = uses; places = places; transitions = transitions };
+abbrev pub type : Numbers → ComponentType
+type f = record {
+  places = f "places" 2;
+  initial = f "initial" 1;
+  transitions = f "transitions" 1;
+  behaviors = f "behaviors" 1;
+  ports = f "ports" 2;
 }
 
-abbrev pub sources : List ℕ
-sources = replicate 512 0
-
-abbrev pub destinations : List ℕ
-destinations = replicate 512 1
-
-abbrev pub behaviors : List ℕ
-behaviors = replicate 128 1
-
-abbrev pub kinds : List ℕ
-kinds = 1 ∷ replicate 255 0
-
-abbrev pub groups : List ℕ
-groups = 2 ∷ replicate 255 1
-
-abbrev pub holds : List ℕ
-holds = 0 ∷ replicate 255 1
-
--- one type; its head, its record, the ends of its transition, its behavior, port q of it
-abbrev pub headed : ℕ → ℕ → Tables
-headed depth count = tables depth count plain sources destinations behaviors kinds groups holds
-
-abbrev pub typed : ComponentType → Tables
-typed v = tables 0 1 v sources destinations behaviors kinds groups holds
-
-abbrev pub leading : ℕ → ℕ → Tables
-leading from to = tables 0 1 plain (set sources 0 from) (set destinations 0 to) behaviors kinds groups holds
-
-abbrev pub behaving : ℕ → Tables
-behaving m = tables 0 1 plain sources destinations (set behaviors 0 m) kinds groups holds
-
-abbrev pub porting : ℕ → ℕ → ℕ → ℕ → Tables
-porting q kind group held = tables 0 1 plain sources destinations behaviors (set kinds q kind) (set groups q group) (set holds q held)
-
--- two instructions, the first of them done
-abbrev pub program : Instruction → ℕ → Program
-program x n = record { instructions = x ∷ replicate 255 noInstruction; count = n }
-
-abbrev pub instruction : ℕ → ℕ → ℕ → ℕ → ℕ → Instruction
-instruction verb id number provider provideport = record { verb = verb; id = id; number = number; provider = provider; provideport = provideport }
-
--- instances 0, 1 and 2 of that type, each in its first place; instance 0 has behavior 0 in its queue; 1 and 2 use 0
-abbrev pub standing : ℕ → ℕ → ℕ → ℕ → ℕ → Instance
-standing kind marked running ended queued =
-    record { present = true; kind = kind; marked = marked; running = running; ended = ended; queued = queued }
-
-abbrev pub between : ℕ → ℕ → ℕ → ℕ → Connection
-between user useport provider provideport = record { user = user; useport = useport; provider = provider; provideport = provideport }
-
-abbrev pub configuration : Instance → ℕ → Connection → Connection → ℕ → ℕ → Configuration
-configuration v behavior k l count done = record {
-  instances = v ∷ standing 0 1 0 0 0 ∷ standing 0 1 0 0 0 ∷ replicate 29 absent;
-  queue = behavior ∷ replicate 255 0;
-  connections = k ∷ l ∷ replicate 62 noConnection;
-  count = count;
-  done = done;
+-- one type; the rows past its counts are lawful too
+abbrev pub tables : Numbers → Tables
+tables f = record {
+  depth = f "depth" 0;
+  count = f "types" 1;
+  types = type f ∷ replicate 15 (type base);
+  transitions = record { source = f "source" 0 ∷ replicate 511 0; destination = f "destination" 1 ∷ replicate 511 1 };
+  behaviors = f "behavior" 1 ∷ replicate 127 1;
+  ports = record {
+    uses = 1 ∷ f "port 1" 0 ∷ replicate 254 0;
+    places = f "port 0 places" 2 ∷ f "port 1 places" 1 ∷ replicate 254 1;
+    transitions = 0 ∷ f "port 1 transitions" 1 ∷ replicate 254 1;
+  };
 }
 
-abbrev pub first : Instance
-first = standing 0 1 0 0 1
+-- an instruction of each verb, the first of them done
+abbrev pub program : Numbers → Program
+program f = record {
+  instructions =
+      instruction addVerb (f "add id" 0) (f "add type" 0) 0 0
+      ∷ instruction delVerb (f "del id" 0) 0 0 0
+      ∷ instruction pushbVerb (f "pushb id" 0) (f "pushb behavior" 0) 0 0
+      ∷ instruction conVerb (f "con user" 0) (f "con useport" 0) (f "con provider" 0) (f "con provideport" 0)
+      ∷ instruction dconVerb (f "dcon user" 0) (f "dcon useport" 0) (f "dcon provider" 0) (f "dcon provideport" 0)
+      ∷ instruction (f "verb" waitVerb) (f "wait id" 0) 0 0 0
+      ∷ replicate 250 noInstruction;
+  count = f "program" 6;
+}
 
-abbrev pub instances : Instance → ℕ → Configuration
-instances v behavior = configuration v behavior (between 1 0 0 1) (between 2 0 0 1) 2 1
+-- an instance of that type in its first place
+abbrev pub standing : Numbers → ℕ → Instance
+standing f n = record {
+  present = true;
+  kind = f "instance type" 0;
+  marked = f "marked" 1;
+  running = f "running" 0;
+  ended = f "ended" 0;
+  queued = f "queued" n;
+}
 
-abbrev pub connections : Connection → Connection → Configuration
-connections k l = configuration first 0 k l 2 1
+-- instances 0, 1 and 2; instance 0 has behavior 0 in its queue; 1 and 2 use 0
+abbrev pub configuration : Numbers → Configuration
+configuration f = record {
+  instances = standing f 1 ∷ standing base 0 ∷ standing base 0 ∷ replicate 29 absent;
+  queue = f "queue" 0 ∷ replicate 255 0;
+  connections =
+      record { user = f "user" 1; useport = f "useport" 0; provider = f "provider" 0; provideport = f "provideport" 1 }
+      ∷ record { user = f "second user" 2; useport = 0; provider = 0; provideport = 1 }
+      ∷ replicate 62 noConnection;
+  count = f "connections" 2;
+  done = f "done" 1;
+}
 
-abbrev pub counts : ℕ → ℕ → Configuration
-counts count done = configuration first 0 (between 1 0 0 1) (between 2 0 0 1) count done
-
-abbrev pub step : ℕ → ℕ → ℕ → Step
-step verb id number = record { verb = verb; id = id; number = number }
+-- the first place of instance 0 may be left
+abbrev pub step : Numbers → Step
+step f = record { verb = f "step" fireVerb; id = f "step id" 0; number = f "step number" 0 }
 
 -- ---- the rows
 
--- all that is lent
-pub record Lent : Type 0 where
-  pub tables : Tables
-  pub program : Program
-  pub configuration : Configuration
-  pub step : Step
-
-abbrev pub lent : Tables → Program → Configuration → Step → Lent
-lent t p c s = record { tables = t; program = p; configuration = c; step = s }
-
--- the first place of instance 0 may be left
-abbrev pub base : Lent
-base = lent (headed 0 1) (program noInstruction 2) (counts 2 1) (step fireVerb 0 0)
-
--- the base with a number open, a value at which it is lawful, and one at which it is not
+-- a number of what is lent, a value at which all is lawful, and one at which it is not
 pub record Row : Type 0 where
-  pub given : ℕ → Lent
+  pub from : Numbers
+  pub name : String
   pub lawful : ℕ
   pub broken : ℕ
 
-abbrev pub inTables : (ℕ → Tables) → ℕ → ℕ → Row
-inTables f n m = record { given = λ x. lent (f x) (base .program) (base .configuration) (base .step); lawful = n; broken = m }
+abbrev pub row : String → ℕ → ℕ → Row
+row name n m = record { from = base; name = name; lawful = n; broken = m }
 
-abbrev pub inProgram : (ℕ → Program) → ℕ → ℕ → Row
-inProgram f n m = record { given = λ x. lent (base .tables) (f x) (base .configuration) (base .step); lawful = n; broken = m }
+-- the same with another verb of the step
+abbrev pub moving : ℕ → String → ℕ → ℕ → Row
+moving verb name n m = record { from = but base "step" verb; name = name; lawful = n; broken = m }
 
-abbrev pub inConfiguration : (ℕ → Configuration) → ℕ → ℕ → Row
-inConfiguration f n m = record { given = λ x. lent (base .tables) (base .program) (f x) (base .step); lawful = n; broken = m }
-
-abbrev pub inStep : (ℕ → Step) → ℕ → ℕ → Row
-inStep f n m = record { given = λ x. lent (base .tables) (base .program) (base .configuration) (f x); lawful = n; broken = m }
-
--- "tables or program break a sheet's rules": the limits, then the clauses of 4
+-- "tables or program break a sheet's rules": the limits, then "`initial` empty; `tran` with source equal to destination; a use port whose
+-- group has an initial place"
 abbrev pub tableRows : List Row
 tableRows =
-    -- the depth; too few types and too many
-    inTables (λ n. headed n 1) 8 9
-    ∷ inTables (λ n. headed 0 n) 1 0
-    ∷ inTables (λ n. headed 0 n) 16 17
-    -- too few places and too many; an initial place outside; transitions, and an end of one outside; behaviors, and a transition of one outside
-    ∷ inTables (λ n. typed (type n 1 1 1 2)) 2 0
-    ∷ inTables (λ n. typed (type n 1 1 1 2)) 16 17
-    ∷ inTables (λ n. typed (type 2 n 1 1 2)) 1 4
-    ∷ inTables (λ n. typed (type 2 1 n 1 2)) 32 33
-    ∷ inTables (λ n. leading n 1) 0 2
-    ∷ inTables (λ n. leading 0 n) 1 2
-    ∷ inTables (λ n. typed (type 2 1 1 n 2)) 8 9
-    ∷ inTables behaving 1 2
-    -- ports; a kind that is neither; a place and a transition of a group outside
-    ∷ inTables (λ n. typed (type 2 1 1 1 n)) 16 17
-    ∷ inTables (λ n. porting 1 n 1 1) 0 2
-    ∷ inTables (λ n. porting 1 0 n 1) 1 4
-    ∷ inTables (λ n. porting 1 0 1 n) 1 2
-    -- "`initial` empty; `tran` with source equal to destination; a use port whose group has an initial place"
-    ∷ inTables (λ n. typed (type 2 n 1 1 2)) 1 0
-    ∷ inTables (λ n. leading n 1) 0 1
-    ∷ inTables (λ n. porting 0 1 n 0) 2 1
+    row "depth" 8 9
+    ∷ row "types" 1 0
+    ∷ row "types" 16 17
+    ∷ row "places" 2 0
+    ∷ row "places" 16 17
+    ∷ row "initial" 1 4
+    ∷ row "transitions" 32 33
+    ∷ row "source" 0 2
+    ∷ row "destination" 1 2
+    ∷ row "behaviors" 8 9
+    ∷ row "behavior" 1 2
+    ∷ row "ports" 16 17
+    ∷ row "port 1" 0 2
+    ∷ row "port 1 places" 1 4
+    ∷ row "port 1 transitions" 1 2
+    ∷ row "initial" 1 0
+    ∷ row "source" 0 1
+    ∷ row "port 0 places" 2 1
     ∷ []
 
--- how many instructions; of one that is done: a code that no line says, an id, a type, a behavior, the ports and the provider
 abbrev pub programRows : List Row
 programRows =
-    inProgram (program noInstruction) 256 257
-    ∷ inProgram (λ n. program (instruction n 0 0 0 0) 2) 5 6
-    ∷ inProgram (λ n. program (instruction addVerb n 0 0 0) 2) 31 32
-    ∷ inProgram (λ n. program (instruction addVerb 0 n 0 0) 2) 0 1
-    ∷ inProgram (λ n. program (instruction pushbVerb 0 n 0 0) 2) 7 8
-    ∷ inProgram (λ n. program (instruction conVerb 0 n 0 0) 2) 15 16
-    ∷ inProgram (λ n. program (instruction conVerb 0 0 n 0) 2) 31 32
-    ∷ inProgram (λ n. program (instruction conVerb 0 0 0 n) 2) 15 16
-    ∷ inProgram (λ n. program (instruction dconVerb 0 n 0 0) 2) 15 16
-    ∷ inProgram (λ n. program (instruction dconVerb 0 0 n 0) 2) 31 32
-    ∷ inProgram (λ n. program (instruction dconVerb 0 0 0 n) 2) 15 16
+    row "program" 256 257
+    ∷ row "verb" waitVerb 6
+    ∷ row "add id" 31 32
+    ∷ row "add type" 0 1
+    ∷ row "del id" 31 32
+    ∷ row "pushb id" 31 32
+    ∷ row "pushb behavior" 7 8
+    ∷ row "con user" 31 32
+    ∷ row "con useport" 15 16
+    ∷ row "con provider" 31 32
+    ∷ row "con provideport" 15 16
+    ∷ row "dcon user" 31 32
+    ∷ row "dcon useport" 15 16
+    ∷ row "dcon provider" 31 32
+    ∷ row "dcon provideport" 15 16
+    ∷ row "wait id" 31 32
     ∷ []
 
--- "the step breaks an answer line's": a code that no line says, ids, places and transitions
+-- "the step breaks an answer line's"
 abbrev pub stepRows : List Row
 stepRows =
-    inStep (λ n. step n 0 0) 4 5
-    ∷ inStep (λ n. step fireVerb n 0) 31 32
-    ∷ inStep (λ n. step fireVerb 0 n) 15 16
-    ∷ inStep (λ n. step endVerb n 0) 31 32
-    ∷ inStep (λ n. step endVerb 0 n) 31 32
-    ∷ inStep (λ n. step enterVerb n 0) 31 32
-    ∷ inStep (λ n. step enterVerb 0 n) 15 16
-    ∷ inStep (λ n. step finishVerb n 0) 31 32
+    row "step" finishVerb 5
+    ∷ moving fireVerb "step id" 31 32
+    ∷ moving fireVerb "step number" 15 16
+    ∷ moving endVerb "step id" 31 32
+    ∷ moving endVerb "step number" 31 32
+    ∷ moving enterVerb "step id" 31 32
+    ∷ moving enterVerb "step number" 15 16
+    ∷ moving finishVerb "step id" 31 32
     ∷ []
 
 -- "or the configuration has"
 abbrev pub configurationRows : List Row
 configurationRows =
-    -- "a number of a present instance outside its type or the limits above": its type, its sets, a behavior of its queue
-    inConfiguration (λ n. instances (standing n 1 0 0 1) 0) 0 1
-    ∷ inConfiguration (λ n. instances (standing 0 n 0 0 1) 0) 3 4
-    ∷ inConfiguration (λ n. instances (standing 0 1 n 0 1) 0) 1 2
-    ∷ inConfiguration (λ n. instances (standing 0 1 0 n 1) 0) 1 2
-    ∷ inConfiguration (instances first) 0 1
+    -- "a number of a present instance outside its type or the limits above"
+    row "instance type" 0 1
+    ∷ row "marked" 3 4
+    ∷ row "running" 1 2
+    ∷ row "ended" 1 2
+    ∷ row "queue" 0 1
     -- "more instructions done than the program has", "a queue past the depth", "over 64 connections"
-    ∷ inConfiguration (counts 2) 2 3
-    ∷ inConfiguration (λ n. instances (standing 0 1 0 0 n) 0) 4 5
-    ∷ inConfiguration (λ n. counts n 1) 2 65
-    -- "or one with an absent end", the user and the provider
-    ∷ inConfiguration (λ n. connections (between n 0 0 1) (between 2 0 0 1)) 1 3
-    ∷ inConfiguration (λ n. connections (between 1 0 n 1) (between 2 0 0 1)) 0 3
-    -- "a wrong port": of the other kind, and outside its type, at both ends
-    ∷ inConfiguration (λ n. connections (between 1 n 0 1) (between 2 0 0 1)) 0 1
-    ∷ inConfiguration (λ n. connections (between 1 n 0 1) (between 2 0 0 1)) 0 2
-    ∷ inConfiguration (λ n. connections (between 1 0 0 n) (between 2 0 0 1)) 1 0
-    ∷ inConfiguration (λ n. connections (between 1 0 0 n) (between 2 0 0 1)) 1 2
+    ∷ row "done" 6 7
+    ∷ row "queued" 4 5
+    ∷ row "connections" 2 65
+    -- "or one with an absent end"
+    ∷ row "user" 1 3
+    ∷ row "provider" 0 3
+    -- "a wrong port": of the other kind, and outside its type
+    ∷ row "useport" 0 1
+    ∷ row "useport" 0 2
+    ∷ row "provideport" 1 0
+    ∷ row "provideport" 1 2
     -- "a single instance at both ends", "a use port already connected"
-    ∷ inConfiguration (λ n. connections (between 1 0 n 1) (between 2 0 0 1)) 0 1
-    ∷ inConfiguration (λ n. connections (between 1 0 0 1) (between n 0 0 1)) 2 1
+    ∷ row "provider" 0 1
+    ∷ row "second user" 2 1
     ∷ []
 
 -- one table
@@ -235,15 +205,15 @@ rows = tableRows ++ programRows ++ stepRows ++ configurationRows
 
 -- ---- the claim
 
-abbrev pub answered : Lent → ℕ
-answered x = hallStep default (x .tables) (x .program) (x .configuration) (x .step) .refused
+abbrev pub answered : Numbers → ℕ
+answered f = hallStep (tables f) (program f) (configuration f) (step f) .refused
 
-abbrev pub isLawful : Lent → Bool
-isLawful x = lentLawful default (x .tables) (x .program) (x .configuration) (x .step)
+abbrev pub isLawful : Numbers → Bool
+isLawful f = lentLawful (tables f) (program f) (configuration f) (step f)
 
 -- the one number makes it 7
 abbrev pub breaks : Row → Bool
-breaks r = isLawful (r .given (r .lawful)) && eqb (answered (r .given (r .broken))) limitBroken
+breaks r = isLawful (but (r .from) (r .name) (r .lawful)) && eqb (answered (but (r .from) (r .name) (r .broken))) limitBroken
 
 unfoldable pub every : List Row → Bool
 every [] = true

@@ -6,20 +6,19 @@ use Rattle.model.specs.declared.Program.{Program}
 use Rattle.model.specs.declared.Step.{Step}
 use Rattle.model.specs.declared.Configuration.{Configuration}
 use Rattle.model.specs.declared.Stepped.{Stepped}
-use Rattle.judged.specs.Course.{default}
 use Rattle.hall.specs.Screen.{hallStep}
 
 unfoldable pub NoOtherStepped : Type 0
 NoOtherStepped =
-    (default : ℕ) (t : Tables) (p : Program) (c : Configuration) (s : Step) (m n : Stepped)
-    → m ≡ hallStep default t p c s
-    → n ≡ hallStep default t p c s
+    (t : Tables) (p : Program) (c : Configuration) (s : Step) (m n : Stepped)
+    → m ≡ hallStep t p c s
+    → n ≡ hallStep t p c s
     → m ≡ n
 
 -- the number, and what stands in the lent configuration afterwards
 unfoldable pub NoOtherLeft : Type 0
 NoOtherLeft =
     (t : Tables) (p : Program) (c : Configuration) (s : Step) (m n : ℕ) (d e : Configuration)
-    → (m ≡ hallStep default t p c s .refused) × (d ≡ hallStep default t p c s .configuration)
-    → (n ≡ hallStep default t p c s .refused) × (e ≡ hallStep default t p c s .configuration)
+    → (m ≡ hallStep t p c s .refused) × (d ≡ hallStep t p c s .configuration)
+    → (n ≡ hallStep t p c s .refused) × (e ≡ hallStep t p c s .configuration)
     → (m ≡ n) × (d ≡ e)

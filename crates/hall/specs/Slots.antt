@@ -1,6 +1,6 @@
 -- What a step that is allowed leaves in every slot of the lent configuration: "`con` appends to the list, `dcon` and `finish` close the gap
 -- and zero the slot freed, `del` zeroes the whole record, and `add` zeroes all queue slots." All other slots keep what they hold, free ones too.
-use Prim.Native.Nat.{ℕ, suc, _-_, _≤_, _<_}
+use Prim.Native.Nat.{ℕ, suc, _-_, _<_}
 use mathlib.Core.Bool.{cond}
 use mathlib.Core.Path.{_≡_}
 use lib.Dec.{eqb, ltb}
@@ -75,9 +75,8 @@ pub record Whole (c : Configuration) : Type 0 where
 
 unfoldable pub EverySlot : Type 0
 EverySlot =
-    (default : ℕ) (t : Tables) (p : Program) (c : Configuration) (s : Step)
-    → default ≤ 8
+    (t : Tables) (p : Program) (c : Configuration) (s : Step)
     → Whole c
-    → hallStep default t p c s .refused ≡ 0
-    → Holds (hallStep default t p c s .configuration) (slots t c (action p c s))
-    × (hallStep default t p c s .configuration .done ≡ cond (isNext s) (suc (c .done)) (c .done))
+    → hallStep t p c s .refused ≡ 0
+    → Holds (hallStep t p c s .configuration) (slots t c (action p c s))
+    × (hallStep t p c s .configuration .done ≡ cond (isNext s) (suc (c .done)) (c .done))

@@ -26,7 +26,6 @@ use model::Tables;
 use model::wide;
 use shown::show;
 ghost use mathlib.Core.Path.{_≡_};
-ghost use Rattle.judged.specs.Course.{default};
 ghost use Rattle.hall.specs.Screen.{hallStep};
 
 fn answered(refused: u8, c: Configuration) -> Stepped
@@ -40,7 +39,7 @@ fn answered(refused: u8, c: Configuration) -> Stepped
 
 // Lends a configuration of its own. Its proof is a walk by hand.
 fn lend(t: Tables, p: Program, c: Configuration, s: Step) -> Stepped
-    ensures { λ r. ⌜ r ≡ hallStep default t p c s ⌝ }
+    ensures { λ r. ⌜ r ≡ hallStep t p c s ⌝ }
 {
     let mut lent = c;
     let refused = hall(t, p, &mut lent, s);

@@ -44,7 +44,6 @@ use Rattle.model.specs.declared.Tables.{Tables}
 use Rattle.model.specs.declared.Program.{Program}
 use Rattle.model.specs.declared.Step.{Step}
 use Rattle.model.specs.declared.Stepped.{Stepped}
-use Rattle.judged.specs.Course.{default}
 use Rattle.hall.specs.Screen.{hallStep}
 use Rattle.hall.proofs.Machine.{mach, machU, machP, machX}
 use Rattle.model.proofs.Configuration as T
@@ -87,14 +86,14 @@ module _ {M : Type 1} (𝓤 : URA M) (H : Heap 𝓤) (A : Atoms 𝓤) (at-mem : 
   -- what a caller has of the two clauses: the number, and what the reference held last
   left-of : (α l : ℕ) (δ : GName) (t : Tables) (p : Program) (h : Configuration) (s : Step) (r : ℕ)
       → ent 𝓤 (ensured 𝓤 H A hall.ended (hall.clauses 𝓤 H A at-mem run) (α ∷ [], tt) (lent-at t p l δ h s) tt r)
-      (guard 𝓤 (r ≡ hallStep default t p h s .refused) (A .res δ (T.the-row .coded .code (hallStep default t p h s .configuration))))
+      (guard 𝓤 (r ≡ hallStep t p h s .refused) (A .res δ (T.the-row .coded .code (hallStep t p h s .configuration))))
   left-of α l δ t p h s r = exE 𝓤 _ (λ ws.
       let L : SProp 𝓤 = sem 𝓤 H A (lasts hall.ended (α ∷ [], tt) (lent-at t p l δ h s) ws) in
-      let E : SProp 𝓤 = fact 𝓤 ((r ≡ hallStep default t p h s .refused) × (ws .1 .1 .0 ≡ hallStep default t p h s .configuration)) in
+      let E : SProp 𝓤 = fact 𝓤 ((r ≡ hallStep t p h s .refused) × (ws .1 .1 .0 ≡ hallStep t p h s .configuration)) in
       let R : Configuration → SProp 𝓤 = λ (d : Configuration). A .res δ (T.the-row .coded .code d) in
-      fact-use 𝓤 ((r ≡ hallStep default t p h s .refused) × (ws .1 .1 .0 ≡ hallStep default t p h s .configuration)) (snd∗ 𝓤 L E) (λ e.
-      subst (λ (d : Configuration). ent 𝓤 (sep 𝓤 L E) (guard 𝓤 (r ≡ hallStep default t p h s .refused) (R d))) (e .1)
-      (via 𝓤 L (fst∗ 𝓤 L E) (via 𝓤 _ (snd∗ 𝓤 (emp 𝓤) _) (via 𝓤 _ (snd∗ 𝓤 (emp 𝓤) _) (via 𝓤 (R (ws .1 .1 .0)) (fst∗ 𝓤 (R (ws .1 .1 .0)) (sem 𝓤 H A (fsep ftrue ftrue))) (guardI 𝓤 (r ≡ hallStep default t p h s .refused) (R (ws .1 .1 .0)) (e .0))))))))
+      fact-use 𝓤 ((r ≡ hallStep t p h s .refused) × (ws .1 .1 .0 ≡ hallStep t p h s .configuration)) (snd∗ 𝓤 L E) (λ e.
+      subst (λ (d : Configuration). ent 𝓤 (sep 𝓤 L E) (guard 𝓤 (r ≡ hallStep t p h s .refused) (R d))) (e .1)
+      (via 𝓤 L (fst∗ 𝓤 L E) (via 𝓤 _ (snd∗ 𝓤 (emp 𝓤) _) (via 𝓤 _ (snd∗ 𝓤 (emp 𝓤) _) (via 𝓤 (R (ws .1 .1 .0)) (fst∗ 𝓤 (R (ws .1 .1 .0)) (sem 𝓤 H A (fsep ftrue ftrue))) (guardI 𝓤 (r ≡ hallStep t p h s .refused) (R (ws .1 .1 .0)) (e .0))))))))
 
   answered-of : (n : ℕ) (d : Configuration) (m : Stepped)
       → ent 𝓤 (ensured 𝓤 H A answered.ended (answered.clauses 𝓤 H A at-mem run) tt (n, (d, tt)) tt m) (fact 𝓤 (m ≡ record { refused = n; configuration = d }))
@@ -112,9 +111,9 @@ module _ {M : Type 1} (𝓤 : URA M) (H : Heap 𝓤) (A : Atoms 𝓤) (W : Given
 
   -- what the lent local holds at the end
   abbrev last : Configuration
-  last = hallStep default t p h s .configuration
+  last = hallStep t p h s .configuration
 
-  exits : (m : Stepped) (w : Val) → m ≡ hallStep default t p h s → ent 𝓤 (sem 𝓤 H A (S.the-row .own m (w ∷ []))) (Post w)
+  exits : (m : Stepped) (w : Val) → m ≡ hallStep t p h s → ent 𝓤 (sem 𝓤 H A (S.the-row .own m (w ∷ []))) (Post w)
   exits m w e =
       qed W (‵ (S.the-row .own m (w ∷ [])) ∷ []) ∵
       suffices ! _ (ends-at 𝓤 H A lend.ended stayed (lend.clauses 𝓤 H A at-mem run) W ((tt, tt, tt, x, at), tt) w m (tt, (tt, (tt, (tt, tt)))) (tt, (tt, (tt, (tt, tt))))) $ says ! e $
@@ -160,7 +159,7 @@ module _ {M : Type 1} (𝓤 : URA M) (H : Heap 𝓤) (A : Atoms 𝓤) (W : Given
         -- [what `hall` asks; the lender's part; room for _8; …; _7; …; room for _6; …; what _5 dies of; _4; …; _3; …; _2; …; _1; …; room for _0; …]
         calls-at ! fm (Hall 𝓤 H A at-mem run) known-hall (to-hall α l₅ δ) (and-then ! (load ! (from ! (stop !)) (look ! 15 refl)) (and-then ! (load ! (from ! (stop !)) (look ! 13 refl)) (and-then ! (load ! (from ! (stop !)) (look ! 4 refl)) (and-then ! (load ! (from ! (stop !)) (look ! 9 refl)) (no-more !))))) (λ v.
         use1 W (later (some (λ (r : ℕ). ((‵ (flft (α ∷ []) fullShare) ⊛ ‵ ftrue) ⊛ ‵ (u8 .own r (v ∷ []))) ⊛ raw (ensured 𝓤 H A hall.ended (hall.clauses 𝓤 H A at-mem run) (α ∷ [], tt) (lent-at 𝓤 H A at-mem run t p l₅ δ h s) tt r)))) (id⊢ 𝓤 _) $ await ! tt $ pick ! (λ r.
-        split ! $ move ! (1 ∷ []) $ use1 W (given (r ≡ hallStep default t p h s .refused) (‵ (fres δ (T.the-row .coded .code last)))) (left-of 𝓤 H A at-mem run α l₅ δ t p h s r) $ learn ! (λ e.
+        split ! $ move ! (1 ∷ []) $ use1 W (given (r ≡ hallStep t p h s .refused) (‵ (fres δ (T.the-row .coded .code last)))) (left-of 𝓤 H A at-mem run α l₅ δ t p h s r) $ learn ! (λ e.
         move ! (1 ∷ []) $ split ! $ split ! $ move ! (2 ∷ []) $ peeks ! u8 (Is u8) (shows 𝓤 H A u8) r (v ∷ []) (λ is.
         -- [what the number owns; the token; true; the last value; the lender's part; room for _8; …]
         land ! (from ! (stop !)) (init ! 9 refl (uint-lawful 𝓤 H A W w8 .typed r _ is .0)) $
