@@ -112,7 +112,9 @@ for at in 0, 1:
     limit(f"{name}_id", f"program.{at}.id=?", 31, 32)
     limit(f"{name}_type", f"program.{at}.number=?", 0, 1)
     limit(f"{name}_behavior", f"program.{at}.verb=2 program.{at}.number=?", 7, 8)
+limit("pushb_id", f"program.1.verb={PUSHB} program.1.id=?", 31, 32)
 for word, verb in ("con", CON), ("dcon", DCON):
+    limit(f"{word}_user", f"program.1.verb={verb} program.1.id=?", 31, 32)
     limit(f"{word}_useport", f"program.1.verb={verb} program.1.number=?", 15, 16)
     limit(f"{word}_provider", f"program.1.verb={verb} program.1.provider=?", 31, 32)
     limit(f"{word}_provideport", f"program.1.verb={verb} program.1.provideport=?", 15, 16)
