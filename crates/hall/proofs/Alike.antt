@@ -54,7 +54,7 @@ module _ (t : Tables) (p : Program) (law : Lawful t p) where
   -- a lawful step at a point of a walk gets the rules' answer
   ruled : (c : Configuration) (s : Step) → Proper default t p c → stepLawful s ≡ true → hallStep t p c s ≡ step default t p c s
   unfolding ProperIsLawful Lawful hallStep lentLawful
-  ruled c s h e = rw (law .0, law .1, e, proper-is-lawful default t p c h)
+  ruled c s h e = rw (law .0, law .1, e, proper-is-lawful t p c h)
 
   alike : (ss : List Step) (c : Configuration) → Proper default t p c → Steps ss → hallWalk t p c ss ≡ walk default t p c ss
   unfolding hallWalk walk

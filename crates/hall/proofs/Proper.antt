@@ -19,6 +19,7 @@ use Rattle.model.specs.View.{instance, connection, slot}
 use Rattle.reading.specs.Limits.{maskOk}
 use Rattle.rules.specs.Con.{isOf, isUsePort, isProvidePort}
 use Rattle.rules.specs.Proper.{ProperInstance, Joins, Proper}
+use Rattle.judged.specs.Course.{default}
 use Rattle.lawfulness.specs.Lawful.{queuedLawful, numbersLawful, instanceLawful, connectedBefore, endsLawful, connectionLawful, connectionsLawful, configurationLawful}
 use Rattle.hall.specs.Agree.{ProperIsLawful}
 
@@ -44,7 +45,7 @@ masked n m f = lt-ltb m (2 ^ n) (rw same (collect-lt n (λ x. member x m)))
         same-members (m + n) m (collect n (λ x. member x m)) (lt-of-lt-of-le (below-power m) (pow-mono {j = m + n} (omega arith)))
         (lt-of-lt-of-le (collect-lt n (λ x. member x m)) (pow-mono {j = m + n} (omega arith))) each
 
-module _ (default : ℕ) (t : Tables) (p : Program) (c : Configuration) (h : Proper default t p c) where
+module _ (t : Tables) (p : Program) (c : Configuration) (h : Proper default t p c) where
   instance-lawful : (i : ℕ) → instanceLawful default t c i ≡ true
   unfolding instanceLawful numbersLawful queuedLawful
   instance-lawful i = by-test (instance c i .present) (λ e. rw e (numbers (h .each i e))) (λ e. rw e)

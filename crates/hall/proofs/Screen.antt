@@ -20,8 +20,8 @@ use Rattle.hall.specs.Screen.{limitBroken, lentLawful, hallStep}
 use Rattle.hall.specs.Agree.{RefusedLeaves, SevenExactly}
 
 -- the number of a step by value
-pub step-number : (default : ℕ) (t : Tables) (p : Program) (c : Configuration) (s : Step) → step default t p c s .refused ≡ number default t p c s
-step-number default t p c s =
+pub step-number : (t : Tables) (p : Program) (c : Configuration) (s : Step) → step default t p c s .refused ≡ number default t p c s
+step-number t p c s =
     by-cases (ℕ-discrete (number default t p c s) 0) (λ e. ap (λ (m : Stepped). m .refused) (step-on default t p c s e) ∙ sym e)
     (λ n. ap (λ (m : Stepped). m .refused) (step-stop default t p c s n))
 
@@ -37,6 +37,6 @@ not-seven {n} h = ⊎-elim (λ e. omega arith) (λ e. omega arith) (h .range)
 pub seven-exactly : SevenExactly
 unfolding SevenExactly hallStep
 seven-exactly t p c s = (
-  λ q. by-test (lentLawful t p c s) (λ e. absurd (not-seven (step-numbered default t p c s) (sym (step-number default t p c s) ∙ (rw e at q)))) (λ e. e),
+  λ q. by-test (lentLawful t p c s) (λ e. absurd (not-seven (step-numbered default t p c s) (sym (step-number t p c s) ∙ (rw e at q)))) (λ e. e),
   λ e. rw e,
 )

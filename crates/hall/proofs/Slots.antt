@@ -97,7 +97,7 @@ module _ (t : Tables) (c : Configuration) (whole : Whole c) where
         (λ f. by-test (eqb (suc l) (c .count)) (λ g. rw (e, f, g) (freed (eqb-true (suc l) (c .count) g)))
         (λ g. rw (e, f, g) (kept (inr (past (ltb-false (suc l) (c .count) f) (eqb-false (suc l) (c .count) g)))))))
 
-  module _ (default : ℕ) (depth : depthOf default t ≤ 8) (few : c .count ≤ 64)
+  module _ (depth : depthOf default t ≤ 8) (few : c .count ≤ 64)
       (short : (i : ℕ) → instance c i .present ≡ true → instance c i .queued ≤ depthOf default t) where
     in-array : (i : ℕ) → instance c i .present ≡ true → i < 32
     in-array i e = omega (arith, present-in c i e, whole .instances)
@@ -177,7 +177,7 @@ module _ (t : Tables) (p : Program) (c : Configuration) (s : Step) (whole : Whol
   unfolding withDone
   each e =
       let l = facts default t p (omega arith) law in
-      let h = holds t c whole default (l .depth) few short (action p c s) (step-lawfully default t p l c s e) (number-facts default t p c s e .0) in
+      let h = holds t c whole (l .depth) few short (action p c s) (step-lawfully default t p l c s e) (number-facts default t p c s e .0) in
       after-cases t p (λ (d : Configuration). Holds d (slots t c (action p c s))) c s
       (λ _. record { instances = h .instances; queues = h .queues; connections = h .connections; count = h .count }) (λ _. h)
 
@@ -186,6 +186,6 @@ unfolding EverySlot hallStep
 every-slot t p c s whole ok =
     by-test (lentLawful t p c s)
     (λ lawful.
-    let e : number default t p c s ≡ 0 = sym (step-number default t p c s) ∙ (rw lawful at ok) in
+    let e : number default t p c s ≡ 0 = sym (step-number t p c s) ∙ (rw lawful at ok) in
     rw (lawful, step-on default t p c s e) (each t p c s whole lawful e, after-done t p c s))
     (λ broken. absurd (omega (arith, rw broken at ok)))

@@ -44,7 +44,7 @@ SheetsBreakNone =
 
 -- what every point of a walk keeps is lawful to the screen
 unfoldable pub ProperIsLawful : Type 0
-ProperIsLawful = (default : ℕ) (t : Tables) (p : Program) (c : Configuration) → Proper default t p c → configurationLawful default t p c ≡ true
+ProperIsLawful = (t : Tables) (p : Program) (c : Configuration) → Proper default t p c → configurationLawful default t p c ≡ true
 
 -- the tables, program and steps that the readers give, stepped by the screen from the empty start: the walk's verdict, count and configuration
 unfoldable pub HallWalksAlike : Type 0

@@ -1,5 +1,6 @@
 -- Each clause of 01's sentence on number 7 by itself, as one table: of what is lawfully lent one number is changed, and the row names it and
--- says a value at which all is lawful and one at which it is not. (No types or places, 17 types and 65 connections break another clause too.)
+-- says a value at which all is lawful and one at which it is not. The step's numbers are tried with each of its verbs.
+-- (No types or places, 17 types and 65 connections break another clause too.)
 use Prim.Native.Nat.{ℕ}
 use Prim.Native.String.{String}
 use mathlib.Core.Bool.{Bool, true, _&&_, cond}

@@ -6,7 +6,7 @@ use Rattle.model.specs.declared.Program.{Program}
 use Rattle.model.specs.declared.Step.{Step}
 use Rattle.model.specs.declared.Configuration.{Configuration}
 use Rattle.model.specs.declared.Stepped.{Stepped}
-use Rattle.hall.specs.Screen.{hallStep}
+use Rattle.hall.specs.Screen.{hallStep, Left}
 
 unfoldable pub NoOtherStepped : Type 0
 NoOtherStepped =
@@ -19,6 +19,6 @@ NoOtherStepped =
 unfoldable pub NoOtherLeft : Type 0
 NoOtherLeft =
     (t : Tables) (p : Program) (c : Configuration) (s : Step) (m n : ℕ) (d e : Configuration)
-    → (m ≡ hallStep t p c s .refused) × (d ≡ hallStep t p c s .configuration)
-    → (n ≡ hallStep t p c s .refused) × (e ≡ hallStep t p c s .configuration)
+    → Left t p c s m d
+    → Left t p c s n e
     → (m ≡ n) × (d ≡ e)

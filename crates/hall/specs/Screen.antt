@@ -2,6 +2,7 @@
 -- reachable or not, gets the step rules' answer." Depth 0 stands for the board's default here too.
 use Prim.Native.Nat.{ℕ}
 use mathlib.Core.Bool.{Bool, _&&_, cond}
+use mathlib.Core.Path.{_≡_}
 use Rattle.model.specs.declared.Tables.{Tables}
 use Rattle.model.specs.declared.Program.{Program}
 use Rattle.model.specs.declared.Step.{Step}
@@ -24,3 +25,7 @@ lentLawful t p c s =
 -- "it lends its configuration and finds it moved on afterwards, or untouched on a refusal"
 unfoldable pub hallStep : Tables → Program → Configuration → Step → Stepped
 hallStep t p c s = cond (lentLawful t p c s) (step default t p c s) (record { refused = limitBroken; configuration = c })
+
+-- what the screen promises of a lent configuration c: it answers n and leaves d
+abbrev pub Left : Tables → Program → Configuration → Step → ℕ → Configuration → Type 0
+Left t p c s n d = (n ≡ hallStep t p c s .refused) × (d ≡ hallStep t p c s .configuration)

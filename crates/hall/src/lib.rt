@@ -12,7 +12,7 @@ use model::Stepped;
 use model::Tables;
 use walks::step;
 ghost use mathlib.Core.Path.{_≡_};
-ghost use Rattle.hall.specs.Screen.{lentLawful, hallStep};
+ghost use Rattle.hall.specs.Screen.{lentLawful, hallStep, Left};
 
 const LIMIT_BROKEN: u8 = 7;
 
@@ -39,7 +39,7 @@ pub fn hall_step(t: Tables, p: Program, c: Configuration, s: Step) -> Stepped
 
 // Stores the result, or leaves the lent configuration on a refusal. Its proof is a walk by hand.
 pub fn hall(t: Tables, p: Program, configuration: &mut Configuration, s: Step) -> u8
-    ensures { λ r. ⌜ (r ≡ hallStep t p (now (configuration .entry)) s .refused) × (now (configuration .exit) ≡ hallStep t p (now (configuration .entry)) s .configuration) ⌝ }
+    ensures { λ r. ⌜ Left t p (now (configuration .entry)) s r (now (configuration .exit)) ⌝ }
 {
     let m = hall_step(t, p, *configuration, s);
     if m.refused == 0 {
