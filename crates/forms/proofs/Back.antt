@@ -14,7 +14,7 @@ use Rattle.sets.specs.Mask.{member, with}
 use Rattle.sets.proofs.Laws.{collect-lt, add-lt, with-add}
 use Rattle.forms.specs.Reader.{Reader, got, bind, byte, bytes}
 use Rattle.forms.specs.Read.{key, digit, number, numberFrom, Set, follows, list, membersFrom, one, two, three, four, set, sets}
-use Rattle.forms.specs.Write.{numberText, members, membersBelow, moreText, listText, maskText, oneText, twoText, threeText, fourText, setText, setsText}
+use Rattle.forms.specs.Write.{numberText, members, membersBelow, moreText, listText, maskText, oneText, twoText, threeText, fourText}
 use Rattle.forms.proofs.Tests.{by-test}
 use Rattle.forms.proofs.Laws.{number-none, number-end, number-digit, number-other, list-end, list-end-no, list-plus, list-plus-no, list-digit, list-other, Digit, digit-true, follows-true, digits-lt, text-digit, text-last, not-got, not-both, got-value, got-rest, bound-to}
 use Rattle.forms.proofs.Bits.{members-add}
@@ -49,7 +49,7 @@ unfolding begun
 begun-digit d zero v c w h l =
     sym (text-digit (v * 10 + (c - byte "0")) (omega (arith, w .high, w .low)) ∙ ap (λ (x : ℕ). x ∷ []) (omega (arith, w .low)))
 begun-digit d (suc k) v c w h l =
-    sym (text-last (v * 10 + (c - byte "0")) (omega (arith, w .leads (eqb·suc-zero k))) (digits-lt (suc (suc k)) 7 (omega (arith, w .few)) (value-lt w h))
+    sym (text-last (v * 10 + (c - byte "0")) (omega (arith, w .leads (eqb·suc-zero k))) (digits-lt (suc (suc k)) 20 (omega (arith, w .few)) (value-lt w h))
     ∙ ap₂ (λ (x y : ℕ). numberText x ++ (y ∷ [])) (omega (arith, w .high, w .low)) (omega (arith, w .high, w .low)))
 
 -- the same in a text, after what stands in front of the number and before the rest
@@ -219,13 +219,13 @@ module _ (d : ℕ) (l : d ≤ 7) where
       number-then _ s _ q λ _ t a q. number-then _ t _ q λ _ u b q. number-then _ u _ q λ _ v c q. number-then _ v _ q λ _ _ e q.
       rw (← got-value q, ← got-rest q) (simp append-assoc (cc (a .0, b .0, c .0, e .0)), a .1, b .1, c .1, e .1)
 
-  pub set-back : (s : List ℕ) {x : Set} {r : List ℕ} → set d s ≡ got x r → x .top ≤ 32 → (s ≡ setText (x .mask) ++ r) × Topped x
-  unfolding set setText
+  pub set-back : (s : List ℕ) {x : Set} {r : List ℕ} → set d s ≡ got x r → x .top ≤ 32 → (s ≡ maskText (x .mask) ++ bytes "\n" ++ r) × Topped x
+  unfolding set
   set-back s q h = let a = list-back _ s q h in (simp append-assoc (a .0), a .1)
 
   pub sets-back : (s : List ℕ) {x : Set × Set} {r : List ℕ} → sets d s ≡ got x r → x .0 .top ≤ 32 → x .1 .top ≤ 32 →
-      (s ≡ setsText (x .0 .mask) (x .1 .mask) ++ r) × Topped (x .0) × Topped (x .1)
-  unfolding sets setsText setText
+      (s ≡ maskText (x .0 .mask) ++ bytes "," ++ maskText (x .1 .mask) ++ bytes "\n" ++ r) × Topped (x .0) × Topped (x .1)
+  unfolding sets
   sets-back s q =
       list-then _ s _ q λ _ t a q. list-then _ t _ q λ _ _ b q.
       rw (← got-value q, ← got-rest q) λ h g. (simp append-assoc (cc (a h .0, b g .0)), a h .1, b g .1)

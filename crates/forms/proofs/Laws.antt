@@ -111,9 +111,9 @@ pub text-digit : (v : ℕ) → v < 10 → numberText v ≡ (byte "0" + v) ∷ []
 unfolding numberText digitsIn
 text-digit v h = rw (lt-ltb v 10 h, digitsIn)
 
-pub text-last : (v : ℕ) → 10 ≤ v → v < 10 ^ 7 → numberText v ≡ numberText (v / 10) ++ ((byte "0" + v % 10) ∷ [])
+pub text-last : (v : ℕ) → 10 ≤ v → v < 10 ^ 20 → numberText v ≡ numberText (v / 10) ++ ((byte "0" + v % 10) ∷ [])
 unfolding numberText digitsIn
-text-last v h g = rw (le-ltb v 10 h, digitsIn) (ap (λ (l : List ℕ). l ++ ((byte "0" + v % 10) ∷ [])) (digits-more 5 (v / 10) (tenth-lt 6 v g)))
+text-last v h g = rw (le-ltb v 10 h, digitsIn) (ap (λ (l : List ℕ). l ++ ((byte "0" + v % 10) ∷ [])) (digits-more 18 (v / 10) (tenth-lt 19 v g)))
 
 -- ---- a reply that is `got`
 pub not-got : {A : Type 0} {n : ℕ} {a : A} {r : List ℕ} → refused n ≡ got a r → ⊥

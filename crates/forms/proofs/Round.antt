@@ -12,9 +12,9 @@ use lib.Dec.{eqb, ltb, eqb·suc-zero}
 use borrow.Author.Tests.{eq-eqb, ne-eqb, ltb-true, ltb-false}
 use Rattle.sets.specs.Mask.{member, collect, with}
 use Rattle.sets.proofs.Laws.{collect-is, gather-in, gather-out}
-use Rattle.forms.specs.Reader.{got, byte}
+use Rattle.forms.specs.Reader.{got, byte, bytes}
 use Rattle.forms.specs.Read.{key, digit, number, numberFrom, Set, list, membersFrom, one, two, three, four, set, sets}
-use Rattle.forms.specs.Write.{numberText, membersBelow, members, moreText, listText, maskText, oneText, twoText, threeText, fourText, setText, setsText}
+use Rattle.forms.specs.Write.{numberText, membersBelow, members, moreText, listText, maskText, oneText, twoText, threeText, fourText}
 use Rattle.forms.proofs.Tests.{by-test}
 use Rattle.forms.proofs.Laws.{number-digit, number-end, list-digit, list-end, list-plus, true-digit, true-follows, digits-lt, tenth-lt, text-digit, text-last}
 use Rattle.forms.proofs.Bits.{below-has, below-not, below-bound}
@@ -49,7 +49,7 @@ module _ {X : Type 0} (d : ℕ) (start : List ℕ → X) (go : ℕ → ℕ → L
     reads = rw (text-digit v h) (T .begins v s ∙ takes-digit 0 0 v v s h (omega arith) (λ z e. true≢false z) (omega arith));
   }
 
-  takes-more : (n v : ℕ) (s : List ℕ) → n < d → 10 ≤ v → v < 10 ^ 7 → Took start go n (v / 10) ((byte "0" + v % 10) ∷ s) → Took start go (suc n) v s
+  takes-more : (n v : ℕ) (s : List ℕ) → n < d → 10 ≤ v → v < 10 ^ 20 → Took start go n (v / 10) ((byte "0" + v % 10) ∷ s) → Took start go (suc n) v s
   takes-more n v s l h g w = record {
     k = suc (w .k);
     some = eqb·suc-zero (w .k);
@@ -65,7 +65,7 @@ module _ {X : Type 0} (d : ℕ) (start : List ℕ → X) (go : ℕ → ℕ → L
   takes-number (suc (suc n)) v s low high l h =
       by-test (ltb v 10)
       (λ e. takes-one (suc (suc n)) v s low l (ltb-true v 10 e))
-      (λ e. takes-more (suc n) v s l (ltb-false v 10 e) (digits-lt (suc (suc n)) 7 high h)
+      (λ e. takes-more (suc n) v s l (ltb-false v 10 e) (digits-lt (suc (suc n)) 20 (omega arith) h)
       (takes-number (suc n) (v / 10) ((byte "0" + v % 10) ∷ s) (omega arith) (omega arith) (omega arith) (tenth-lt (suc n) v h)))
 
 -- ---- lists of numbers and the masks they give
@@ -227,10 +227,10 @@ module _ (d : ℕ) (low : 1 ≤ d) (high : d ≤ 7) where
   unfolding four fourText threeText twoText oneText
   four-round a b c e ha hb hc he s = simp append-assoc (rw (number-round comma a ha, number-round comma b hb, number-round comma c hc, number-round lf e he))
 
-  pub set-round : (m : ℕ) → m < 2 ^ writable d → (s : List ℕ) → set d (setText m ++ s) ≡ got (setOf m) s
-  unfolding set setText
+  pub set-round : (m : ℕ) → m < 2 ^ writable d → (s : List ℕ) → set d (maskText m ++ bytes "\n" ++ s) ≡ got (setOf m) s
+  unfolding set
   set-round m h s = simp append-assoc (mask-round lf m h s)
 
-  pub sets-round : (m n : ℕ) → m < 2 ^ writable d → n < 2 ^ writable d → (s : List ℕ) → sets d (setsText m n ++ s) ≡ got (setOf m, setOf n) s
-  unfolding sets setsText setText
+  pub sets-round : (m n : ℕ) → m < 2 ^ writable d → n < 2 ^ writable d → (s : List ℕ) → sets d (maskText m ++ bytes "," ++ maskText n ++ bytes "\n" ++ s) ≡ got (setOf m, setOf n) s
+  unfolding sets
   sets-round m n h g s = simp append-assoc (rw (mask-round comma m h, mask-round lf n g))

@@ -20,9 +20,9 @@ digitsIn (suc n) v =
       | false ↦ digitsIn n (v / 10) ++ ((byte "0" + v % 10) ∷ [])
     ]
 
--- a number below 10,000,000, in decimal
+-- a number in decimal: 20 digits write every number below 2 ^ 64, and no field holds another
 unfoldable pub numberText : ℕ → List ℕ
-numberText v = digitsIn 7 v
+numberText v = digitsIn 20 v
 
 -- the members of the mask m that are below n, ascending
 unfoldable pub membersBelow : ℕ → ℕ → List ℕ
@@ -63,9 +63,3 @@ threeText a b c = numberText a ++ bytes "," ++ twoText b c
 
 unfoldable pub fourText : ℕ → ℕ → ℕ → ℕ → List ℕ
 fourText a b c d = numberText a ++ bytes "," ++ threeText b c d
-
-unfoldable pub setText : ℕ → List ℕ
-setText m = maskText m ++ bytes "\n"
-
-unfoldable pub setsText : ℕ → ℕ → List ℕ
-setsText m n = maskText m ++ bytes "," ++ setText n

@@ -47,11 +47,11 @@ fn write_digits(t: &mut [u8], at: usize, digits: u8, v: usize) -> usize
     write_byte(t, p, b'0' + (v % 10) as u8)
 }
 
-// A number in decimal; of one past 9,999,999 the last seven digits.
+// A number in decimal: no usize has more than 20 digits.
 pub fn write_number(t: &mut [u8], at: usize, v: usize) -> usize
     ensures { λ r. ⌜ Written (now (t .entry)) (numberText v) (now (t .exit)) at r ⌝ }
 {
-    write_digits(t, at, 7, v)
+    write_digits(t, at, 20, v)
 }
 
 // The first `count` numbers of a table as a list; past its end they are 0.

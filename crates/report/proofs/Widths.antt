@@ -29,7 +29,7 @@ digits-le (suc n) (suc m) v h =
 -- a number below 10 ^ (n + 1) has at most n + 1 digits
 pub number-le : (n v : ℕ) → v < 10 ^ suc n → length (numberText v) ≤ suc n
 unfolding numberText
-number-le n v h = digits-le n 7 v h
+number-le n v h = digits-le n 20 v h
 
 -- what a member takes in a list, what the members of a list take, what all numbers below n would take
 abbrev cost : ℕ → ℕ

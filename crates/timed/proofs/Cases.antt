@@ -8,7 +8,7 @@ use mathlib.Core.Logic.{_≢_}
 use native.Mathlib.Omega.{arith}
 use borrow.Author.Tests.{ne-eqb}
 use Rattle.forms.specs.Read.{key, digit, numberFrom, membersFrom, list, one, two, three, four, set, sets}
-use Rattle.forms.specs.Write.{digitsIn, numberText, membersBelow, moreText, listText, maskText, inTurn, oneText, twoText, threeText, fourText, setText, setsText}
+use Rattle.forms.specs.Write.{digitsIn, numberText, membersBelow, moreText, listText, maskText, inTurn, oneText, twoText, threeText, fourText}
 use Rattle.judged.specs.Course.{short, read, both, course}
 use Rattle.judged.specs.Judged.{faultLine, faultPlace, afterFault, noRoom, stepPlace, afterWalk, inRoom, ending, judged, over, printing, printed}
 use Rattle.model.specs.Empty.{noTables, noProgram, noAnswer, start}
@@ -113,7 +113,7 @@ record Computed : Type 0 where
   each-step : Marks roundsEachStep oneByOne underAPass 496 500
 
 computed : Computed
-unfolding member collect all any noTables noProgram noAnswer start listOf queueOf put withQueue withConnections withDone key digit numberFrom membersFrom list one two three four set sets digitsIn numberText membersBelow moreText listText maskText inTurn oneText twoText threeText fourText setText setsText headed withType withTransition withPort programOf withInstruction answerOf withStep dueLine countLineIn initialLine tranLine behaviorLine group portLine doId doNumber doEnds doLine stepId stepNumber stepLine each upToLf lfs lineNumber lineStart tran behavior port type instruct sheet stepAt answer instruction move check effect addCheck added down closed zeroed renewed isOf isUsePort isProvidePort conCheck connected sameConnection first dconCheck disconnected namedBy delCheck deleted endCheck endTo enterRow enterCheck enterTo mayLeave finishRow finishCheck finished fireRow fireCheck fireTo active current endsAt leaving entering fired endedBy entered withQueued someConnection wouldLeave refusing serves blocks employs failsUnserved failsRefusing failsInUse portCheck pushbCheck pushed line action number after step waitCheck oneMore walk walkAnswer textText faultText tally countText instanceText connectionText instanceAt connectionAt instancesText connectionsText report short read both course faultLine faultPlace afterFault noRoom stepPlace afterWalk inRoom ending judged over printing printed timesNumber timeLine time times timesOf withTime atStart notes tick clockFrom clockOf nearest markOf markAfter halvesUp roundsEachStep shamCourse clocked timedCourse markedReport markInRoom timedEnding timed timedPrinting timedPrinted names deeds naming tablesIn programIn stepsIn
+unfolding member collect all any noTables noProgram noAnswer start listOf queueOf put withQueue withConnections withDone key digit numberFrom membersFrom list one two three four set sets digitsIn numberText membersBelow moreText listText maskText inTurn oneText twoText threeText fourText headed withType withTransition withPort programOf withInstruction answerOf withStep dueLine countLineIn initialLine tranLine behaviorLine group portLine doId doNumber doEnds doLine stepId stepNumber stepLine each upToLf lfs lineNumber lineStart tran behavior port type instruct sheet stepAt answer instruction move check effect addCheck added down closed zeroed renewed isOf isUsePort isProvidePort conCheck connected sameConnection first dconCheck disconnected namedBy delCheck deleted endCheck endTo enterRow enterCheck enterTo mayLeave finishRow finishCheck finished fireRow fireCheck fireTo active current endsAt leaving entering fired endedBy entered withQueued someConnection wouldLeave refusing serves blocks employs failsUnserved failsRefusing failsInUse portCheck pushbCheck pushed line action number after step waitCheck oneMore walk walkAnswer textText faultText tally countText instanceText connectionText instanceAt connectionAt instancesText connectionsText report short read both course faultLine faultPlace afterFault noRoom stepPlace afterWalk inRoom ending judged over printing printed timesNumber timeLine time times timesOf withTime atStart notes tick clockFrom clockOf nearest markOf markAfter halvesUp roundsEachStep shamCourse clocked timedCourse markedReport markInRoom timedEnding timed timedPrinting timedPrinted names deeds naming tablesIn programIn stepsIn
 computed = record {
   cases = ((refl, refl), ((refl, refl), ((refl, refl), ((refl, refl), ((refl, refl), ((refl, refl), ((refl, refl), ((refl, refl), ((refl, refl), ((refl, refl), ((refl, refl), ((refl, refl), ((refl, refl), ((refl, refl), ((refl, refl), ((refl, refl), tt))))))))))))))));
   order = record { first = refl; second = refl; together-does = refl; one-by-one-does = refl; quick = refl; slow = refl };

@@ -1,4 +1,4 @@
--- No report has more than 131,072 bytes: a number has seven digits at most, a mask 32 members, a queue 255 behaviors. Fault lines have 41 at most.
+-- No report has more than 300,000 bytes: a number has 20 digits at most, a mask 32 members, a queue 255 behaviors. Fault lines have 67 at most.
 -- Assumes nothing.
 use Prim.Native.Nat.{ℕ, zero, suc, _+_, _-_, _*_, _/_, _≤_, _<_}
 use mathlib.Core.Path.{_≡_, refl}
@@ -49,16 +49,16 @@ digits-short (suc n) v =
     (λ l. rw (digits-last (suc n) v (λ z. omega arith) l) (omega arith))
     (λ l. rw (digits-more (suc n) v (λ z. omega arith) (omega arith), e) (simp length-append (omega (arith, digits-short n (v / 10)))))
 
-number-short : (v : ℕ) → length (numberText v) ≤ 7
+number-short : (v : ℕ) → length (numberText v) ≤ 20
 unfolding numberText
-number-short v = digits-short 7 v
+number-short v = digits-short 20 v
 
-more-short : (l : List ℕ) → length (moreText l) ≤ 8 * length l
+more-short : (l : List ℕ) → length (moreText l) ≤ 21 * length l
 unfolding moreText
 more-short [] = omega arith
 more-short (v ∷ l) = simp length-append (omega (arith, number-short v, more-short l))
 
-list-short : (l : List ℕ) → length (listText l) ≤ 8 * length l + 1
+list-short : (l : List ℕ) → length (listText l) ≤ 21 * length l + 1
 unfolding listText
 list-short [] = omega arith
 list-short (v ∷ l) = simp length-append (omega (arith, number-short v, more-short l))
@@ -72,23 +72,23 @@ unfolding membersBelow
 members-short zero m = omega arith
 members-short (suc n) m = simp length-append (omega (arith, members-short n m, when-short (member n m) (n ∷ [])))
 
-mask-short : (m : ℕ) → length (maskText m) ≤ 257
+mask-short : (m : ℕ) → length (maskText m) ≤ 673
 unfolding maskText
 mask-short m = omega (arith, list-short (membersBelow 32 m), members-short 32 m)
 
 -- ---- the lines
 
-pub count-short : (k : List ℕ) (n : ℕ) → length (countText k n) ≤ length k + 8
+pub count-short : (k : List ℕ) (n : ℕ) → length (countText k n) ≤ length k + 21
 unfolding countText oneText
 count-short k n = simp length-append (omega (arith, number-short n))
 
-instance-short : (i : ℕ) (w : Instance) (q : List ℕ) → length q < 256 → length (instanceText i w q) ≤ 2841
+instance-short : (i : ℕ) (w : Instance) (q : List ℕ) → length q < 256 → length (instanceText i w q) ≤ 7430
 unfolding instanceText
 instance-short i w q h =
     simp length-append
     (omega (arith, number-short i, number-short (w .kind), mask-short (w .marked), mask-short (w .running), mask-short (w .ended), list-short q))
 
-connection-short : (k : Connection) → length (connectionText k) ≤ 43
+connection-short : (k : Connection) → length (connectionText k) ≤ 95
 unfolding connectionText fourText threeText twoText oneText
 connection-short k =
     simp length-append
@@ -98,11 +98,11 @@ either-short : (b : Bool) (m : ℕ) (x y : List ℕ) → length x ≤ m → leng
 either-short true m x y h l = h
 either-short false m x y h l = l
 
-lookup-short : (c : Configuration) (n u q : ℕ) → length (connectionAt c n u q) ≤ 43
+lookup-short : (c : Configuration) (n u q : ℕ) → length (connectionAt c n u q) ≤ 95
 unfolding connectionAt
 lookup-short c zero u q = omega arith
 lookup-short c (suc n) u q =
-    either-short (eqb (connection c n .user) u && eqb (connection c n .useport) q) 43 (connectionText (connection c n)) (connectionAt c n u q)
+    either-short (eqb (connection c n .user) u && eqb (connection c n .useport) q) 95 (connectionText (connection c n)) (connectionAt c n u q)
     (connection-short (connection c n))
     (lookup-short c n u q)
 
@@ -113,7 +113,7 @@ text-short text.Sheet = omega arith
 text-short text.Answer = omega arith
 text-short text.Times = omega arith
 
-pub fault-short : (x : Text) (at refused : ℕ) → length (faultText x at refused) ≤ 41
+pub fault-short : (x : Text) (at refused : ℕ) → length (faultText x at refused) ≤ 67
 unfolding faultText
 fault-short x at refused =
     simp length-append (omega (arith, text-short x, count-short (bytes "line=") at, count-short (bytes "refused=") refused))
@@ -126,20 +126,20 @@ turn-short f b h zero = omega arith
 turn-short f b h (suc n) = simp length-append (omega (arith, h n, turn-short f b h n))
 
 module _ (c : Configuration) (short : (i : ℕ) → instance c i .queued < 256) where
-  instance-at-short : (i : ℕ) → length (instanceAt c i) ≤ 2841
+  instance-at-short : (i : ℕ) → length (instanceAt c i) ≤ 7430
   unfolding instanceAt queueOf
   instance-at-short i =
       omega (arith, when-short (instance c i .present) (instanceText i (instance c i) (queueOf c i)), instance-short i (instance c i) (queueOf c i) (rw (length-list (instance c i .queued) (slot c i)) (short i)))
 
-  instances-short : length (instancesText c) ≤ 90912
+  instances-short : length (instancesText c) ≤ 237760
   unfolding instancesText
-  instances-short = turn-short (instanceAt c) 2841 instance-at-short 32
+  instances-short = turn-short (instanceAt c) 7430 instance-at-short 32
 
-connections-short : (c : Configuration) → length (connectionsText c) ≤ 22016
+connections-short : (c : Configuration) → length (connectionsText c) ≤ 48640
 unfolding connectionsText
-connections-short c = turn-short (λ u. inTurn (connectionAt c (c .count) u) 16) 688 (λ u. turn-short (connectionAt c (c .count) u) 43 (lookup-short c (c .count) u) 16) 32
+connections-short c = turn-short (λ u. inTurn (connectionAt c (c .count) u) 16) 1520 (λ u. turn-short (connectionAt c (c .count) u) 95 (lookup-short c (c .count) u) 16) 32
 
-pub report-short : (w : Walked) → ((i : ℕ) → instance (w .configuration) i .queued < 256) → length (report w) ≤ 131072
+pub report-short : (w : Walked) → ((i : ℕ) → instance (w .configuration) i .queued < 256) → length (report w) ≤ 300000
 unfolding report
 report-short w short =
     let c = w .configuration in

@@ -251,11 +251,11 @@ pub fn write_report(t: &mut [u8], w: Walked) -> usize
     used + write_connections(&mut t[used..], c)
 }
 
-// None is cut here: a number has seven digits at most, a set 32 members, a queue 255 behaviors.
+// None is cut here: a number has 20 digits at most, a set 32 members, a queue 255 behaviors.
 fn long_length(w: Walked) -> usize
     ensures { λ r. ⌜ r ≡ length (report w) ⌝ }
 {
-    let mut scratch = [0u8; 131072];
+    let mut scratch = [0u8; 300000];
     write_report(&mut scratch, w)
 }
 

@@ -10,12 +10,12 @@ use borrow.Author.Needs.{needs}
 use Rattle.timekeeping.proofs.marked_length.Statement.{statement}
 use Rattle.timekeeping.proofs.marked_length.Tie as tie
 
-short : (s : tie.Start) → length (report (s .args .w)) ≤ 131072
+short : (s : tie.Start) → length (report (s .args .w)) ≤ 300000
 short s = let w = s .args .w in report-short w (queue-short (w .configuration .instances) _ (s .good .0 .1 .1 .1 .1 .0 .1 .1 .0 .1 .1))
 
 add-result : tie.Need-add-result
 add-result c =
-    fits-le (omega (arith, short (c .before .before), count-short (bytes "mark=") (c .before .before .args .mark), c .mark-length .ensures, c .before .report-length .ensures)) (fits-lit {n = 131200} tt)
+    fits-le (omega (arith, short (c .before .before), count-short (bytes "mark=") (c .before .before .args .mark), c .mark-length .ensures, c .before .report-length .ensures)) (fits-lit {n = 300100} tt)
 
 returns : tie.Need-returns
 unfolding markedReport

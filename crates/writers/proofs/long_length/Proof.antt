@@ -7,7 +7,7 @@ use Rattle.writers.proofs.Bounds.{queue-short, report-short}
 use Rattle.writers.proofs.long_length.Statement.{statement}
 use Rattle.writers.proofs.long_length.Tie as tie
 
-short : (s : tie.Start) → length (report (s .args .w)) ≤ 131072
+short : (s : tie.Start) → length (report (s .args .w)) ≤ 300000
 short s = let w = s .args .w in report-short w (queue-short (w .configuration .instances) _ (s .good .0 .1 .1 .1 .1 .0 .1 .1 .0 .1 .1))
 
 returns : tie.Need-returns
