@@ -1,15 +1,15 @@
--- What is computed from texts, all of it under one line: the marked cases of 01, and what tells the shams from the judge (Shams).
+-- What is computed from texts, all of it under one line: the marked cases of 01, what catches the shams (Shams), and 6 where the room is short.
 -- Assumes nothing.
 use Prim.Native.Nat.{ℕ}
 use mathlib.Core.List.{List}
 use mathlib.Core.Path.{_≡_, refl}
-use lib.ListN.{length}
+use lib.ListN.{getD}
 use Rattle.sets.specs.Mask.{member, collect}
 use Rattle.sets.specs.Test.{all, any}
 use Rattle.model.specs.Empty.{noTables, noProgram, noAnswer, start}
 use Rattle.model.specs.View.{listOf, queueOf, put, withQueue, withConnections, withDone}
 use Rattle.forms.specs.Read.{key, digit, numberFrom, membersFrom, list, one, two, four, set, sets}
-use Rattle.forms.specs.Write.{digitsIn, numberText, membersBelow, moreText, listText, maskText, inTurn, oneText, twoText, threeText, fourText, setText, setsText}
+use Rattle.forms.specs.Write.{digitsIn, numberText, membersBelow, moreText, listText, maskText, inTurn, oneText, twoText, threeText, fourText}
 use Rattle.reading.specs.Fill.{headed, withType, withTransition, withPort, programOf, withInstruction, answerOf, withStep}
 use Rattle.reading.specs.Kinds.{dueLine, countLineIn, initialLine, tranLine, behaviorLine, group, portLine, doId, doNumber, doEnds, doLine, stepId, stepNumber, stepLine}
 use Rattle.reading.specs.Lines.{each}
@@ -34,39 +34,45 @@ use Rattle.rules.specs.Walk.{oneMore, walk, walkAnswer}
 use Rattle.report.specs.Faults.{textText, faultText}
 use Rattle.report.specs.Report.{tally, countText, instanceText, connectionText, instanceAt, connectionAt, instancesText, connectionsText, report}
 use Rattle.judged.specs.Course.{short, read, both, course}
-use Rattle.judged.specs.Judged.{Judgement, faultLine, faultPlace, afterFault, noRoom, stepPlace, afterWalk, inRoom, ending, judged, printing, printed}
-use Rattle.judged.specs.Cases.{P, nexts, steps, table, AllMet}
-use Rattle.judged.specs.Shams.{countOn, countingCourse}
+use Rattle.judged.specs.Judged.{faultLine, faultPlace, afterFault, noRoom, stepPlace, afterWalk, inRoom, ending, judged, over, printing, printed}
+use Rattle.judged.specs.Cases.{P, P+, nexts, steps, table, AllMet}
+use Rattle.judged.specs.Room.{SixWhereShort}
+use Rattle.judged.specs.Shams.{countOn, countingCourse, stepsSaid}
 
--- an answer of n times `next` and no more; the program P has five instructions
+-- an answer of n times `next` and no more; the program P has five instructions, P+ six
 abbrev pub only : ℕ → List ℕ
 only n = steps n n ""
 
--- what comes of it: the two counts, and how many bytes the report and the print have
-pub record Told (n accepted refused size : ℕ) : Type 0 where
-  pub accepted-is : judged P (only n) 8192 .verdict .accepted ≡ accepted
-  pub refused-is : judged P (only n) 8192 .verdict .refused ≡ refused
-  pub written : length (judged P (only n) 8192 .bytes) ≡ size
-  pub prints : length (printed P (only n)) ≡ size
-
--- what comes of it with the judge that walks the first step and then only counts
-abbrev pub counting : ℕ → Judgement
-counting n = ending P (only n) 8192 (countingCourse P (only n))
+-- what comes of two texts: the two counts, and the first digit of the report, in whatever buffer, and of the print
+pub record Told (s a : List ℕ) (accepted refused digit : ℕ) : Type 0 where
+  pub accepted-is : judged s a 8192 .verdict .accepted ≡ accepted
+  pub refused-is : judged s a 8192 .verdict .refused ≡ refused
+  pub digit-is : (old : List ℕ) → getD (over (judged s a 8192 .bytes) old) 9 0 ≡ digit
+  pub prints : getD (printed s a) 9 0 ≡ digit
 
 pub record Computed : Type 0 where
   pub marked : AllMet table
-  pub none : Told 0 0 0 54
-  pub six : Told 6 5 10 116
-  pub counted : (counting 6 .verdict .accepted ≡ 6) × (counting 6 .verdict .refused ≡ 0) × (length (counting 6 .bytes) ≡ 75)
+  pub none : Told P (only 0) 0 0 48
+  pub six : Told P (only 6) 5 10 53
+  pub all : Told P+ (only 6) 6 0 54
+  pub counted : ending P (only 6) 8192 (countingCourse P (only 6)) .verdict .accepted ≡ 6
+  pub said : stepsSaid (only 6) ≡ 6
+  pub short : SixWhereShort
 
 pub computed : Computed
-unfolding member collect all any noTables noProgram noAnswer start listOf queueOf put withQueue withConnections withDone key digit numberFrom membersFrom list one two four set sets digitsIn numberText membersBelow moreText listText maskText inTurn oneText twoText threeText fourText setText setsText headed withType withTransition withPort programOf withInstruction answerOf withStep dueLine countLineIn initialLine tranLine behaviorLine group portLine doId doNumber doEnds doLine stepId stepNumber stepLine each upToLf lfs lineNumber lineStart tran behavior port type instruct sheet stepAt answer instruction move check effect addCheck added down closed zeroed renewed isOf isUsePort isProvidePort conCheck connected sameConnection first dconCheck disconnected namedBy delCheck deleted endCheck endTo enterRow enterCheck enterTo mayLeave finishRow finishCheck finished fireRow fireCheck fireTo active current endsAt leaving entering fired endedBy entered withQueued someConnection wouldLeave refusing serves blocks employs failsUnserved failsRefusing failsInUse portCheck pushbCheck pushed line action number after step waitCheck oneMore walk walkAnswer textText faultText tally countText instanceText connectionText instanceAt connectionAt instancesText connectionsText report nexts short read both course faultLine faultPlace afterFault noRoom stepPlace afterWalk inRoom ending judged printing printed countOn countingCourse
+unfolding member collect all any noTables noProgram noAnswer start listOf queueOf put withQueue withConnections withDone key digit numberFrom membersFrom list one two four set sets digitsIn numberText membersBelow moreText listText maskText inTurn oneText twoText threeText fourText headed withType withTransition withPort programOf withInstruction answerOf withStep dueLine countLineIn initialLine tranLine behaviorLine group portLine doId doNumber doEnds doLine stepId stepNumber stepLine each upToLf lfs lineNumber lineStart tran behavior port type instruct sheet stepAt answer instruction move check effect addCheck added down closed zeroed renewed isOf isUsePort isProvidePort conCheck connected sameConnection first dconCheck disconnected namedBy delCheck deleted endCheck endTo enterRow enterCheck enterTo mayLeave finishRow finishCheck finished fireRow fireCheck fireTo active current endsAt leaving entering fired endedBy entered withQueued someConnection wouldLeave refusing serves blocks employs failsUnserved failsRefusing failsInUse portCheck pushbCheck pushed line action number after step waitCheck oneMore walk walkAnswer textText faultText tally countText instanceText connectionText instanceAt connectionAt instancesText connectionsText report nexts short read both course faultLine faultPlace afterFault noRoom stepPlace afterWalk inRoom ending judged over printing printed countOn countingCourse stepsSaid SixWhereShort
 computed = record {
   marked = (refl, (refl, ((refl, refl), ((refl, refl), ((refl, refl), ((refl, refl), ((refl, refl), ((refl, refl), ((refl, refl), ((refl, refl), ((refl, refl), tt)))))))))));
-  none = record { accepted-is = refl; refused-is = refl; written = refl; prints = refl };
-  six = record { accepted-is = refl; refused-is = refl; written = refl; prints = refl };
-  counted = (refl, refl, refl);
+  none = record { accepted-is = refl; refused-is = refl; digit-is = λ old. refl; prints = refl };
+  six = record { accepted-is = refl; refused-is = refl; digit-is = λ old. refl; prints = refl };
+  all = record { accepted-is = refl; refused-is = refl; digit-is = λ old. refl; prints = refl };
+  counted = refl;
+  said = refl;
+  short = (refl, refl);
 }
 
 pub marked-cases : AllMet table
 marked-cases = computed .marked
+
+pub six-where-short : SixWhereShort
+six-where-short = computed .short

@@ -1,4 +1,4 @@
--- The marked cases (Cases), room for every report (Room), the four shams told from the judge (Shams), no other outcome (Once).
+-- The marked cases (Cases), room for every report (Room), the four shams caught (Shams), no other outcome (Once).
 pub mod Cases
 pub mod Read
 pub mod Room

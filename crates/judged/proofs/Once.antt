@@ -1,13 +1,29 @@
 -- No other outcome fits: what is promised is an equation with the definition, so two results that meet it are one.
 -- Assumes nothing.
-use mathlib.Core.Path.{_≡_, sym, _∙_}
-use Rattle.judged.specs.Once.{NoOtherFits}
+use Prim.Native.Nat.{ℕ}
+use mathlib.Core.List.{List}
+use Rattle.forms.specs.Once.{NoOtherEquals}
+use Rattle.forms.proofs.Once.{no-other-equals}
+use Rattle.judged.specs.declared.Verdict.{Verdict}
+use Rattle.judged.specs.declared.Place.{Place}
+use Rattle.judged.specs.Once.{NoOtherFits, NoOtherVerdict, NoOtherPlace, NoOtherPrint}
 
--- the general law, once for each part of the outcome
-equal-to-one : {A : Type 0} {x y e : A} → x ≡ e → y ≡ e → x ≡ y
-equal-to-one p q = p ∙ sym q
+pub no-other-verdict : NoOtherVerdict
+unfolding NoOtherVerdict NoOtherEquals
+no-other-verdict s a old v w b c h g =
+    (no-other-equals Verdict _ v w (h .verdict-is) (g .verdict-is), no-other-equals (List ℕ) _ b c (h .buffer-is) (g .buffer-is))
+
+pub no-other-place : NoOtherPlace
+unfolding NoOtherPlace NoOtherEquals
+no-other-place s a room p q h g = no-other-equals Place _ p q (h .place-is) (g .place-is)
 
 pub no-other-fits : NoOtherFits
-unfolding NoOtherFits
-no-other-fits s a old v₁ v₂ b₁ b₂ p₁ p₂ h g =
-    (equal-to-one (h .verdict-is) (g .verdict-is), equal-to-one (h .buffer-is) (g .buffer-is), equal-to-one (h .place-is) (g .place-is))
+unfolding NoOtherFits NoOtherVerdict NoOtherPlace
+no-other-fits s a old v w b c p q h g =
+    let j = no-other-verdict s a old v w b c (h .judges) (g .judges) in
+    (j .0, j .1, no-other-place s a _ p q (h .places) (g .places))
+
+pub no-other-print : NoOtherPrint
+unfolding NoOtherPrint NoOtherEquals
+no-other-print s a old n m b c h g =
+    (no-other-equals ℕ _ n m (h .used-is) (g .used-is), no-other-equals (List ℕ) _ b c (h .array-is) (g .array-is))

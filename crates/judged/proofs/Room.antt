@@ -34,9 +34,9 @@ use Rattle.judged.proofs.Read.{both-read, fault-numbered}
 abbrev pub Fits : Walked → Type 0
 Fits w = (length (report w) ≤ 8182) × (w .refused ≢ 6)
 
-six-where-short : (w : Walked) (a : List ℕ) (room : ℕ) → w .refused ≢ 6 → (inRoom room w (report w) a .verdict .refused ≡ 6) ↔ (room < length (report w))
+six-in-room : (w : Walked) (a : List ℕ) (room : ℕ) → w .refused ≢ 6 → (inRoom room w (report w) a .verdict .refused ≡ 6) ↔ (room < length (report w))
 unfolding inRoom afterWalk noRoom
-six-where-short w a room h = go (leb (length (report w)) room) refl
+six-in-room w a room h = go (leb (length (report w)) room) refl
   where
     go : (b : Bool) → leb (length (report w)) room ≡ b → ((elim b as (λ _. Judgement) [ true ↦ afterWalk w (report w) a | false ↦ noRoom ]) .verdict .refused ≡ 6) ↔ (room < length (report w))
     go true e = (λ q. absurd (h q), λ l. absurd (omega (arith, leb-true (length (report w)) room e)))
@@ -71,9 +71,9 @@ six-never s a = not-six (course s a) refl
   where
     not-six : (z : Course Walked) → course s a ≡ z → ending s a 8192 z .verdict .refused ≢ 6
     not-six (faulty x n at) e = λ q. let l = fault-numbered s a x n at e in omega arith
-    not-six (reached w) e = λ q. let h = read-fits s a w e in omega (arith, six-where-short w a 8192 (h .1) .0 q, h .0)
+    not-six (reached w) e = λ q. let h = read-fits s a w e in omega (arith, six-in-room w a 8192 (h .1) .0 q, h .0)
 
 -- "a report that doesn't fit gives 6 in place of the steps' number": in any room, and no other does
 pub six-just-where-short : (s a : List ℕ) (w : Walked) (room : ℕ) → course s a ≡ reached w → (judged s a room .verdict .refused ≡ 6) ↔ (room < length (report w))
 unfolding judged ending
-six-just-where-short s a w room q = rw (q, ending) (six-where-short w a room (read-fits s a w q .1))
+six-just-where-short s a w room q = rw (q, ending) (six-in-room w a room (read-fits s a w q .1))

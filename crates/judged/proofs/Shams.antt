@@ -1,57 +1,76 @@
--- Each of the four shams is told from the judge: by an answer of no step and one of six `next`, where the program has five instructions.
+-- No sham keeps the promise. Three pairs catch them: an answer of no step, one of six `next` where the program has five instructions, and where it has six.
 -- Assumes nothing.
 use Prim.Native.Nat.{ℕ}
 use mathlib.Core.List.{List}
-use mathlib.Core.Bool.{Bool, true, false, cond}
-use mathlib.Core.Path.{sym, ap, _∙_}
-use mathlib.Core.Logic.{_≢_, by-cases}
+use mathlib.Core.Path.{_≡_, refl, sym, ap, _∙_}
+use mathlib.Core.Logic.{by-cases}
 use native.Mathlib.Omega.{arith}
 use native.Mathlib.Decide.{ℕ-discrete}
-use lib.ListN.{length}
+use lib.ListN.{length, getD}
 use Rattle.judged.specs.declared.Verdict.{Verdict}
-use Rattle.judged.specs.Cases.{P}
-use Rattle.judged.specs.Judged.{Judgement, judged}
-use Rattle.judged.specs.Shams.{RefusesAll, FixedReport, CountsOn, InventsCount, FixedCount}
+use Rattle.judged.specs.Cases.{P, P+}
+use Rattle.judged.specs.Shams.{Judge, Keeps, Caught, counting, OneKeeps, RefusesAll, FixedReport, FixedPrint, CountsOn, InventsCount, InventsSteps, InventsOneMore}
 use Rattle.judged.proofs.Cases.{only, Told, computed}
 
--- of two numbers that differ, one is not n
-one-differs : (f : Bool → ℕ) → f true ≢ f false → (n : ℕ) → (b : Bool) × (f b ≢ n)
-one-differs f h n = by-cases (ℕ-discrete (f true) n) (λ e. (false, λ q. h (e ∙ sym q))) (λ e. (true, e))
+pub one-keeps : OneKeeps
+unfolding OneKeeps
+one-keeps s a old = record { judges = record { verdict-is = refl; buffer-is = refl }; places = record { place-is = refl } }
 
--- six times `next`, and no step
-abbrev answers : Bool → List ℕ
-answers b = only (cond b 6 0)
+-- what a judge that keeps its promise gives for two texts of which it is told what comes of them
+module _ (j : Judge) {old : List ℕ} (long : length old ≡ 8192) {s a : List ℕ} {n r d : ℕ} (t : Told s a n r d) (k : Keeps j s a old) where
+  accepts : j s a old .verdict .accepted ≡ n
+  accepts = ap (λ (v : Verdict). v .accepted) (k .judges .verdict-is) ∙ rw long (t .accepted-is)
 
--- no number is right everywhere, where the two answers differ in it
-number-differs : (f : Judgement → ℕ) → f (judged P (only 6) 8192) ≢ f (judged P (only 0) 8192) → (n : ℕ) → (s : List ℕ) × (a : List ℕ) × (f (judged s a 8192) ≢ n)
-number-differs f h n = let (b, g) = one-differs (λ b. f (judged P (answers b) 8192)) h n in (P, answers b, g)
+  refuses : j s a old .verdict .refused ≡ r
+  refuses = ap (λ (v : Verdict). v .refused) (k .judges .verdict-is) ∙ rw long (t .refused-is)
+
+  begins : getD (j s a old .after) 9 0 ≡ d
+  begins = ap (λ (l : List ℕ). getD l 9 0) (k .judges .buffer-is) ∙ rw long (t .digit-is old)
 
 pub refuses-all : RefusesAll
 unfolding RefusesAll
-refuses-all = number-differs (λ j. j .verdict .refused) (omega (arith, computed .six, computed .none))
-
-pub fixed-count : FixedCount
-unfolding FixedCount
-fixed-count = number-differs (λ j. j .verdict .accepted) (omega (arith, computed .six, computed .none))
-
--- by the length of the bytes: both prints and both reports differ in it
-told : (b : Bool) → Told (cond b 6 0) (cond b 5 0) (cond b 10 0) (cond b 116 54)
-told true = computed .six
-told false = computed .none
+refuses-all j never old long = (P, only 0, λ k. never P (only 0) old (refuses j long (computed .none) k))
 
 pub fixed-report : FixedReport
 unfolding FixedReport
-fixed-report r =
-    let (b, h) = one-differs (λ b. cond b 116 54) (omega arith) (length r) in
-    (P, answers b, λ q. h (sym (told b .prints) ∙ ap length q), λ q. h (sym (told b .written) ∙ ap length q))
+fixed-report j same old long =
+    by-cases (ℕ-discrete (getD (j P (only 6) old .after) 9 0) 53)
+    (λ e. (P, only 0, λ k. omega (arith, e, begins j long (computed .none) k, ap (λ (l : List ℕ). getD l 9 0) (same P (only 0) P (only 6) old))))
+    (λ e. (P, only 6, λ k. e (begins j long (computed .six) k)))
+
+pub fixed-print : FixedPrint
+unfolding FixedPrint
+fixed-print r =
+    by-cases (ℕ-discrete (getD r 9 0) 53)
+    (λ e. (P, only 0, λ q. omega (arith, e, computed .none .prints, ap (λ (l : List ℕ). getD l 9 0) q)))
+    (λ e. (P, only 6, λ q. e (sym (ap (λ (l : List ℕ). getD l 9 0) q) ∙ computed .six .prints)))
 
 pub counts-on : CountsOn
 unfolding CountsOn
-counts-on =
-    let j = computed .six in
-    let k = computed .counted in
-    (P, only 6, omega arith, omega arith, λ q. omega (arith, ap length q))
+counts-on old long =
+    let counted : counting P (only 6) old .verdict .accepted ≡ 6 = rw long (computed .counted) in
+    (P, only 6, λ k. omega (arith, accepts counting long (computed .six) k, counted))
 
 pub invents-count : InventsCount
 unfolding InventsCount
-invents-count count s a v h e q = h (sym e ∙ ap (λ (x : Verdict). x .accepted) q)
+invents-count count j = (sheet, answer)
+  where
+    sheet : ((s a old : List ℕ) → j s a old .verdict .accepted ≡ count s) → Caught j
+    sheet is old long =
+        by-cases (ℕ-discrete (count P) 5)
+        (λ e. (P, only 0, λ k. omega (arith, e, is P (only 0) old, accepts j long (computed .none) k)))
+        (λ e. (P, only 6, λ k. e (sym (is P (only 6) old) ∙ accepts j long (computed .six) k)))
+
+    answer : ((s a old : List ℕ) → j s a old .verdict .accepted ≡ count a) → Caught j
+    answer is old long =
+        by-cases (ℕ-discrete (count (only 6)) 5)
+        (λ e. (P+, only 6, λ k. omega (arith, e, is P+ (only 6) old, accepts j long (computed .all) k)))
+        (λ e. (P, only 6, λ k. e (sym (is P (only 6) old) ∙ accepts j long (computed .six) k)))
+
+pub invents-steps : InventsSteps
+unfolding InventsSteps
+invents-steps j is old long = (P, only 6, λ k. omega (arith, computed .said, is P (only 6) old, accepts j long (computed .six) k))
+
+pub invents-one-more : InventsOneMore
+unfolding InventsOneMore
+invents-one-more j is old long = (P, only 0, λ k. omega (arith, is P (only 0) old, ap (λ (v : Verdict). v .accepted) (k .judges .verdict-is)))

@@ -8,6 +8,7 @@ use Rattle.model.specs.declared.Walked.{Walked}
 use Rattle.report.specs.Report.{report}
 use Rattle.judged.specs.Course.{reached, course}
 use Rattle.judged.specs.Judged.{judged}
+use Rattle.judged.specs.Cases.{P, steps}
 
 -- whatever the two texts are: if they are read, the report has room
 unfoldable pub ReportsFit : Type 0
@@ -15,3 +16,7 @@ ReportsFit = (s a : List ℕ) (w : Walked) → course s a ≡ reached w → leng
 
 unfoldable pub SixNever : Type 0
 SixNever = (s a : List ℕ) → judged s a 8192 .verdict .refused ≢ 6
+
+-- "a report that doesn't fit gives 6 in place of the steps' number": that of six `next` on P has 116 bytes, and its last step gets 10
+unfoldable pub SixWhereShort : Type 0
+SixWhereShort = (judged P (steps 6 6 "") 116 .verdict .refused ≡ 10) × (judged P (steps 6 6 "") 115 .verdict .refused ≡ 6)

@@ -1,5 +1,5 @@
 // What the judge answers, as structs, and in specs/ document 01 as one function of the two texts and the room. No code.
-// Proved: the marked cases, that 6 never occurs with a room of 8,192, that the four shams are told apart, that no other outcome fits.
+// Proved: the marked cases, that 6 never occurs with a room of 8,192, that none of the four shams keeps the promise, that no other outcome fits.
 use model::Text;
 
 // "0 stands for the default, 4": `default` of specs/Course, in code.
