@@ -65,10 +65,14 @@ stepPlace w a =
       | false ↦ lineAt text.Answer (lineStart (2 + w .accepted) a) a
     ]
 
+-- the verdict of a walk whose report has so many bytes
+abbrev pub walkVerdict : Walked → ℕ → Verdict
+walkVerdict w n = record { refused = w .refused; accepted = w .accepted; next = w .configuration .done; written = n; text = text.Neither; line = 0 }
+
 -- "After 10 to 37 .. the report shows the state before"; the report is r
 unfoldable pub afterWalk : Walked → List ℕ → List ℕ → Judgement
 afterWalk w r a = record {
-  verdict = record { refused = w .refused; accepted = w .accepted; next = w .configuration .done; written = length r; text = text.Neither; line = 0 };
+  verdict = walkVerdict w (length r);
   bytes = r;
   place = stepPlace w a;
 }

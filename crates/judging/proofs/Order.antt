@@ -35,9 +35,9 @@ use Rattle.answers.specs.Answer.{answered as answerAnswered, answerRead}
 use Rattle.judged.specs.Course.{Course, faulty, reached, goOn, short, read, default, both, course}
 use Rattle.judged.specs.Judged.{faultLine}
 use Rattle.judged.proofs.Read.{both-read}
-use Rattle.judging.specs.declared.Outcome.{Outcome}
-use Rattle.judging.specs.declared.Outcome.the-variants.{InSheet, InAnswer, Reached}
-use Rattle.judging.specs.declared.Seen.{Seen}
+use Rattle.judging.specs.declared.pairs.Outcome.{Outcome}
+use Rattle.judging.specs.declared.pairs.Outcome.the-variants.{InSheet, InAnswer, Reached}
+use Rattle.judging.specs.declared.pairs.Seen.{Seen}
 use Rattle.judging.specs.Came.{came, saying, sheetSeen, answerSeen}
 
 -- ---- the length of a text

@@ -1,13 +1,12 @@
 -- The place of the line at fault lies within its text, and is told by a part of it.
 -- Assumes nothing.
-use Prim.Native.Nat.{ℕ, zero, suc, _+_, _-_, _≤_, zero-le}
+use Prim.Native.Nat.{ℕ, _+_, _-_, _≤_, zero-le}
 use mathlib.Core.List.{List, [], _∷_}
-use mathlib.Core.Path.{_≡_, refl, sym, ap, _∙_}
+use mathlib.Core.Path.{_≡_, refl, ap}
 use mathlib.Core.Logic.{⊎-elim}
 use native.Mathlib.Omega.{arith}
 use lib.Dec.{eqb, leb}
 use lib.ListN.{length, take, drop, length-drop}
-use lib.Seq.{take-all, drop-drop}
 use mir.Syntax.{w64}
 use mir.Val.{Fits}
 use mir.Facts.{fits-le}
@@ -19,11 +18,12 @@ use Rattle.model.specs.declared.Walked.{Walked}
 use Rattle.model.specs.declared.Text.{Text}
 use Rattle.model.specs.declared.Text.the-variants as text
 use Rattle.model.proofs.Text.{the-type}
-use Rattle.reading.specs.Place.{upToLf, lineStart}
+use Rattle.reading.specs.Place.{upToLf}
 use Rattle.report.specs.Report.{report}
 use Rattle.judged.specs.declared.Place.{Place}
 use Rattle.judged.specs.Course.{Course}
 use Rattle.judged.specs.Judged.{textOf, faultPlace, afterFault, noRoom, stepPlace, afterWalk, inRoom, ending, judged}
+use Rattle.verdicts.proofs.Starts.{start-few}
 use Rattle.judging.specs.Part.{holder}
 use Rattle.judging.proofs.Order.{Told, in-sheet, in-answer, walks, course-told}
 
@@ -33,41 +33,6 @@ size-few : (s : List ℕ) → length (upToLf s) ≤ length s
 unfolding upToLf
 size-few [] = zero-le
 size-few (c ∷ s) = by-test (eqb c 10) (λ e. rw (e, upToLf) zero-le) (λ e. rw (e, upToLf) (omega (arith, size-few s)))
-
-start-few : (n : ℕ) (s : List ℕ) → lineStart n s ≤ length s
-unfolding lineStart
-start-few zero s = zero-le
-start-few (suc n) [] = zero-le
-start-few (suc n) (c ∷ s) = by-test (eqb c 10) (λ e. rw (e, lineStart) (omega (arith, start-few n s))) (λ e. rw (e, lineStart) (omega (arith, start-few (suc n) s)))
-
--- n lines more, from the next line on; and from the third line on
-next-start : (n : ℕ) (s : List ℕ) → lineStart (suc n) s ≡ lineStart 1 s + lineStart n (drop (lineStart 1 s) s)
-unfolding lineStart
-next-start zero [] = refl
-next-start (suc n) [] = refl
-next-start n (c ∷ s) =
-    by-test (eqb c 10) (λ e. rw (e, lineStart) (omega arith)) (λ e. rw (e, lineStart) (omega (arith, next-start n s)))
-
-third-start : (n : ℕ) (s : List ℕ) → lineStart (2 + n) s ≡ lineStart 2 s + lineStart n (drop (lineStart 2 s) s)
-third-start n s =
-    let a = lineStart 1 s in
-    let b = lineStart 1 (drop a s) in
-    let e : 2 + n ≡ suc (suc n) = omega arith in
-    let f : drop (lineStart 2 s) s ≡ drop b (drop a s) = ap (λ (k : ℕ). drop k s) (next-start 1 s) ∙ sym (drop-drop b a s) in
-    rw (e, f) (omega (arith, next-start 1 s, next-start (suc n) s, next-start n (drop a s)))
-
--- the two starts that the code adds up, the second in the part of the text from the first on
-pub first-few : (s : List ℕ) {first : ℕ} → first ≡ lineStart 2 s → first ≤ length s
-first-few s is = rw is (start-few 2 s)
-
-module _ (s : List ℕ) (n : ℕ) {first more : ℕ} (is : first ≡ lineStart 2 s) (also : more ≡ lineStart n (take (length s - first) (drop first s))) where
-  pub starts-add : first + more ≡ lineStart (2 + n) s
-  starts-add =
-      let part = take-all (length s - first) (drop first s) (simp length-drop (omega arith)) in
-      rw (also, part, is) (sym (third-start n s))
-
-  pub starts-few : first + more ≤ length s
-  starts-few = rw starts-add (start-few (2 + n) s)
 
 line-few : (s : List ℕ) (at : ℕ) → at ≤ length s → at + length (upToLf (drop at s)) ≤ length s
 line-few s at h = omega (arith, size-few (drop at s), length-drop at s)

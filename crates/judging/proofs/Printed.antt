@@ -20,7 +20,8 @@ use Rattle.report.specs.Faults.{textText, faultText}
 use Rattle.report.proofs.Widths.{number-le}
 use Rattle.judged.specs.declared.Verdict.{Verdict}
 use Rattle.judged.specs.Course.{Course, course}
-use Rattle.judged.specs.Judged.{Judgement, faultLine, afterFault, noRoom, afterWalk, inRoom, ending, judged, over, buffer, printing, printed}
+use Rattle.judged.specs.Judged.{Judgement, faultLine, afterFault, noRoom, afterWalk, inRoom, ending, judged, over, printing, printed}
+use Rattle.judged.specs.Once.{Judges, Prints as PrintsOf}
 use Rattle.judged.proofs.Read.{fault-numbered}
 use Rattle.inks.specs.Written.{Written}
 use Rattle.judging.specs.Counts.{Counts}
@@ -111,9 +112,13 @@ chosen s a = go (course s a) refl (course-told s a)
         let h = walked-numbers s a x e .refused .range in
         walk-chosen OfText x (report x) a (λ g. ⊎-elim (λ z. omega (arith, g, z)) (λ z. omega (arith, g, z)) h) (λ g. omega (arith, g))
 
-module _ (s a old : List ℕ) {v : Verdict} {mid : List ℕ} (long : length old ≡ 8192) (is : v ≡ judged s a (length old) .verdict) (after : mid ≡ buffer s a old) where
-  pub report-prints : (OfText (v .refused) → ⊥) → Prints (printed s a) old mid (v .written)
-  report-prints = report-printed (chosen s a) old long (rw long at is) (rw long at after)
+module _ (s a old : List ℕ) {v : Verdict} {mid : List ℕ} (long : length old ≡ 8192) (h : Judges s a old v mid) where
+  promised : {new : List ℕ} {used : ℕ} → Prints (printed s a) old new used → PrintsOf s a old used new × Counts used new
+  promised p = (record { used-is = p .0; array-is = p .1 .0 }, p .1 .1)
 
-  pub lines-print : {new : List ℕ} {used : ℕ} → OfText (v .refused) → Written mid (faultText (v .text) (v .line) (v .refused)) new 0 used → Prints (printed s a) old new used
-  lines-print = lines-printed (chosen s a) old long (rw long at is) (rw long at after)
+  pub report-prints : (OfText (v .refused) → ⊥) → PrintsOf s a old (v .written) mid × Counts (v .written) mid
+  report-prints g = promised (report-printed (chosen s a) old long (rw long at (h .verdict-is)) (rw long at (h .buffer-is)) g)
+
+  pub lines-print : {new : List ℕ} {used : ℕ} → OfText (v .refused) → Written mid (faultText (v .text) (v .line) (v .refused)) new 0 used
+      → PrintsOf s a old used new × Counts used new
+  lines-print g w = promised (lines-printed (chosen s a) old long (rw long at (h .verdict-is)) (rw long at (h .buffer-is)) g w)

@@ -11,10 +11,10 @@ use Rattle.model.specs.Empty.{noTables, noProgram, noAnswer}
 use Rattle.sheets.specs.Sheet.{sheetRead}
 use Rattle.answers.specs.Answer.{answerRead}
 use Rattle.judged.specs.Course.{Course, faulty, reached}
-use Rattle.judging.specs.declared.Outcome.{Outcome}
-use Rattle.judging.specs.declared.Outcome.the-variants.{InSheet, InAnswer, Reached}
-use Rattle.judging.specs.declared.Pair.{Pair}
-use Rattle.judging.specs.declared.Seen.{Seen}
+use Rattle.judging.specs.declared.pairs.Outcome.{Outcome}
+use Rattle.judging.specs.declared.pairs.Outcome.the-variants.{InSheet, InAnswer, Reached}
+use Rattle.judging.specs.declared.pairs.Pair.{Pair}
+use Rattle.judging.specs.declared.pairs.Seen.{Seen}
 
 -- the course of an outcome, with x where both are read
 abbrev pub came : {A : Type 0} → Outcome → A → Course A

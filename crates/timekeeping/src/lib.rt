@@ -4,8 +4,8 @@ use clocks::TimedWalk;
 use judged::DEFAULT_DEPTH;
 use judged::Place;
 use judged::Verdict;
-use judging::Outcome;
-use judging::Pair;
+use judging::pairs::Outcome;
+use judging::pairs::Pair;
 use model::Text;
 use model::Walked;
 use timed::Timed;
@@ -76,7 +76,7 @@ fn clock_pair(pair: Pair, times: &[u8]) -> Ended
 fn course(sheet: &[u8], answer: &[u8], times: &[u8]) -> Ended
     ensures { λ r. ⌜ came (r .outcome) (r .walk) ≡ timedCourse (now (sheet .entry)) (now (answer .entry)) (now (times .entry)) ⌝ }
 {
-    let pair = judging::read_both(sheet, answer);
+    let pair = judging::pairs::read_both(sheet, answer);
     let outcome = pair.outcome;
     match outcome {
         Outcome::InSheet(n, at) => {
@@ -113,7 +113,7 @@ fn unmarked(verdict: Verdict) -> Timed
 fn after_times_fault(times: &[u8], n: u8, at: usize) -> Verdict
     ensures { λ r. ⌜ r ≡ numbered (timesNumber n) (afterFault text.Times n at (now (times .entry))) .verdict ⌝ }
 {
-    let mut verdict = judging::after_fault(Text::Times, times, n, at);
+    let mut verdict = verdicts::after_fault(Text::Times, times, n, at);
     verdict.refused = times_number(n);
     verdict
 }
@@ -147,11 +147,11 @@ fn after_walk(walk: TimedWalk, lent: &mut [u8]) -> Timed
 {
     let w = walk.walked;
     if lent.len() < marked_length(w, walk.mark) {
-        let verdict = judging::no_room();
+        let verdict = verdicts::no_room();
         return unmarked(verdict);
     }
     let written = write_marked(lent, w, walk.mark);
-    let verdict = judging::walk_verdict(w, written);
+    let verdict = verdicts::walk_verdict(w, written);
     Timed {
         verdict,
         mark: walk.mark,
@@ -167,8 +167,8 @@ pub fn timed(sheet: &[u8], answer: &[u8], times: &[u8], report: &mut [u8]) -> Ti
     let outcome = ended.outcome;
     let walk = ended.walk;
     match outcome {
-        TimedOutcome::InSheet(n, at) => unmarked(judging::after_fault(Text::Sheet, sheet, n, at)),
-        TimedOutcome::InAnswer(n, at) => unmarked(judging::after_fault(
+        TimedOutcome::InSheet(n, at) => unmarked(verdicts::after_fault(Text::Sheet, sheet, n, at)),
+        TimedOutcome::InAnswer(n, at) => unmarked(verdicts::after_fault(
             Text::Answer,
             answer,
             n,
@@ -187,13 +187,13 @@ pub fn timed_place(sheet: &[u8], answer: &[u8], times: &[u8], room: usize) -> Pl
     let outcome = ended.outcome;
     let walk = ended.walk;
     match outcome {
-        TimedOutcome::InSheet(n, at) => judging::fault_place(Text::Sheet, sheet, n, at),
-        TimedOutcome::InAnswer(n, at) => judging::fault_place(Text::Answer, answer, n, at),
-        TimedOutcome::InTimes(n, at) => judging::fault_place(Text::Times, times, n, at),
+        TimedOutcome::InSheet(n, at) => verdicts::fault_place(Text::Sheet, sheet, n, at),
+        TimedOutcome::InAnswer(n, at) => verdicts::fault_place(Text::Answer, answer, n, at),
+        TimedOutcome::InTimes(n, at) => verdicts::fault_place(Text::Times, times, n, at),
         TimedOutcome::Reached => {
             let w = walk.walked;
             let size = marked_length(w, walk.mark);
-            judging::place_in_room(w, size, answer, room)
+            verdicts::place_in_room(w, size, answer, room)
         }
     }
 }

@@ -7,7 +7,7 @@ returns : tie.Need-returns
 returns c =
     let d = c .before .before in
     let x = d .before .before .before .before .before in
-    written-counts (x .args .sheet .now) (x .args .answer .now) (x .args .report .now) (d .judge-and-place .ensures .0) (d .judge-and-place .ensures .1 .1)
+    written-counts (x .args .sheet .now) (x .args .answer .now) (x .args .report .now) (d .judge-and-place .ensures .judges .verdict-is) (d .judge-and-place .ensures .judges .buffer-is)
 
 pub judge-spec : {M : Type 1} → statement M
 judge-spec =

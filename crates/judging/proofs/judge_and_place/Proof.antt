@@ -11,15 +11,15 @@ returns : tie.Need-returns
 returns c =
     let d = c .before .before in
     let e = rw (d .outcome .given .1) at (d .before .before .before .walk-texts .ensures) in
-    let j = fault-judges _ _ _ text.Sheet _ _ e (c .judge-fault .ensures .0) in
-    (j .0, (fault-places _ _ _ text.Sheet _ _ e (c .judge-fault .ensures .1), j .1))
+    let h = c .judge-fault .ensures in
+    record { judges = fault-judges _ _ _ text.Sheet _ _ e (h .0); places = fault-places _ _ _ text.Sheet _ _ e (h .1) }
 
 returns-2 : tie.Need-returns-2
 returns-2 c =
     let d = c .before .before in
     let e = rw (d .outcome2 .given .1) at (d .before .before .before .walk-texts .ensures) in
-    let j = fault-judges _ _ _ text.Answer _ _ e (c .judge-fault2 .ensures .0) in
-    (j .0, (fault-places _ _ _ text.Answer _ _ e (c .judge-fault2 .ensures .1), j .1))
+    let h = c .judge-fault2 .ensures in
+    record { judges = fault-judges _ _ _ text.Answer _ _ e (h .0); places = fault-places _ _ _ text.Answer _ _ e (h .1) }
 
 -- the walk is the one that the two texts come to
 walked : (e : tie.After-enum-told)
@@ -37,8 +37,7 @@ returns-3 c =
     let e = d .before .before in
     let x = e .before .before .before .before .before .before .before .args in
     let h = d .judge-walk .ensures in
-    let j = walk-judges _ _ (x .report .now) _ (walked e) (h .0) (h .1 .1) in
-    (j .0, (walk-places _ _ _ _ (walked e) (h .1 .0), j .1))
+    record { judges = walk-judges _ _ (x .report .now) _ (walked e) (h .0) (h .1 .1); places = walk-places _ _ _ _ (walked e) (h .1 .0) }
 
 pub judge-and-place-spec : {M : Type 1} → statement M
 judge-and-place-spec =

@@ -3,6 +3,7 @@ use Rattle.report.specs.Report.{report}
 use Rattle.inks.proofs.Laws.{fits-all}
 use borrow.Author.Tests.{not-true, not-false, leb-true}
 use Rattle.judged.specs.Judged.{noRoom, afterWalk, inRoom, over}
+use Rattle.verdicts.proofs.InRoom.{fits-place, size-verdict}
 use borrow.Author.Needs.{needs}
 use Rattle.judging.proofs.judge_walk.Statement.{statement}
 use Rattle.judging.proofs.judge_walk.Tie as tie
@@ -13,7 +14,7 @@ returns c =
     let d = c .before .before in
     let fits = d .before .has-room in
     let e = sym (fits .ensures) ∙ not-true (fits .result) (c .before .if1 .taken) in
-    (rw (e, inRoom) (c .no-room .ensures), (d .walk-place .ensures (report _) _ (fits .ensures), rw (e, inRoom)))
+    (rw (e, inRoom) (c .no-room .ensures), (fits-place _ (report _) _ _ (d .walk-place .ensures) (fits .ensures), rw (e, inRoom)))
 
 returns-2 : tie.Need-returns-2
 unfolding inRoom afterWalk over
@@ -24,7 +25,7 @@ returns-2 c =
     let fits = d .before .has-room in
     let e = sym (fits .ensures) ∙ not-false (fits .result) (left .if1 .left) in
     let whole = fits-all (c .before .before .before .write-report .ensures) (leb-true _ _ e) in
-    (rw (e, inRoom) (c .walk-verdict .ensures (report (x .w)) (x .answer .now) (whole .0)), (d .walk-place .ensures (report (x .w)) _ (fits .ensures), rw (e, inRoom) (whole .1)))
+    (rw (e, inRoom) (size-verdict (x .w) (report (x .w)) (x .answer .now) (c .walk-verdict .ensures) (whole .0)), (fits-place (x .w) (report (x .w)) _ _ (d .walk-place .ensures) (fits .ensures), rw (e, inRoom) (whole .1)))
 
 pub judge-walk-spec : {M : Type 1} → statement M
 judge-walk-spec =

@@ -4,6 +4,7 @@ use Rattle.report.specs.Report.{report}
 use Rattle.judged.specs.Course.{reached, course}
 use Rattle.judged.proofs.Room.{read-fits}
 use Rattle.judging.proofs.Judgement.{fault-places, walk-places}
+use Rattle.verdicts.proofs.InRoom.{fits-place}
 use borrow.Author.Needs.{needs}
 use Rattle.judging.proofs.place.Statement.{statement}
 use Rattle.judging.proofs.place.Tie as tie
@@ -32,7 +33,7 @@ returns-3 : tie.Need-returns-3
 returns-3 c =
     let e = c .before .before in
     let w = e .before .before .before .walk-texts .result .walked in
-    walk-places _ _ _ w (walked e) (c .walk-place .ensures (report w) _ (c .before .has-room .ensures))
+    walk-places _ _ _ w (walked e) (fits-place w (report w) _ _ (c .walk-place .ensures) (c .before .has-room .ensures))
 
 pub place-spec : {M : Type 1} → statement M
 place-spec =

@@ -2,6 +2,7 @@ use borrow.Author.Tests.{le-leb, lt-leb}
 use Rattle.inks.proofs.Laws.{fits-all}
 use Rattle.judged.specs.Judged.{noRoom, afterWalk, inRoom, over}
 use Rattle.timed.specs.Timed.{markedReport, markInRoom}
+use Rattle.verdicts.proofs.InRoom.{size-verdict}
 use borrow.Author.Needs.{needs}
 use Rattle.timekeeping.proofs.after_walk.Statement.{statement}
 use Rattle.timekeeping.proofs.after_walk.Tie as tie
@@ -20,7 +21,7 @@ returns-2 c =
     let room = rw (d .before .marked-length .ensures) at (d .if1 .left) in
     let whole = fits-all (c .before .before .before .write-marked .ensures) room in
     let e = le-leb _ _ room in
-    (λ a. rw (e, inRoom) (c .walk-verdict .ensures (markedReport (x .walked) (x .mark)) a (whole .0)), (rw (e, markInRoom), λ a. rw (e, inRoom) (whole .1)))
+    (λ a. rw (e, inRoom) (size-verdict (x .walked) (markedReport (x .walked) (x .mark)) a (c .walk-verdict .ensures) (whole .0)), (rw (e, markInRoom), λ a. rw (e, inRoom) (whole .1)))
 
 pub after-walk-spec : {M : Type 1} → statement M
 after-walk-spec =

@@ -1,6 +1,7 @@
 use Rattle.model.specs.declared.Text.the-variants as text
 use Rattle.timed.specs.Timed.{markedReport}
 use Rattle.timekeeping.proofs.Timing.{fault-placed, walk-placed}
+use Rattle.verdicts.proofs.InRoom.{size-place}
 use borrow.Author.Needs.{needs}
 use Rattle.timekeeping.proofs.timed_place.Statement.{statement}
 use Rattle.timekeeping.proofs.timed_place.Tie as tie
@@ -24,7 +25,7 @@ returns-4 : tie.Need-returns-4
 returns-4 c =
     let e = c .before .before .before in
     let w = e .before .before .before .course .result .walk in
-    walk-placed _ _ _ _ (w .walked) (w .mark) (rw (e .enum-told .given .1) at (e .before .before .before .course .ensures)) (c .place-in-room .ensures (markedReport (w .walked) (w .mark)) (c .before .marked-length .ensures))
+    walk-placed _ _ _ _ (w .walked) (w .mark) (rw (e .enum-told .given .1) at (e .before .before .before .course .ensures)) (size-place (w .walked) (markedReport (w .walked) (w .mark)) _ _ (c .place-in-room .ensures) (c .before .marked-length .ensures))
 
 pub timed-place-spec : {M : Type 1} → statement M
 timed-place-spec =
