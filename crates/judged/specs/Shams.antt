@@ -42,7 +42,7 @@ Caught j = (old : List ℕ) → length old ≡ 8192 → (s : List ℕ) × (a : L
 abbrev pub given : Judgement → List ℕ → Given
 given j old = record { verdict = j .verdict; after = over (j .bytes) old; place = j .place }
 
--- the promise can be kept: a sham is not caught because every judge is
+-- not every judge is caught: this one keeps the promise for all texts and buffers
 abbrev pub judging : Judge
 judging s a old = given (judged s a (length old)) old
 

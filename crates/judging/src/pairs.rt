@@ -112,7 +112,7 @@ pub fn read_both(sheet: &[u8], answer: &[u8]) -> Pair
 }
 
 // How far the two texts came, and the walk where both are read.
-pub struct Came {
+pub(crate) struct Came {
     pub outcome: Outcome,
     pub walked: Walked,
 }
