@@ -1,13 +1,12 @@
 -- What the readers give is lawful to the screen, and stepping it through an answer from the empty start is the walk.
 -- Assumes nothing.
-use mathlib.Core.Path.{_≡_, refl, sym, ap, _∙_}
+use mathlib.Core.Path.{_≡_, refl, ap, _∙_}
 use mathlib.Core.Logic.{by-cases}
-use mathlib.Core.Bool.{true, false}
+use mathlib.Core.Bool.{true}
 use mathlib.Core.List.{List, [], _∷_}
 use Prim.Native.Nat.{ℕ, suc, _<_}
 use native.Mathlib.Decide.{ℕ-discrete}
 use native.Mathlib.Omega.{arith}
-use lib.Dec.{eqb}
 use lib.ListN.{getD, length, length-take}
 use lib.Seq.{getD-take}
 use borrow.Author.Tests.{ne-eqb}
@@ -18,8 +17,6 @@ use Rattle.model.specs.declared.Program.{Program}
 use Rattle.model.specs.declared.Step.{Step}
 use Rattle.model.specs.declared.Answer.{Answer}
 use Rattle.model.specs.declared.Configuration.{Configuration}
-use Rattle.model.specs.declared.Stepped.{Stepped}
-use Rattle.model.specs.declared.Walked.{Walked}
 use Rattle.model.specs.Empty.{noStep, start}
 use Rattle.model.specs.View.{stepsOf}
 use Rattle.reading.specs.Limits.{stepsOk}
