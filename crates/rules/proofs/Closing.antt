@@ -1,12 +1,14 @@
 -- What stands where after a gap is closed, and after slots are zeroed.
 -- Assumes nothing.
-use mathlib.Core.Path.{_≡_, refl, ap, _∙_}
+use mathlib.Core.Path.{_≡_, refl, sym, ap, _∙_}
 use mathlib.Core.Logic.{_⊎_, inl, inr, ⊎-elim, by-cases}
-use mathlib.Core.List.{List}
+use mathlib.Core.List.{List, [], _∷_, _++_, append-nil}
 use Prim.Native.Nat.{ℕ, zero, suc, _+_, _-_, _≤_, _<_}
+use native.Mathlib.Nat.{add-zero, add-suc}
+use native.Mathlib.Numerals.{add-one}
 use native.Mathlib.Omega.{arith}
 use native.Mathlib.Decide.{ℕ-discrete, decLt}
-use lib.ListN.{length, getD, set, length-set, List·getD-eq-default}
+use lib.ListN.{length, getD, take, drop, set, length-append, length-set, take-append-drop, List·getD-eq-default}
 use lib.Seq.{getD-set-same, getD-set-other}
 use Rattle.rules.specs.Closing.{down, closed, zeroed}
 
@@ -35,23 +37,73 @@ module _ {A : Type 0} (z : A) (xs : List A) (at : ℕ) (s : ℕ → List A) (v :
           ap (λ (n : ℕ). getD (set (s k) (at + k) (v k)) n z) e ∙ getD-set-same (s k) (at + k) (v k) z (rw (written-length k) (omega arith))
           ∙ ap v (let q : k ≡ j - at = omega arith in q)
 
+-- ---- what moves down, slot after slot: the next one gets its right neighbour's
+
+-- where the first k of ws are those of ys, one more
+one-more : {A : Type 0} (d : A) (k : ℕ) (ys ws : List A) → length ys ≡ length ws → set (take k ys ++ drop k ws) k (getD ys k d) ≡ take (suc k) ys ++ drop (suc k) ws
+one-more d zero [] [] e = refl
+one-more d zero [] (w ∷ ws) e = absurd (omega (arith, e))
+one-more d zero (y ∷ ys) [] e = absurd (omega (arith, e))
+one-more d zero (y ∷ ys) (w ∷ ws) e = refl
+one-more d (suc k) [] [] e = refl
+one-more d (suc k) [] (w ∷ ws) e = absurd (omega (arith, e))
+one-more d (suc k) (y ∷ ys) [] e = absurd (omega (arith, e))
+one-more {A} d (suc k) (y ∷ ys) (w ∷ ws) e = ap (λ (l : List A). y ∷ l) (one-more d k ys ws (omega (arith, e)))
+
+no-take : {A : Type 0} (k : ℕ) → take {A = A} k [] ≡ []
+no-take zero = refl
+no-take (suc k) = refl
+
+no-drop : {A : Type 0} (k : ℕ) → drop {A = A} k [] ≡ []
+no-drop zero = refl
+no-drop (suc k) = refl
+
+module _ {A : Type 0} (z : A) where
+  -- after k of them the next neighbour is still the old one
+  ahead : (x : A) (xs : List A) (k : ℕ) → getD (take k (xs ++ z ∷ []) ++ drop k (x ∷ xs)) (suc k) z ≡ getD (xs ++ z ∷ []) k z
+  ahead x [] zero = refl
+  ahead x (y ∷ xs) zero = refl
+  ahead x [] (suc k) = rw (no-take {A = A} k, no-drop {A = A} k) refl
+  ahead x (y ∷ xs) (suc k) = ahead y xs k
+
+  -- `down`, where n is at + k
+  slid : List A → ℕ → ℕ → ℕ → List A
+  slid xs at k n = take at xs ++ take k (drop (suc at) (xs ++ z ∷ [])) ++ drop n xs
+
+  slide : (xs : List A) (at k n : ℕ) → n ≡ at + k → slid xs at (suc k) (suc n) ≡ set (slid xs at k n) n (getD (slid xs at k n) (suc n) z)
+  unfolding slid
+  slide [] at k n e = rw (no-take {A = A} at, no-drop {A = A} at, no-take {A = A} k, no-drop {A = A} n) refl
+  slide (x ∷ xs) (suc at) k zero e = absurd (omega (arith, e))
+  slide (x ∷ xs) (suc at) k (suc n) e = ap (λ (l : List A). x ∷ l) (slide xs at k n (omega (arith, e)))
+  slide (x ∷ xs) zero k n e =
+      let q : n ≡ k = omega (arith, e) in
+      rw q (sym (ap (set (take k (xs ++ z ∷ []) ++ drop k (x ∷ xs)) k) (ahead x xs k) ∙ one-more z k (xs ++ z ∷ []) (x ∷ xs) (rw (length-append xs (z ∷ [])) (omega arith))))
+
+  pub down-none : (xs : List A) (at : ℕ) → down z xs at 0 ≡ xs
+  unfolding down
+  down-none xs at = rw (add-zero at, append-nil (take at xs)) (take-append-drop at xs)
+
+  pub down-next : (xs : List A) (at k : ℕ) → down z xs at (suc k) ≡ set (down z xs at k) (at + k) (getD (down z xs at k) (at + k + 1) z)
+  unfolding down slid
+  down-next xs at k = rw (add-suc at k, add-one (at + k)) (slide xs at k (at + k) refl)
+
 -- ---- the gap at `at` closed, in what stands before `end`
 module _ {A : Type 0} (z : A) (xs : List A) (at : ℕ) where
   moved : ℕ → A
   moved k = getD (down z xs at k) (at + k + 1) z
 
   length-down : (k : ℕ) → length (down z xs at k) ≡ length xs
-  unfolding down moved
-  length-down = written-length z xs at (down z xs at) moved refl (λ k. refl)
+  unfolding moved
+  length-down = written-length z xs at (down z xs at) moved (down-none z xs at) (down-next z xs at)
 
   down-outside : (k j : ℕ) → (j < at) ⊎ (at + k ≤ j) → getD (down z xs at k) j z ≡ getD xs j z
-  unfolding down moved
-  down-outside = written-outside z xs at (down z xs at) moved refl (λ k. refl)
+  unfolding moved
+  down-outside = written-outside z xs at (down z xs at) moved (down-none z xs at) (down-next z xs at)
 
   down-inside : (k j : ℕ) → at ≤ j → j < at + k → j < length xs → getD (down z xs at k) j z ≡ getD xs (suc j) z
-  unfolding down moved
+  unfolding moved
   down-inside k j a h l =
-      written-inside z xs at (down z xs at) moved refl (λ k. refl) k j a h l ∙ down-outside (j - at) (at + (j - at) + 1) (inr (omega arith))
+      written-inside z xs at (down z xs at) moved (down-none z xs at) (down-next z xs at) k j a h l ∙ down-outside (j - at) (at + (j - at) + 1) (inr (omega arith))
       ∙ ap (λ (n : ℕ). getD xs n z) (let q : at + (j - at) + 1 ≡ suc j = omega arith in q)
 
   pub length-closed : (end : ℕ) → length (closed z xs at end) ≡ length xs

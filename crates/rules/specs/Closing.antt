@@ -1,16 +1,16 @@
 -- Closing the gap at `at` in what stands before `end`: the later ones move down one, and the slot freed gets z. Slots from `end` on stay.
-use mathlib.Core.List.{List}
+use mathlib.Core.List.{List, [], _∷_, _++_}
 use Prim.Native.Nat.{ℕ, zero, suc, _+_, _-_, _*_}
-use lib.ListN.{getD, set}
+use lib.ListN.{take, drop, set}
 use Rattle.model.specs.declared.Instance.{Instance}
 use Rattle.model.specs.declared.Configuration.{Configuration}
 use Rattle.model.specs.View.{put, withQueue}
 
--- the first k slots from `at` have got their right neighbour's
+-- the k slots after `at` have moved down one; past the last slot stands z
 unfoldable pub down : {A : Type 0} → A → List A → ℕ → ℕ → List A
-down z xs at zero = xs
-down z xs at (suc k) = set (down z xs at k) (at + k) (getD (down z xs at k) (at + k + 1) z)
+down z xs at k = take at xs ++ take k (drop (suc at) (xs ++ z ∷ [])) ++ drop (at + k) xs
 
+-- and the slot freed gets z
 unfoldable pub closed : {A : Type 0} → A → List A → ℕ → ℕ → List A
 closed z xs at end = set (down z xs at (end - 1 - at)) (end - 1) z
 
