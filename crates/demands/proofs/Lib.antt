@@ -8,4 +8,3 @@ pub mod Agree
 pub mod AnswerText
 pub mod OnTexts
 pub mod Alone
-pub mod Needed

@@ -53,17 +53,21 @@ move s =
     (cond (eqb (s .verb) enterVerb) (enter (s .id) (s .number))
     (finish (s .id))))
 
+-- the number of an action; those of `fire` and `enter`, which ask the ports, are given
+abbrev pub checkBy : (ℕ → ℕ → ℕ) → (ℕ → ℕ → ℕ) → ℕ → Tables → Configuration → Action → ℕ
+checkBy fires enters default t c (add i k) = addCheck c i
+checkBy fires enters default t c (del i) = delCheck c i
+checkBy fires enters default t c (pushb i b) = pushbCheck default t c i b
+checkBy fires enters default t c (con k) = conCheck t c k
+checkBy fires enters default t c (dcon k) = dconCheck t c k
+checkBy fires enters default t c (wait i) = waitCheck c i
+checkBy fires enters default t c (fire i p) = fires i p
+checkBy fires enters default t c (end i x) = endCheck c i x
+checkBy fires enters default t c (enter i p) = enters i p
+checkBy fires enters default t c (finish i) = finishCheck t c i
+
 unfoldable pub check : ℕ → Tables → Configuration → Action → ℕ
-check default t c (add i k) = addCheck c i
-check default t c (del i) = delCheck c i
-check default t c (pushb i b) = pushbCheck default t c i b
-check default t c (con k) = conCheck t c k
-check default t c (dcon k) = dconCheck t c k
-check default t c (wait i) = waitCheck c i
-check default t c (fire i p) = fireCheck t c i p
-check default t c (end i x) = endCheck c i x
-check default t c (enter i p) = enterCheck t c i p
-check default t c (finish i) = finishCheck t c i
+check default t c a = checkBy (fireCheck t c) (enterCheck t c) default t c a
 
 unfoldable pub effect : Tables → Configuration → Action → Configuration
 effect t c (add i k) = added t c i k

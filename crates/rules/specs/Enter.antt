@@ -10,7 +10,7 @@ use Rattle.model.specs.declared.Configuration.{Configuration}
 use Rattle.model.specs.View.{instance, put}
 use Rattle.rules.specs.Refusal.{_⇒_∣_, allowed, idAbsent, queueEmpty, noTransition, notReady, heldOrMarked, orElse}
 use Rattle.rules.specs.Instance.{entering, entered}
-use Rattle.rules.specs.Ports.{behavior, portCheck}
+use Rattle.rules.specs.Ports.{behavior, PortCheck, portCheck}
 
 -- xs is what leads to p
 unfoldable pub enterRow : Instance → ℕ → ℕ → ℕ
@@ -28,8 +28,12 @@ enterers t c i p = entering t (instance c i .kind) (behavior t c i) p
 abbrev pub afterEnter : Tables → Configuration → ℕ → ℕ → Instance
 afterEnter t c i p = entered (instance c i) p (enterers t c i p)
 
+-- the row, and then a check of the ports
+abbrev pub enterCheckBy : PortCheck → Tables → Configuration → ℕ → ℕ → ℕ
+enterCheckBy ports t c i p = orElse (enterRow (instance c i) p (enterers t c i p)) (ports t c i (instance c i) (afterEnter t c i p))
+
 unfoldable pub enterCheck : Tables → Configuration → ℕ → ℕ → ℕ
-enterCheck t c i p = orElse (enterRow (instance c i) p (enterers t c i p)) (portCheck t c i (instance c i) (afterEnter t c i p))
+enterCheck t c i p = enterCheckBy portCheck t c i p
 
 unfoldable pub enterTo : Tables → Configuration → ℕ → ℕ → Configuration
 enterTo t c i p = put c i (afterEnter t c i p)

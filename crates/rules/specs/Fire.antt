@@ -10,7 +10,7 @@ use Rattle.model.specs.declared.Configuration.{Configuration}
 use Rattle.model.specs.View.{instance, put}
 use Rattle.rules.specs.Refusal.{_⇒_∣_, allowed, idAbsent, queueEmpty, noTransition, notReady, heldOrMarked, orElse}
 use Rattle.rules.specs.Instance.{held, leaving, fired}
-use Rattle.rules.specs.Ports.{behavior, portCheck}
+use Rattle.rules.specs.Ports.{behavior, PortCheck, portCheck}
 
 -- xs is what leaves p
 unfoldable pub fireRow : Instance → ℕ → ℕ → ℕ
@@ -28,8 +28,12 @@ leavers t c i p = leaving t (instance c i .kind) (behavior t c i) p
 abbrev pub afterFire : Tables → Configuration → ℕ → ℕ → Instance
 afterFire t c i p = fired (instance c i) p (leavers t c i p)
 
+-- the row, and then a check of the ports
+abbrev pub fireCheckBy : PortCheck → Tables → Configuration → ℕ → ℕ → ℕ
+fireCheckBy ports t c i p = orElse (fireRow (instance c i) p (leavers t c i p)) (ports t c i (instance c i) (afterFire t c i p))
+
 unfoldable pub fireCheck : Tables → Configuration → ℕ → ℕ → ℕ
-fireCheck t c i p = orElse (fireRow (instance c i) p (leavers t c i p)) (portCheck t c i (instance c i) (afterFire t c i p))
+fireCheck t c i p = fireCheckBy portCheck t c i p
 
 unfoldable pub fireTo : Tables → Configuration → ℕ → ℕ → Configuration
 fireTo t c i p = put c i (afterFire t c i p)

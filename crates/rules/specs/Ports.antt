@@ -54,8 +54,12 @@ failsRefusing t c i v w q = isUse t (w .kind) q && (active t w q && (not (active
 unfoldable pub failsInUse : Tables → Configuration → ℕ → Instance → Instance → ℕ → Bool
 failsInUse t c i v w q = not (isUse t (w .kind) q) && (active t v q && (not (active t w q) && someConnection c (employs t c i q)))
 
+-- what a check of the ports looks at
+abbrev pub PortCheck : Type 0
+PortCheck = Tables → Configuration → ℕ → Instance → Instance → ℕ
+
 -- "Only the moving instance's own ports are tested"; "Checks 34, 35 and 36 each run over all ports before the next"
-unfoldable pub portCheck : Tables → Configuration → ℕ → Instance → Instance → ℕ
+unfoldable pub portCheck : PortCheck
 portCheck t c i v w =
     any (portsOf t v) (failsUnserved t c i w) ⇒ unserved
     ∣ any (portsOf t v) (failsRefusing t c i v w) ⇒ providerRefusing

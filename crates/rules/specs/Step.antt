@@ -25,8 +25,12 @@ line p n = instruction (getD (p .instructions) n noInstruction)
 unfoldable pub action : Program → Configuration → Step → Action
 action p c s = cond (isNext s) (line p (c .done)) (move s)
 
+-- its number, by the number of what it does
+abbrev pub numberBy : (Action → ℕ) → Program → Configuration → Step → ℕ
+numberBy checks p c s = cond (isNext s && leb (p .count) (c .done)) noInstructionLeft (checks (action p c s))
+
 unfoldable pub number : ℕ → Tables → Program → Configuration → Step → ℕ
-number default t p c s = cond (isNext s && leb (p .count) (c .done)) noInstructionLeft (check default t c (action p c s))
+number default t p c s = numberBy (check default t c) p c s
 
 unfoldable pub after : Tables → Program → Configuration → Step → Configuration
 after t p c s = cond (isNext s) (withDone (effect t c (action p c s)) (suc (c .done))) (effect t c (action p c s))

@@ -3,7 +3,7 @@
 use Prim.Native.Nat.{ℕ, _<_}
 use mathlib.Core.Bool.{true, false, not, _&&_, true≢false}
 use mathlib.Core.List.{List, [], _∷_}
-use mathlib.Core.Path.{_≡_, refl, ap, ap₂, _∙_}
+use mathlib.Core.Path.{_≡_, refl, ap}
 use native.Mathlib.Omega.{arith}
 use lib.Dec.{eqb, ltb}
 use lib.ListN.{getD}
@@ -28,34 +28,34 @@ use Rattle.reading.specs.Fill.{headed, withType, withTransition, withPort, prog
 use Rattle.reading.specs.Kinds.{dueLine, countLineIn, initialLine, tranLine, behaviorLine, group, portLine, doId, doNumber, doEnds, doLine, stepId, stepNumber, stepLine}
 use Rattle.reading.specs.Lines.{each}
 use Rattle.reading.specs.Texts.{tran, behavior, port, type, instruct, sheet, stepAt, answer}
-use Rattle.rules.specs.Action.{instruction, move, check, effect}
+use Rattle.rules.specs.Action.{instruction, move, checkBy, check, effect}
 use Rattle.rules.specs.Add.{addCheck, added}
 use Rattle.rules.specs.Closing.{down, closed, zeroed, renewed}
 use Rattle.rules.specs.Con.{isOf, isUsePort, isProvidePort, conCheck, connected}
 use Rattle.rules.specs.End.{endCheck, endTo}
-use Rattle.rules.specs.Enter.{enterRow, enterCheck, enterTo}
+use Rattle.rules.specs.Enter.{enterRow, enterCheckBy, enterCheck, enterTo}
 use Rattle.rules.specs.Finish.{mayLeave, finishRow, finishCheck, finished}
-use Rattle.rules.specs.Fire.{fireRow, fireCheck, fireTo}
+use Rattle.rules.specs.Fire.{fireRow, fireCheckBy, fireCheck, fireTo}
 use Rattle.rules.specs.Instance.{active, current, endsAt, leaving, entering, fired, endedBy, entered, withQueued}
-use Rattle.rules.specs.Ports.{someConnection, wouldLeave, refusing, serves, blocks, employs, failsUnserved, failsRefusing, failsInUse, portCheck}
+use Rattle.rules.specs.Ports.{someConnection, wouldLeave, refusing, serves, blocks, employs, failsUnserved, failsRefusing, failsInUse, PortCheck, portCheck}
 use Rattle.rules.specs.PushB.{pushbCheck, pushed}
-use Rattle.rules.specs.Step.{line, action, number, after, step}
+use Rattle.rules.specs.Step.{line, action, numberBy, number, after, step}
 use Rattle.rules.specs.Wait.{waitCheck}
-use Rattle.rules.specs.Walk.{oneMore, walk, walkAnswer}
+use Rattle.rules.specs.Walk.{oneMore, walkBy, walk, walkAnswer}
 use Rattle.report.specs.Report.{tally, countText, instanceText, instanceAt, connectionAt, instancesText, connectionsText, report}
 use Rattle.judged.specs.Cases.{nexts}
 use Rattle.judged.specs.Course.{short, read, both, course}
 use Rattle.judged.specs.Judged.{afterWalk, inRoom, ending, judged, printing, printed}
-use Rattle.rules.specs.Refusal.{serviceInUse}
+use Rattle.rules.specs.Refusal.{serviceInUse, settle}
 use Rattle.rules.specs.Action.{Action, add, del, pushb, con, dcon, wait, fire, end, enter, finish}
 use Rattle.model.specs.View.{isUse, instance, connection}
 use Rattle.rules.specs.Instance.{portsOf}
 use Rattle.judged.specs.Cases.{P+}
 use Rattle.demands.specs.Agree.{names, deeds, naming}
 use Rattle.demands.specs.Exchange.{between}
 use Rattle.demands.specs.OnTexts.{tablesIn, programIn, stepsIn, AllAllowed}
 use Rattle.demands.specs.Safe.{Safe}
-use Rattle.demands.specs.Needed.{Variant, portCheckBy, checkBy, stepBy, walkBy, asRuled, AsRuledIsTheRule, walkedBy, withoutInUse, leftInUse, endedNotHeld, leftAfterEnd, isWait, withoutWaits, addWait, onward, Unsafe, InUseIsNeeded, EndedHeldIsNeeded, WaitIsNeeded, TokensAloneIsNeeded}
+use Rattle.needed.specs.Needed.{Variant, portCheckBy, variantStep, variantWalk, asRuled, AsRuledIsTheRule, walkedBy, withoutInUse, leftInUse, endedNotHeld, leftAfterEnd, isWait, withoutWaits, addWait, onward, Unsafe, InUseIsNeeded, EndedHeldIsNeeded, WaitIsNeeded, TokensAloneIsNeeded}
 
 -- ---- with the rules' own notions
 
@@ -63,32 +63,17 @@ port-check-as-ruled : (t : Tables) (c : Configuration) (i : ℕ) (v w : Instance
 unfolding portCheckBy portCheck failsUnserved failsRefusing failsInUse serves blocks employs
 port-check-as-ruled t c i v w = refl
 
-check-as-ruled : (default : ℕ) (t : Tables) (c : Configuration) (a : Action) → checkBy asRuled default t c a ≡ check default t c a
-unfolding checkBy check fireCheck enterCheck
-check-as-ruled default t c (fire i p) = rw port-check-as-ruled
-check-as-ruled default t c (enter i p) = rw port-check-as-ruled
-check-as-ruled default t c (add i k) = refl
-check-as-ruled default t c (del i) = refl
-check-as-ruled default t c (pushb i b) = refl
-check-as-ruled default t c (con k) = refl
-check-as-ruled default t c (dcon k) = refl
-check-as-ruled default t c (wait i) = refl
-check-as-ruled default t c (end i x) = refl
-check-as-ruled default t c (finish i) = refl
-
-step-as-ruled : (default : ℕ) (t : Tables) (p : Program) (c : Configuration) (s : Step) → stepBy asRuled default t p c s ≡ step default t p c s
-unfolding stepBy step number
-step-as-ruled default t p c s = rw check-as-ruled
-
-walk-as-ruled : (default : ℕ) (t : Tables) (p : Program) (c : Configuration) (ss : List Step) → walkBy asRuled default t p c ss ≡ walk default t p c ss
-unfolding walkBy walk
-walk-as-ruled default t p c [] = refl
-walk-as-ruled default t p c (s ∷ ss) =
-    let e = step-as-ruled default t p c s in
-    ap₂ goesOn e (ap (λ (x : Stepped). walkBy asRuled default t p (x .configuration) ss) e ∙ walk-as-ruled default t p (step default t p c s .configuration) ss)
+-- so the two step and walk alike
+step-as-ruled : (default : ℕ) (t : Tables) (p : Program) → variantStep asRuled default t p ≡ step default t p
+unfolding step number check fireCheck enterCheck
+step-as-ruled default t p = ap by (λ i t c j v w. port-check-as-ruled t c j v w i)
   where
-    goesOn : Stepped → Walked → Walked
-    goesOn x w = elim (eqb (x .refused) 0) [ true ↦ oneMore w | false ↦ record { accepted = 0; refused = x .refused; configuration = x .configuration } ]
+    by : PortCheck → Configuration → Step → Stepped
+    by x c s = settle (numberBy (checkBy (fireCheckBy x t c) (enterCheckBy x t c) default t c) p c s) c (after t p c s)
+
+walk-as-ruled : (default : ℕ) (t : Tables) (p : Program) (c : Configuration) (ss : List Step) → variantWalk asRuled default t p c ss ≡ walk default t p c ss
+unfolding walk
+walk-as-ruled default t p c ss = ap (λ (f : Configuration → Step → Stepped). walkBy f c ss) (step-as-ruled default t p)
 
 pub as-ruled-is-the-rule : AsRuledIsTheRule
 unfolding AsRuledIsTheRule
@@ -118,7 +103,7 @@ record Computed : Type 0 where
   tokens : TokensAloneIsNeeded
 
 computed : Computed
-unfolding member collect all any noTables noProgram noAnswer start listOf queueOf put withQueue withConnections withDone key digit numberFrom membersFrom list one two four set sets digitsIn numberText membersBelow moreText listText maskText inTurn oneText headed withType withTransition withPort programOf withInstruction answerOf withStep dueLine countLineIn initialLine tranLine behaviorLine group portLine doId doNumber doEnds doLine stepId stepNumber stepLine each tran behavior port type instruct sheet stepAt answer instruction move check effect addCheck added down closed zeroed renewed isOf isUsePort isProvidePort conCheck connected endCheck endTo enterRow enterTo mayLeave finishRow finishCheck finished fireRow fireTo active current endsAt leaving entering fired endedBy entered withQueued someConnection wouldLeave refusing serves blocks employs failsUnserved failsRefusing failsInUse portCheck pushbCheck pushed line action number after step waitCheck oneMore walk walkAnswer tally countText instanceText instanceAt connectionAt instancesText connectionsText report nexts short read both course afterWalk inRoom ending judged printing printed deeds between portCheckBy checkBy stepBy walkBy tablesIn programIn stepsIn TokensAloneIsNeeded
+unfolding member collect all any noTables noProgram noAnswer start listOf queueOf put withQueue withConnections withDone key digit numberFrom membersFrom list one two four set sets digitsIn numberText membersBelow moreText listText maskText inTurn oneText headed withType withTransition withPort programOf withInstruction answerOf withStep dueLine countLineIn initialLine tranLine behaviorLine group portLine doId doNumber doEnds doLine stepId stepNumber stepLine each tran behavior port type instruct sheet stepAt answer instruction move check effect addCheck added down closed zeroed renewed isOf isUsePort isProvidePort conCheck connected endCheck endTo enterRow enterTo mayLeave finishRow finishCheck finished fireRow fireTo active current endsAt leaving entering fired endedBy entered withQueued someConnection wouldLeave refusing serves blocks employs failsUnserved failsRefusing failsInUse portCheck pushbCheck pushed line action number after step waitCheck oneMore walk walkAnswer tally countText instanceText instanceAt connectionAt instancesText connectionsText report nexts short read both course afterWalk inRoom ending judged printing printed deeds between portCheckBy tablesIn programIn stepsIn TokensAloneIsNeeded
 computed = record {
   in-use = record { ruled = refl; allows = refl; present = refl; port = refl; fails = refl };
   ended = record { ruled = refl; allows = refl; present = refl; port = refl; fails = refl };

@@ -1,10 +1,10 @@
 -- Why each is needed: a rule, or what a projection holds, is changed in one thing and kept in all others, and on an example a demand fails.
 use Prim.Native.Nat.{ℕ}
-use mathlib.Core.Bool.{Bool, true, false, not, _&&_, _||_, cond}
+use mathlib.Core.Bool.{Bool, true, false, not, _&&_, _||_}
 use mathlib.Core.List.{List, [], _∷_, _++_}
 use mathlib.Core.Path.{_≡_}
 use mathlib.Core.Logic.{_≢_}
-use lib.Dec.{eqb, leb}
+use lib.Dec.{eqb}
 use Rattle.sets.specs.Mask.{overlaps}
 use Rattle.sets.specs.Test.{any}
 use Rattle.forms.specs.Reader.{bytes}
@@ -17,20 +17,20 @@ use Rattle.model.specs.declared.Stepped.{Stepped}
 use Rattle.model.specs.declared.Walked.{Walked}
 use Rattle.model.specs.Empty.{start}
 use Rattle.model.specs.View.{isUse, groupPlaces, groupTransitions, instance}
-use Rattle.rules.specs.Refusal.{_⇒_∣_, allowed, noInstructionLeft, unserved, providerRefusing, serviceInUse, orElse, settle}
+use Rattle.rules.specs.Refusal.{_⇒_∣_, allowed, unserved, providerRefusing, serviceInUse, settle}
 use Rattle.rules.specs.Instance.{active, portsOf}
-use Rattle.rules.specs.Ports.{someConnection, behavior, wouldLeave, refusing, portCheck}
-use Rattle.rules.specs.Fire.{fireRow, leavers, afterFire}
-use Rattle.rules.specs.Enter.{enterRow, enterers, afterEnter}
-use Rattle.rules.specs.Action.{Action, add, del, pushb, con, dcon, wait, fire, end, enter, finish, check}
-use Rattle.rules.specs.Step.{isNext, action, after}
-use Rattle.rules.specs.Walk.{oneMore, walk}
+use Rattle.rules.specs.Ports.{someConnection, behavior, wouldLeave, refusing, PortCheck, portCheck}
+use Rattle.rules.specs.Fire.{afterFire, fireCheckBy}
+use Rattle.rules.specs.Enter.{enterCheckBy}
+use Rattle.rules.specs.Action.{Action, add, del, pushb, con, dcon, wait, fire, end, enter, finish, checkBy}
+use Rattle.rules.specs.Step.{numberBy, after}
+use Rattle.rules.specs.Walk.{walkBy, walk}
 use Rattle.judged.specs.Cases.{P+, steps}
 use Rattle.judged.specs.Course.{default}
 use Rattle.judged.specs.Judged.{printed}
 use Rattle.demands.specs.Safe.{Safe}
 use Rattle.demands.specs.Exchange.{between}
 use Rattle.demands.specs.OnTexts.{tablesIn, programIn, stepsIn, AllAllowed, projectionOn}
 
 -- ---- the rules with one notion changed
 
@@ -47,8 +47,8 @@ someProvider c i q test = someConnection c (λ k. eqb (k .user) i && (eqb (k .us
 abbrev pub someUser : Configuration → ℕ → ℕ → (ℕ → ℕ → Bool) → Bool
 someUser c i q test = someConnection c (λ k. eqb (k .provider) i && (eqb (k .provideport) q && test (k .user) (k .useport)))
 
--- `portCheck`, with the variant in the place of its own notions; step and walk with it, and with every other check and effect as ruled
-unfoldable pub portCheckBy : Variant → Tables → Configuration → ℕ → Instance → Instance → ℕ
+-- `portCheck`, with the variant in the place of its own notions
+unfoldable pub portCheckBy : Variant → PortCheck
 portCheckBy x t c i v w =
     let uses : ℕ → Bool = isUse t (w .kind) in
     let before : ℕ → Bool = x .active t v in
@@ -59,29 +59,15 @@ portCheckBy x t c i v w =
     ∣ x .third && any (portsOf t v) (λ q. not (uses q) && (before q && (not (after q) && someUser c i q active))) ⇒ serviceInUse
     ∣ allowed
 
-unfoldable pub checkBy : Variant → ℕ → Tables → Configuration → Action → ℕ
-checkBy x default t c (fire i p) = orElse (fireRow (instance c i) p (leavers t c i p)) (portCheckBy x t c i (instance c i) (afterFire t c i p))
-checkBy x default t c (enter i p) = orElse (enterRow (instance c i) p (enterers t c i p)) (portCheckBy x t c i (instance c i) (afterEnter t c i p))
-checkBy x default t c (add i k) = check default t c (add i k)
-checkBy x default t c (del i) = check default t c (del i)
-checkBy x default t c (pushb i b) = check default t c (pushb i b)
-checkBy x default t c (con k) = check default t c (con k)
-checkBy x default t c (dcon k) = check default t c (dcon k)
-checkBy x default t c (wait i) = check default t c (wait i)
-checkBy x default t c (end i y) = check default t c (end i y)
-checkBy x default t c (finish i) = check default t c (finish i)
+-- the rules' own walk with that check in the place of 34, 35 and 36
+abbrev pub variantCheck : Variant → ℕ → Tables → Configuration → Action → ℕ
+variantCheck x default t c a = checkBy (fireCheckBy (portCheckBy x) t c) (enterCheckBy (portCheckBy x) t c) default t c a
 
-unfoldable pub stepBy : Variant → ℕ → Tables → Program → Configuration → Step → Stepped
-stepBy x default t p c s =
-    settle (cond (isNext s && leb (p .count) (c .done)) noInstructionLeft (checkBy x default t c (action p c s))) c (after t p c s)
+abbrev pub variantStep : Variant → ℕ → Tables → Program → Configuration → Step → Stepped
+variantStep x default t p c s = settle (numberBy (variantCheck x default t c) p c s) c (after t p c s)
 
-unfoldable pub walkBy : Variant → ℕ → Tables → Program → Configuration → List Step → Walked
-walkBy x default t p c [] = record { accepted = 0; refused = 0; configuration = c }
-walkBy x default t p c (s ∷ ss) =
-    elim (eqb (stepBy x default t p c s .refused) 0) [
-      | true ↦ oneMore (walkBy x default t p (stepBy x default t p c s .configuration) ss)
-      | false ↦ record { accepted = 0; refused = stepBy x default t p c s .refused; configuration = stepBy x default t p c s .configuration }
-    ]
+abbrev pub variantWalk : Variant → ℕ → Tables → Program → Configuration → List Step → Walked
+variantWalk x default t p c ss = walkBy (variantStep x default t p) c ss
 
 -- 01's own notions
 abbrev pub asRuled : Variant
@@ -91,11 +77,11 @@ asRuled = record { active = active; refusing = λ t c j. refusing t (instance c 
 unfoldable pub AsRuledIsTheRule : Type 0
 AsRuledIsTheRule =
     ((t : Tables) (c : Configuration) (i : ℕ) (v w : Instance) → portCheckBy asRuled t c i v w ≡ portCheck t c i v w)
-    × ((default : ℕ) (t : Tables) (p : Program) (c : Configuration) (ss : List Step) → walkBy asRuled default t p c ss ≡ walk default t p c ss)
+    × ((default : ℕ) (t : Tables) (p : Program) (c : Configuration) (ss : List Step) → variantWalk asRuled default t p c ss ≡ walk default t p c ss)
 
 -- a sheet and an answer walked by a variant
 abbrev pub walkedBy : Variant → List ℕ → List ℕ → Walked
-walkedBy x s a = walkBy x default (tablesIn s) (programIn s) start (stepsIn a)
+walkedBy x s a = variantWalk x default (tablesIn s) (programIn s) start (stepsIn a)
 
 -- demand 2 fails: the rules refuse a step with 36, the variant allows all steps and comes to a point that is not safe
 abbrev pub Unsafe : Variant → List ℕ → List ℕ → Type 0
