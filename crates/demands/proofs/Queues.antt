@@ -18,12 +18,12 @@ use Rattle.model.proofs.View.{list-same, list-snoc, list-head, start-instance}
 use Rattle.rules.specs.Instance.{fired, endedBy, entered, withQueued}
 use Rattle.rules.specs.Action.{Action, add, del, pushb, con, dcon, wait, fire, end, enter, finish, check, effect}
 use Rattle.rules.specs.Step.{action, number, after}
-use Rattle.rules.specs.Walk.{oneMore, walk}
+use Rattle.rules.specs.Walk.{oneMore, besideBy, walk}
 use Rattle.rules.specs.Proper.{Proper}
 use Rattle.rules.proofs.Tables.{Facts, facts}
 use Rattle.rules.proofs.Local.{shifted, appended, change, touches, changes, owner, ownerOf, at-owner, self, ownInstance, turn, turnedSlot, ownSlot, Fits, Room, room-own, instance-own, instance-other, slot-own, slot-other}
 use Rattle.rules.proofs.Allowed.{del-facts}
-use Rattle.rules.proofs.Walks.{walk-cases, number-facts, after-cases}
+use Rattle.rules.proofs.Walks.{step-on, step-stop, walk-cases, number-facts, after-cases}
 use Rattle.rules.proofs.Proper.{Lawfully, room, step-lawfully, step-proper, start-proper}
 use Rattle.demands.specs.Queues.{Story, nothing, morePushed, moreFinished, tell, story, QueuesAreKept}
 
@@ -135,8 +135,8 @@ module _ (default : ℕ) (t : Tables) (p : Program) (law : Facts default t p) (i
   told-from [] c h now told = told
   told-from (s ∷ ss) c h now told =
       walk-cases default t p (λ w. KeptAt (story default t p i c (s ∷ ss) h) (w .configuration)) c s ss
-      (λ e. rw (eq-eqb (number default t p c s) 0 e, story) (told-from ss (after t p c s) (tell c i (action p c s) h) (step-proper default t p law c s now e) (step-told c s h now e told)))
-      (λ n. rw (ne-eqb (number default t p c s) 0 n, story) told)
+      (λ e. rw (besideBy, step-on default t p c s e, step-on default t p c s e) (told-from ss (after t p c s) (tell c i (action p c s) h) (step-proper default t p law c s now e) (step-told c s h now e told)))
+      (λ n. rw (besideBy, step-stop default t p c s n, ne-eqb (number default t p c s) 0 n) told)
 
 pub queues-are-kept : QueuesAreKept
 unfolding QueuesAreKept queueOf listOf

@@ -1,7 +1,7 @@
 -- "the behaviors a component has finished since it was added, followed by those still queued, are those pushed to it since then, in that
 -- order."
 use mathlib.Core.Path.{_≡_}
-use mathlib.Core.Bool.{true, false, cond}
+use mathlib.Core.Bool.{cond}
 use mathlib.Core.List.{List, [], _∷_, _++_}
 use Prim.Native.Nat.{ℕ, _≤_}
 use lib.Dec.{eqb}
@@ -13,8 +13,8 @@ use Rattle.model.specs.Empty.{start}
 use Rattle.model.specs.View.{head, queueOf}
 use Rattle.reading.specs.Lawful.{Lawful}
 use Rattle.rules.specs.Action.{Action, add, del, pushb, con, dcon, wait, fire, end, enter, finish}
-use Rattle.rules.specs.Step.{action, number, after}
-use Rattle.rules.specs.Walk.{walk}
+use Rattle.rules.specs.Step.{action, step}
+use Rattle.rules.specs.Walk.{besideBy, walk}
 
 -- what was pushed to a component and what it finished, since it was added
 pub record Story (A : Type 0) : Type 0 where
@@ -45,12 +45,7 @@ tell c i (enter j p) h = h
 
 -- over the accepted steps
 unfoldable pub story : ℕ → Tables → Program → ℕ → Configuration → List Step → Story ℕ → Story ℕ
-story default t p i c [] h = h
-story default t p i c (s ∷ ss) h =
-    elim (eqb (number default t p c s) 0) [
-      | true ↦ story default t p i (after t p c s) ss (tell c i (action p c s) h)
-      | false ↦ h
-    ]
+story default t p i c ss h = besideBy (step default t p) (λ c d s. tell c i (action p c s)) c ss h
 
 unfoldable pub QueuesAreKept : Type 0
 QueuesAreKept =

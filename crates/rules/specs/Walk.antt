@@ -26,6 +26,15 @@ walkBy answers c (s ∷ ss) =
       | false ↦ record { accepted = 0; refused = answers c s .refused; configuration = answers c s .configuration }
     ]
 
+-- what goes on beside it: at each allowed step, from c to d
+abbrev pub besideBy : {A : Type 0} → (Configuration → Step → Stepped) → (Configuration → Configuration → Step → A → A) → Configuration → List Step → A → A
+besideBy answers goesOn c [] x = x
+besideBy answers goesOn c (s ∷ ss) x =
+    elim (eqb (answers c s .refused) 0) [
+      | true ↦ besideBy answers goesOn (answers c s .configuration) ss (goesOn c (answers c s .configuration) s x)
+      | false ↦ x
+    ]
+
 -- by the rules
 unfoldable pub walk : ℕ → Tables → Program → Configuration → List Step → Walked
 walk default t p c ss = walkBy (step default t p) c ss
