@@ -1,9 +1,11 @@
 -- Two allowed answers with equal projections have one outcome.
 -- Assumes nothing.
 use mathlib.Core.Path.{_≡_, refl, sym, ap, ap₂, _∙_}
-use mathlib.Core.Bool.{Bool, true, false, not, cond}
+use mathlib.Core.Bool.{Bool, true, false, cond}
 use mathlib.Core.List.{List, [], _∷_}
-use Prim.Native.Nat.{ℕ, zero, suc, _<_}
+use Prim.Native.Nat.{ℕ, zero, suc, _+_, _<_}
+use native.Mathlib.Nat.{zero-add}
+use native.Mathlib.Numerals.{one-add}
 use Rattle.forms.proofs.Tests.{by-test}
 use Rattle.model.specs.declared.Tables.{Tables}
 use Rattle.model.specs.declared.Program.{Program}
@@ -23,42 +25,30 @@ use Rattle.rules.proofs.Proper.{step-lawfully, step-proper, start-proper, prope
 use Rattle.demands.specs.Agree.{names, deeds, naming, ReportsAgree}
 use Rattle.demands.proofs.Parts.{Part, part, acted, part-after, whole}
 use Rattle.demands.proofs.Moves.{isMove, line-no-move, move-is-move, move-changes}
-use Rattle.demands.proofs.Traces.{more, count, same-count}
+use Rattle.demands.proofs.Traces.{tally, same-tally}
 
--- ---- the steps of a kind and the actions of a kind
+-- ---- as many steps, and as many of them `next`
 
-tally : (Step → Bool) → List Step → ℕ
-tally g [] = 0
-tally g (s ∷ ss) = more (g s) (tally g ss)
+abbrev each : Step → ℕ
+each s = 1
 
-count-deeds : (p : Program) (f : Action → Bool) (g : Step → Bool) → ((n : ℕ) (s : Step) → isNext s ≡ true → f (line p n) ≡ g s) → ((s : Step) → isNext s ≡ false → f (move s) ≡ g s)
-    → (ss : List Step) (n : ℕ) → count f (deeds p n ss) ≡ tally g ss
-unfolding count tally deeds
-count-deeds p f g next move-is [] n = refl
-count-deeds p f g next move-is (s ∷ ss) n =
-    by-test (isNext s)
-    (λ e. rw (e, deeds) (ap₂ more (next n s e) (count-deeds p f g next move-is ss (suc n))))
-    (λ e. rw (e, deeds) (ap₂ more (move-is s e) (count-deeds p f g next move-is ss n)))
+abbrev ifNext : Step → ℕ
+ifNext s = cond (isNext s) 1 0
 
 module _ (p : Program) (n : ℕ) (ss us : List Step) (same : (i : ℕ) → naming i (deeds p n ss) ≡ naming i (deeds p n us)) where
-  -- as many steps, and as many of them `next`
-  same-length : tally (λ s. true) ss ≡ tally (λ s. true) us
-  same-length =
-      let by = count-deeds p (λ a. true) (λ s. true) (λ n s e. refl) (λ s e. refl) in
-      sym (by ss n) ∙ same-count (λ a. true) (deeds p n ss) (deeds p n us) same ∙ by us n
+  pub same-count : tally each ss ≡ tally each us
+  same-count = same-tally p (λ a. 1) each (λ n s e. refl) (λ s e. refl) n ss us same
 
-  same-nexts : tally isNext ss ≡ tally isNext us
-  same-nexts =
-      let by = count-deeds p (λ a. not (isMove a)) isNext (λ n s e. ap not (line-no-move p n) ∙ sym e) (λ s e. ap not (move-is-move s) ∙ sym e) in
-      sym (by ss n) ∙ same-count (λ a. not (isMove a)) (deeds p n ss) (deeds p n us) same ∙ by us n
+  same-nexts : tally ifNext ss ≡ tally ifNext us
+  same-nexts = same-tally p (λ a. cond (isMove a) 0 1) ifNext (λ n s e. rw (line-no-move p n, e)) (λ s e. rw (move-is-move s, e)) n ss us same
 
 accepted-walk : (default : ℕ) (t : Tables) (p : Program) (ss : List Step) (c : Configuration) → walk default t p c ss .refused ≡ 0
-    → walk default t p c ss .accepted ≡ tally (λ s. true) ss
-unfolding walk oneMore tally more
+    → walk default t p c ss .accepted ≡ tally each ss
+unfolding walk oneMore tally
 accepted-walk default t p [] c ok = refl
 accepted-walk default t p (s ∷ ss) c ok =
     ap (λ (w : Walked). w .accepted) (walk-on default t p c s ss (allowed-head default t p c s ss ok))
-    ∙ ap suc (accepted-walk default t p ss (after t p c s) (allowed-tail default t p c s ss ok))
+    ∙ ap suc (accepted-walk default t p ss (after t p c s) (allowed-tail default t p c s ss ok)) ∙ sym (one-add (tally each ss))
 
 -- ---- connections and the instructions done: the program's next instructions, as many as there are `next`
 
@@ -85,18 +75,18 @@ module _ (default : ℕ) (t : Tables) (p : Program) where
       (λ e. rw e (ap (λ (x : Wires). record { joined = x; done = suc (c .done) }) (rest-after t c (line p (c .done)) .connections)))
       (λ e. rw e (ap₂ (λ (x : Wires) (n : ℕ). record { joined = x; done = n }) (part-wires t c (move s) (s .id) (move-changes s)) (rest-after t c (move s) .done)))
 
-  course-walk : (ss : List Step) (c : Configuration) → walk default t p c ss .refused ≡ 0 → course (walk default t p c ss .configuration) ≡ times (tally isNext ss) (onward p) (course c)
-  unfolding walk oneMore tally more times
+  course-walk : (ss : List Step) (c : Configuration) → walk default t p c ss .refused ≡ 0 → course (walk default t p c ss .configuration) ≡ times (tally ifNext ss) (onward p) (course c)
+  unfolding walk oneMore tally times
   course-walk [] c ok = refl
   course-walk (s ∷ ss) c ok =
       ap (λ (w : Walked). course (w .configuration)) (walk-on default t p c s ss (allowed-head default t p c s ss ok))
       ∙ course-walk ss (after t p c s) (allowed-tail default t p c s ss ok)
-      ∙ ap (times (tally isNext ss) (onward p)) (course-step c s)
+      ∙ ap (times (tally ifNext ss) (onward p)) (course-step c s)
       ∙ go (isNext s)
     where
-      go : (b : Bool) → times (tally isNext ss) (onward p) (cond b (onward p (course c)) (course c)) ≡ times (more b (tally isNext ss)) (onward p) (course c)
-      go true = refl
-      go false = refl
+      go : (b : Bool) → times (tally ifNext ss) (onward p) (cond b (onward p (course c)) (course c)) ≡ times (cond b 1 0 + tally ifNext ss) (onward p) (course c)
+      go true = rw (one-add (tally ifNext ss)) refl
+      go false = rw (zero-add (tally ifNext ss)) refl
 
 same-walked : (w u : Walked) → w .accepted ≡ u .accepted → w .refused ≡ u .refused → w .configuration ≡ u .configuration
     → _≡_ {A = Walked} (record { accepted = w .accepted; refused = w .refused; configuration = w .configuration }) u
@@ -159,7 +149,7 @@ module _ (default : ℕ) (t : Tables) (p : Program) (law : Facts default t p) wh
   agree-from c ss us now a b same = same-walked (walk default t p c ss) (walk default t p c us) accepted (a ∙ sym b) configuration
     where
       accepted : walk default t p c ss .accepted ≡ walk default t p c us .accepted
-      accepted = accepted-walk default t p ss c a ∙ same-length p (c .done) ss us same ∙ sym (accepted-walk default t p us c b)
+      accepted = accepted-walk default t p ss c a ∙ same-count p (c .done) ss us same ∙ sym (accepted-walk default t p us c b)
 
       parts : (i : ℕ) → i < 32 → part (walk default t p c ss .configuration) i ≡ part (walk default t p c us .configuration) i
       parts i h =

@@ -152,16 +152,22 @@ answers-are-their-texts a r y q =
     let steps : v ≡ stepsText (take n (z .steps)) = u .is ∙ rw (end-back w end, zero-add n) (append-nil _) in
     rw (← on-value q, u .counted, length-take-le n (z .steps) (omega (arith, u .sized)), first-back a first, head, ← steps) (simp append-assoc)
 
--- ---- two neighbouring steps exchanged
+-- ---- how long a text is
+
+-- the length of an answer's text hangs on the count of its steps and on the bytes of their lines
+pub text-length : (ss us : List Step) → length ss ≡ length us → length (stepsText ss) ≡ length (stepsText us) → length (answerText ss) ≡ length (answerText us)
+unfolding answerText
+text-length ss us count lines =
+    let head : ℕ → List ℕ = λ k. bytes "answer=1\n" ++ bytes "steps=" ++ oneText k in
+    length-append (head _) _ ∙ ap₂ (λ (k l : ℕ). length (head k) + l) count lines ∙ sym (length-append (head _) _)
+
+-- two neighbouring steps exchanged
 module _ (before after : List Step) where
   steps-length : (m n : Step) → length (stepsText (before ++ m ∷ n ∷ after)) ≡ length (stepsText before) + (length (stepText m) + (length (stepText n) + length (stepsText after)))
   unfolding stepsText
   steps-length m n = rw (steps-append before (m ∷ n ∷ after), length-append (stepsText before), length-append (stepText m), length-append (stepText n)) refl
 
   pub exchanged-length : (m n : Step) → length (answerText (before ++ m ∷ n ∷ after)) ≡ length (answerText (before ++ n ∷ m ∷ after))
-  unfolding answerText
   exchanged-length m n =
-      let head : ℕ → List ℕ = λ k. bytes "answer=1\n" ++ bytes "steps=" ++ oneText k in
-      let steps : length (stepsText (before ++ m ∷ n ∷ after)) ≡ length (stepsText (before ++ n ∷ m ∷ after)) = omega (arith, steps-length m n, steps-length n m) in
-      let count : length (before ++ m ∷ n ∷ after) ≡ length (before ++ n ∷ m ∷ after) = rw (length-append before, length-append before) refl in
-      length-append (head _) _ ∙ ap₂ (λ (k l : ℕ). length (head k) + l) count steps ∙ sym (length-append (head _) _)
+      text-length (before ++ m ∷ n ∷ after) (before ++ n ∷ m ∷ after) (rw (length-append before, length-append before) refl)
+      (omega (arith, steps-length m n, steps-length n m))

@@ -5,6 +5,7 @@ pub mod Moves
 pub mod Exchange
 pub mod Traces
 pub mod Agree
+pub mod Lengths
 pub mod AnswerText
 pub mod OnTexts
 pub mod Alone

@@ -6,7 +6,7 @@ use mathlib.Core.Path.{_≡_, refl, sym, ap, _∙_}
 use native.Mathlib.Omega.{arith}
 use lib.Dec.{leb}
 use lib.ListN.{length, length-append}
-use borrow.Author.Tests.{le-leb}
+use borrow.Author.Tests.{le-leb, eq-eqb}
 use Rattle.forms.proofs.Tests.{by-test}
 use Rattle.model.specs.declared.Walked.{Walked}
 use Rattle.model.specs.declared.Text.{Text}
@@ -22,7 +22,7 @@ use Rattle.reading.proofs.Lawful.{sheets-are-lawful}
 use Rattle.rules.specs.Walk.{walkAnswer}
 use Rattle.report.specs.Report.{report}
 use Rattle.judged.specs.Course.{Course, faulty, reached, default, short, read, both, course}
-use Rattle.judged.specs.Judged.{afterFault, afterWalk, inRoom, ending, judged, printing, printed}
+use Rattle.judged.specs.Judged.{afterFault, afterWalk, stepPlace, inRoom, ending, judged, printing, printed}
 use Rattle.judged.specs.Room.{ReportsFit}
 use Rattle.judged.proofs.Read.{both-read, fault-numbered}
 use Rattle.judged.proofs.Room.{reports-fit}
@@ -33,6 +33,7 @@ use Rattle.demands.specs.Exchange.{MovesExchange}
 use Rattle.demands.specs.Agree.{ReportsAgree}
 use Rattle.demands.specs.AnswerText.{answerText, AnswersAreTheirTexts}
 use Rattle.demands.proofs.AnswerText.{answers-are-their-texts, exchanged-length}
+use Rattle.demands.proofs.Lengths.{same-text-length}
 use Rattle.demands.proofs.Safe.{walks-are-safe}
 use Rattle.demands.proofs.Queues.{queues-are-kept}
 use Rattle.demands.proofs.Exchange.{moves-exchange}
@@ -44,18 +45,20 @@ pub reached-is-the-walk : ReachedIsTheWalk
 unfolding ReachedIsTheWalk walkAnswer tablesIn programIn stepsIn
 reached-is-the-walk s a w e = let b = both-read s a w e in b .walked ∙ rw (b .sheet-is, b .answer-is, tablesIn, programIn, stepsIn)
 
--- the walk is reached, and the sheet is lawful
+-- the walk is reached, the sheet is lawful, and the answer is the text of its steps
 record Goes (s a : List ℕ) : Type 0 where
   is : course s a ≡ reached (walkOn s (stepsIn a))
   lawful : Lawful (tablesIn s) (programIn s)
+  text : a ≡ answerText (stepsIn a)
 
 read-goes : (s a : List ℕ) → Reads s a → Goes s a
-unfolding ReachedIsTheWalk tablesIn programIn SheetsAreLawful
+unfolding ReachedIsTheWalk tablesIn programIn stepsIn SheetsAreLawful AnswersAreTheirTexts
 read-goes s a (w, e) =
     let b = both-read s a w e in
     record {
       is = e ∙ ap reached (reached-is-the-walk s a w e);
       lawful = rw (b .sheet-is, tablesIn, programIn) (sheets-are-lawful s _ _ _ (b .sheet-is));
+      text = rw (b .answer-is, stepsIn) (answers-are-their-texts a _ _ (b .answer-is));
     }
 
 -- ---- what the judge makes of it
@@ -81,12 +84,19 @@ alike-in-room : (room : ℕ) (w : Walked) (a b r : List ℕ) → (inRoom room w 
 unfolding inRoom afterWalk
 alike-in-room room w a b r = by-test (leb (length r) room) (λ e. rw (e, inRoom) (refl, refl)) (λ e. rw (e, inRoom) (refl, refl))
 
-alike-where-reached : (s a b : List ℕ) (w : Walked) → course s a ≡ reached w → course s b ≡ reached w → SameReports s a b
+-- and with no refusal that place is the answer's end
+place-in-room : (room : ℕ) (w : Walked) (a b r : List ℕ) → w .refused ≡ 0 → length a ≡ length b → inRoom room w r a .place ≡ inRoom room w r b .place
+unfolding inRoom afterWalk stepPlace
+place-in-room room w a b r ok l =
+    by-test (leb (length r) room) (λ e. rw (e, inRoom, eq-eqb (w .refused) 0 ok, stepPlace, l)) (λ e. rw (e, inRoom) refl)
+
+alike-where-reached : (s a b : List ℕ) (w : Walked) → w .refused ≡ 0 → length a ≡ length b → course s a ≡ reached w → course s b ≡ reached w → SameReports s a b
 unfolding judged ending printed printing
-alike-where-reached s a b w e f = record {
+alike-where-reached s a b w ok l e f = record {
   printed-alike = rw (e, f, printing) (alike-in-room 8192 w a b (report w) .1);
   verdicts-alike = λ room. rw (e, f, ending) (alike-in-room room w a b (report w) .0);
   bytes-alike = λ room. rw (e, f, ending) (alike-in-room room w a b (report w) .1);
+  places-alike = λ room. rw (e, f, ending) (place-in-room room w a b (report w) ok l);
 }
 
 -- ---- the exchanged answer
@@ -119,12 +129,14 @@ as-long-reads s a b l y (w, e) =
     (λ q. absurd (not-reached (rw (course, both, short, p, q) at e))))
     (λ p. absurd (not-reached (rw (course, both, short, p) at e)))
 
-exchanged-reads : (s a b : List ℕ) → Exchanged s a b → Reads s a → Reads s b
+-- it is as long as the first, and is read beside the same sheet
+exchanged-reads : (s a b : List ℕ) → Exchanged s a b → Reads s a → (length a ≡ length b) × Reads s b
 exchanged-reads s a b x r =
     let y = some-steps a (rw (x .these, length-append (x .before)) (omega arith)) in
     let z = some-steps b (rw (x .those, length-append (x .before)) (omega arith)) in
     let l : length (answerText (stepsIn a)) ≡ length (answerText (stepsIn b)) = rw (x .these, x .those) (exchanged-length (x .before) (x .after) (x .m) (x .n)) in
-    as-long-reads s a b (ap length (y .text) ∙ l ∙ sym (ap length (z .text))) z r
+    let q = ap length (y .text) ∙ l ∙ sym (ap length (z .text)) in
+    (q, as-long-reads s a b q z r)
 
 -- ---- the demands
 
@@ -142,12 +154,14 @@ reports-agree-on-texts s a b p q same =
     let (g, x) = allowed-goes s a p in
     let (h, y) = allowed-goes s b q in
     let e = reports-agree default (tablesIn s) (programIn s) (stepsIn a) (stepsIn b) (omega arith) (g .lawful) x y same in
-    alike-where-reached s a b _ (g .is) (h .is ∙ ap reached (sym e))
+    let l = ap length (g .text) ∙ same-text-length (programIn s) 0 (stepsIn a) (stepsIn b) same ∙ sym (ap length (h .text)) in
+    alike-where-reached s a b _ x l (g .is) (h .is ∙ ap reached (sym e))
 
 pub moves-exchange-on-texts : MovesExchangeOnTexts
 unfolding MovesExchangeOnTexts MovesExchange
 moves-exchange-on-texts s a b x p =
     let (g, y) = allowed-goes s a p in
-    let h = read-goes s b (exchanged-reads s a b x (allowed-reads s a p)) in
+    let (l, r) = exchanged-reads s a b x (allowed-reads s a p) in
+    let h = read-goes s b r in
     let (still, e) = moves-exchange default (tablesIn s) (programIn s) (x .before) (x .after) (x .m) (x .n) (omega arith) (g .lawful) (x .exchangeable) (rw (x .these) at y) in
-    (number-is s b _ (h .is) ∙ rw (x .those) still, alike-where-reached s a b _ (g .is) (h .is ∙ ap reached (rw (x .those, x .these) e)))
+    (number-is s b _ (h .is) ∙ rw (x .those) still, alike-where-reached s a b _ y l (g .is) (h .is ∙ ap reached (rw (x .those, x .these) e)))

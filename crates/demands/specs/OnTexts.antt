@@ -69,11 +69,13 @@ QueuesOnTexts =
     → Reads s a
     → storyOn s i (upTo n a) .finished ++ queueOf (walkOn s (upTo n a) .configuration) i ≡ storyOn s i (upTo n a) .pushed
 
--- what two answers to the sheet s print is equal byte for byte, and so is every field of the verdict and what is written, whatever the room
+-- what two answers to the sheet s print is equal byte for byte, and so is every field of the verdict, what is written and the place handed
+-- back, whatever the room
 pub record SameReports (s a b : List ℕ) : Type 0 where
   pub printed-alike : printed s a ≡ printed s b
   pub verdicts-alike : (room : ℕ) → judged s a room .verdict ≡ judged s b room .verdict
   pub bytes-alike : (room : ℕ) → judged s a room .bytes ≡ judged s b room .bytes
+  pub places-alike : (room : ℕ) → judged s a room .place ≡ judged s b room .place
 
 -- "If, for each component number, the moves of that component and the program instructions naming it are the same and come in the same
 -- order in both answers, the two reports are equal byte for byte"
