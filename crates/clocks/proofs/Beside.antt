@@ -15,7 +15,7 @@ use Rattle.model.specs.declared.Stepped.{Stepped}
 use Rattle.model.specs.Empty.{noStep, start}
 use Rattle.model.specs.View.{stepsOf}
 use Rattle.rules.specs.Step.{step}
-use Rattle.rules.specs.Walk.{walkAnswer}
+use Rattle.rules.specs.Walk.{besideBy, walkAnswer}
 use Rattle.walks.proofs.Ahead.{rest, walk-start, walk-more, walk-refused, walk-end, none-left, one-left}
 use Rattle.times.specs.declared.Times.{Times}
 use Rattle.timed.specs.Clock.{Clock, atStart, tick, clockFrom, clockOf}
@@ -42,7 +42,7 @@ module _ (default : ℕ) (t : Tables) (p : Program) (a : Answer) (ts : Times) wh
           → clockFrom default t p ts c (drop i (stepsOf a)) k
           ≡ clockFrom default t p ts (m .configuration) (drop (i + 1) (stepsOf a)) (tick ts c (m .configuration) (getD (a .steps) i noStep) k)
       unfolding clockFrom
-      clock-more e = rw (one-left a full i within, clockFrom, ← is, eq-eqb (m .refused) 0 e, ← is, add-one)
+      clock-more e = rw (one-left a full i within, besideBy, ← is, eq-eqb (m .refused) 0 e, ← is, add-one)
 
       pub one-further : m .refused ≡ 0 → (l : Clock) → l ≡ tick ts c (m .configuration) (getD (a .steps) i noStep) k → Paced mostSeconds k l
           → Beside (i + 1) (m .configuration) l

@@ -20,6 +20,7 @@ use Rattle.model.specs.Empty.{start}
 use Rattle.model.specs.Verb.{fireVerb, endVerb}
 use Rattle.model.specs.View.{stepsOf}
 use Rattle.rules.specs.Step.{step}
+use Rattle.rules.specs.Walk.{besideBy}
 use Rattle.times.specs.declared.Times.{Times}
 use Rattle.times.specs.View.{pairSlot}
 use Rattle.timed.specs.Clock.{Clock, atStart, started, notes, tick, clockFrom, clockOf}
@@ -83,9 +84,9 @@ module _ (b : ℕ) (ts : Times) (few : (j : ℕ) → getD (ts .seconds) j 0 ≤ 
       let l = tick ts c (m .configuration) s k in
       let g = tick-paced c (m .configuration) s k h in
       by-cases (ℕ-discrete (m .refused) 0)
-      (λ e. rw (clockFrom, eq-eqb (m .refused) 0 e, suc-mul)
+      (λ e. rw (besideBy, eq-eqb (m .refused) 0 e, suc-mul)
       (omega (arith, walk-paced default t p ss (m .configuration) l (g .past), g .slow)))
-      (λ n. rw (clockFrom, ne-eqb (m .refused) 0 n) (le-add-right _ _))
+      (λ n. rw (besideBy, ne-eqb (m .refused) 0 n) (le-add-right _ _))
 
 pub clock-is-bounded : ClockIsBounded
 unfolding ClockIsBounded clockOf atStart

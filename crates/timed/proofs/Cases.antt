@@ -3,7 +3,7 @@
 use Prim.Native.Nat.{ℕ, zero, suc}
 use mathlib.Core.List.{List, [], _∷_}
 use mathlib.Core.Bool.{false}
-use mathlib.Core.Path.{_≡_, refl, sym, _∙_}
+use mathlib.Core.Path.{_≡_, refl, sym, ap, _∙_}
 use mathlib.Core.Logic.{_≢_}
 use native.Mathlib.Omega.{arith}
 use borrow.Author.Tests.{ne-eqb}
@@ -44,14 +44,15 @@ use Rattle.timed.specs.Order.{OrderMayAlterTheMark}
 use Rattle.timed.specs.Cases.{twins, together, oneByOne, seconds, table, AllMet}
 use Rattle.timed.specs.Clock.{atStart, notes, tick, clockFrom, clockOf}
 use Rattle.timed.specs.Mark.{nearest, markOf, markAfter}
-use Rattle.timed.specs.Shams.{alwaysFull, halvesUp, roundsEachStep, shamCourse, given, ToldApart, ShamsToldApart, RoundingLifts}
+use Rattle.timed.specs.Shams.{Marking, asRuled, clockBy, courseBy, timedBy, alwaysFull, halvesUp, roundsEachStep, ToldApart, ShamsToldApart, RoundingLifts, AsRuledIsTheRule}
+use Rattle.timed.specs.declared.Timed.{Timed}
 use Rattle.timed.specs.Timed.{clocked, timedCourse, markedReport, markInRoom, timedEnding, timed, timedPrinting, timedPrinted}
 use Rattle.times.specs.Refusal.{timesNumber}
 use Rattle.times.specs.Row.{timeLine}
 use Rattle.times.specs.Text.{time, times}
 use Rattle.times.specs.View.{timesOf, withTime}
 
--- the texts that tell the shams apart: half the clock, a half in the last place, and a share that hundredths lift
+-- the texts that tell the shams apart: half the clock, a half in the last place, and two times that tens cut short
 abbrev halfTheClock : List ℕ
 halfTheClock = seconds "15" "20" "30"
 
@@ -59,13 +60,13 @@ abbrev aHalf : List ℕ
 aHalf = seconds "1" "8" "8"
 
 abbrev underAPass : List ℕ
-underAPass = seconds "62" "25" "100"
+underAPass = seconds "13" "14" "14"
 
--- what comes of an answer and times: no refusal, the mark, and the mark that f gives
-record Marks (f : ℕ → ℕ → ℕ) (a x : List ℕ) (mark sham : ℕ) : Type 0 where
+-- what comes of an answer and times: no refusal, the mark, and the mark by another marking
+record Marks (m : Marking) (a x : List ℕ) (mark sham : ℕ) : Type 0 where
   allowed : timed twins a x 8192 .judgement .verdict .refused ≡ 0
   mark-is : timed twins a x 8192 .mark ≡ mark
-  sham-is : given (shamCourse f twins a x) ≡ sham
+  sham-is : timedBy m twins a x 8192 .mark ≡ sham
 
 -- what the two answers do: the four instructions, then the moves of both
 abbrev instructions : List Action → List Action
@@ -110,10 +111,10 @@ record Computed : Type 0 where
   order : Ordered
   full : Marks alwaysFull together halfTheClock 500 1000
   up : Marks halvesUp oneByOne aHalf 62 63
-  each-step : Marks roundsEachStep oneByOne underAPass 496 500
+  each-step : Marks roundsEachStep oneByOne underAPass 464 650
 
 computed : Computed
-unfolding member collect all any noTables noProgram noAnswer start listOf queueOf put withQueue withConnections withDone key digit numberFrom membersFrom list one two three four set sets digitsIn numberText membersBelow moreText listText maskText inTurn oneText twoText threeText fourText headed withType withTransition withPort programOf withInstruction answerOf withStep dueLine countLineIn initialLine tranLine behaviorLine group portLine doId doNumber doEnds doLine stepId stepNumber stepLine each upToLf lfs lineNumber lineStart tran behavior port type instruct sheet stepAt answer instruction move check effect addCheck added down closed zeroed renewed isOf isUsePort isProvidePort conCheck connected sameConnection first dconCheck disconnected namedBy delCheck deleted endCheck endTo enterRow enterCheck enterTo mayLeave finishRow finishCheck finished fireRow fireCheck fireTo active current endsAt leaving entering fired endedBy entered withQueued someConnection wouldLeave refusing serves blocks employs failsUnserved failsRefusing failsInUse portCheck pushbCheck pushed line action number after step waitCheck oneMore walk walkAnswer textText faultText tally countText instanceText connectionText instanceAt connectionAt instancesText connectionsText report short read both course faultLine faultPlace afterFault noRoom stepPlace afterWalk inRoom ending judged over printing printed timesNumber timeLine time times timesOf withTime atStart notes tick clockFrom clockOf nearest markOf markAfter halvesUp roundsEachStep shamCourse clocked timedCourse markedReport markInRoom timedEnding timed timedPrinting timedPrinted names deeds naming tablesIn programIn stepsIn
+unfolding member collect all any noTables noProgram noAnswer start listOf queueOf put withQueue withConnections withDone key digit numberFrom membersFrom list one two three four set sets digitsIn numberText membersBelow moreText listText maskText inTurn oneText twoText threeText fourText headed withType withTransition withPort programOf withInstruction answerOf withStep dueLine countLineIn initialLine tranLine behaviorLine group portLine doId doNumber doEnds doLine stepId stepNumber stepLine each upToLf lfs lineNumber lineStart tran behavior port type instruct sheet stepAt answer instruction move check effect addCheck added down closed zeroed renewed isOf isUsePort isProvidePort conCheck connected sameConnection first dconCheck disconnected namedBy delCheck deleted endCheck endTo enterRow enterCheck enterTo mayLeave finishRow finishCheck finished fireRow fireCheck fireTo active current endsAt leaving entering fired endedBy entered withQueued someConnection wouldLeave refusing serves blocks employs failsUnserved failsRefusing failsInUse portCheck pushbCheck pushed line action number after step waitCheck oneMore walk walkAnswer textText faultText tally countText instanceText connectionText instanceAt connectionAt instancesText connectionsText report short read both course faultLine faultPlace afterFault noRoom stepPlace afterWalk inRoom ending judged over printing printed timesNumber timeLine time times timesOf withTime atStart notes tick clockFrom clockOf nearest markOf markAfter clockBy courseBy timedBy clocked timedCourse markedReport markInRoom timedEnding timed timedPrinting timedPrinted names deeds naming tablesIn programIn stepsIn
 computed = record {
   cases = ((refl, refl), ((refl, refl), ((refl, refl), ((refl, refl), ((refl, refl), ((refl, refl), ((refl, refl), ((refl, refl), ((refl, refl), ((refl, refl), ((refl, refl), ((refl, refl), ((refl, refl), ((refl, refl), ((refl, refl), ((refl, refl), tt))))))))))))))));
   order = record { first = refl; second = refl; together-does = refl; one-by-one-does = refl; quick = refl; slow = refl };
@@ -125,8 +126,13 @@ computed = record {
 pub cases-met : AllMet table
 cases-met = computed .cases
 
-told-apart : {f : ℕ → ℕ → ℕ} {a x : List ℕ} {mark sham : ℕ} → Marks f a x mark sham → sham ≢ mark → ToldApart f
-told-apart {a = a} {x = x} h g = (twins, a, x, h .allowed, λ q. g (sym (h .sham-is) ∙ q ∙ h .mark-is))
+told-apart : {m : Marking} {a x : List ℕ} {mark sham : ℕ} → Marks m a x mark sham → sham ≢ mark → ToldApart m
+told-apart {a = a} {x = x} h g =
+    (twins, a, x, h .allowed, λ old e q. g (sym (h .sham-is) ∙ ap (λ (r : Timed). r .mark) (q .answer-is) ∙ ap (λ (n : ℕ). timed twins a x n .mark) e ∙ h .mark-is))
+
+pub as-ruled-is-the-rule : AsRuledIsTheRule
+unfolding AsRuledIsTheRule timedBy courseBy clockBy timed timedCourse clocked markAfter clockOf clockFrom tick
+as-ruled-is-the-rule s a x room = refl
 
 pub shams-told-apart : ShamsToldApart
 unfolding ShamsToldApart
@@ -134,7 +140,7 @@ shams-told-apart = (told-apart (computed .full) (omega arith), told-apart (compu
 
 pub rounding-lifts : RoundingLifts
 unfolding RoundingLifts
-rounding-lifts = let h = computed .each-step in (twins, oneByOne, underAPass, omega (arith, h .mark-is), omega (arith, h .sham-is))
+rounding-lifts = let h = computed .each-step in (twins, oneByOne, underAPass, h .allowed, omega (arith, h .mark-is), omega (arith, h .sham-is))
 
 pub order-may-alter-the-mark : OrderMayAlterTheMark
 unfolding OrderMayAlterTheMark

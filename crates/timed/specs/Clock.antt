@@ -1,8 +1,8 @@
 -- "A clock starts at 0. A `fire` notes the clock for each transition it starts. An `end` sets the clock to the later of the clock and the
 -- noted time plus the seconds." A fold over the allowed steps, beside the walk.
 use Prim.Native.Nat.{ℕ, zero, suc, _+_, max}
-use mathlib.Core.Bool.{true, false, cond}
-use mathlib.Core.List.{List, [], _∷_}
+use mathlib.Core.Bool.{cond}
+use mathlib.Core.List.{List}
 use lib.Dec.{eqb}
 use lib.ListN.{getD, set, replicate}
 use Rattle.sets.specs.Mask.{member, without}
@@ -15,6 +15,7 @@ use Rattle.model.specs.Empty.{start}
 use Rattle.model.specs.Verb.{fireVerb, endVerb}
 use Rattle.model.specs.View.{instance, stepsOf}
 use Rattle.rules.specs.Step.{step}
+use Rattle.rules.specs.Walk.{besideBy}
 use Rattle.times.specs.declared.Times.{Times}
 use Rattle.times.specs.View.{pairSlot, secondsOf}
 
@@ -35,23 +36,22 @@ unfoldable pub notes : ℕ → ℕ → ℕ → ℕ → List ℕ → List ℕ
 notes now i xs zero noted = noted
 notes now i xs (suc n) noted = cond (member n xs) (set (notes now i xs n noted) (pairSlot i n) now) (notes now i xs n noted)
 
--- an allowed step s from c to d
-unfoldable pub tick : Times → Configuration → Configuration → Step → Clock → Clock
-tick ts c d s k =
+-- an allowed step s from c to d; `shown` is what a clock shows of a time that an `end` comes to
+abbrev pub tickBy : (ℕ → ℕ) → Times → Configuration → Configuration → Step → Clock → Clock
+tickBy shown ts c d s k =
     cond (eqb (s .verb) fireVerb) (record { now = k .now; noted = notes (k .now) (s .id) (started c d (s .id)) 32 (k .noted) })
     (cond (eqb (s .verb) endVerb) (record {
-      now = max (k .now) (getD (k .noted) (pairSlot (s .id) (s .number)) 0 + secondsOf ts (s .id) (s .number));
+      now = shown (max (k .now) (getD (k .noted) (pairSlot (s .id) (s .number)) 0 + secondsOf ts (s .id) (s .number)));
       noted = k .noted;
     })
     k)
 
+-- the time itself
+unfoldable pub tick : Times → Configuration → Configuration → Step → Clock → Clock
+tick ts c d s k = tickBy (λ n. n) ts c d s k
+
 unfoldable pub clockFrom : ℕ → Tables → Program → Times → Configuration → List Step → Clock → Clock
-clockFrom default t p ts c [] k = k
-clockFrom default t p ts c (s ∷ ss) k =
-    elim (eqb (step default t p c s .refused) 0) [
-      | true ↦ clockFrom default t p ts (step default t p c s .configuration) ss (tick ts c (step default t p c s .configuration) s k)
-      | false ↦ k
-    ]
+clockFrom default t p ts c ss k = besideBy (step default t p) (tick ts) c ss k
 
 -- the clock after an answer's walk from the empty start
 unfoldable pub clockOf : ℕ → Tables → Program → Answer → Times → ℕ

@@ -8,6 +8,6 @@ pub mod Timed
 pub mod Room
 pub mod Same
 pub mod Cases
-pub mod Shams
 pub mod Order
 pub mod Once
+pub mod Shams

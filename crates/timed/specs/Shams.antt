@@ -1,51 +1,88 @@
--- Shams of the mark: one that is always 1,000, one that rounds up at a half, one that rounds at each step. For each, three texts that tell it
--- from the mark, where every step is allowed.
+-- Shams of the mark, each with one thing changed: one that is always 1,000, one whose halves go up, one that rounds at each step. Each is
+-- held against the promise, on three texts where every step is allowed.
 use Prim.Native.Nat.{ℕ, _+_, _*_, _/_, _<_, _≤_, min}
 use mathlib.Core.Bool.{cond}
 use mathlib.Core.List.{List}
 use mathlib.Core.Path.{_≡_}
-use mathlib.Core.Logic.{_≢_}
 use lib.Dec.{eqb}
+use lib.ListN.{length}
+use Rattle.model.specs.declared.Tables.{Tables}
+use Rattle.model.specs.declared.Program.{Program}
+use Rattle.model.specs.declared.Answer.{Answer}
 use Rattle.model.specs.declared.Text.the-variants as text
-use Rattle.reading.specs.Texts.{sheet, answer}
-use Rattle.judged.specs.Course.{Course, faulty, reached, _>>=_, read, default}
+use Rattle.model.specs.declared.Walked.{Walked}
+use Rattle.model.specs.Empty.{start}
+use Rattle.model.specs.View.{stepsOf}
+use Rattle.rules.specs.Step.{step}
+use Rattle.rules.specs.Walk.{besideBy, walkAnswer}
+use Rattle.judged.specs.Course.{Course, reached, _>>=_, _>>_, short, read, both, default}
+use Rattle.judged.specs.Judged.{over}
+use Rattle.times.specs.declared.Times.{Times}
 use Rattle.times.specs.Text.{times}
-use Rattle.timed.specs.Clock.{clockOf}
-use Rattle.timed.specs.Timed.{timed}
+use Rattle.timed.specs.declared.Timed.{Timed}
+use Rattle.timed.specs.Clock.{tickBy, atStart}
+use Rattle.timed.specs.Mark.{markOf}
+use Rattle.timed.specs.Timed.{Marked, timedEnding, timed}
+use Rattle.timed.specs.Once.{Promised}
+
+-- what a clock shows of the time that an `end` comes to, and the mark of a par and a clock
+pub record Marking : Type 0 where
+  pub shown : ℕ → ℕ
+  pub marks : ℕ → ℕ → ℕ
+
+-- C-14's own
+abbrev pub asRuled : Marking
+asRuled = record { shown = λ n. n; marks = markOf }
+
+-- the timing of three texts by a marking, in all else as ruled
+unfoldable pub clockBy : Marking → Tables → Program → Answer → Times → ℕ
+clockBy m t p y ts = besideBy (step default t p) (tickBy (m .shown) ts) start (stepsOf y) atStart .now
+
+unfoldable pub courseBy : Marking → List ℕ → List ℕ → List ℕ → Course (Walked × ℕ)
+courseBy m s a x = do
+  (t, p, y) ← both s a
+  short text.Times x
+  ts ← read text.Times times x
+  reached (walkAnswer default t p y, cond (eqb (walkAnswer default t p y .refused) 0) (m .marks (ts .par) (clockBy m t p y ts)) 0)
+
+unfoldable pub timedBy : Marking → List ℕ → List ℕ → List ℕ → ℕ → Marked
+timedBy m s a x room = timedEnding s a x room (courseBy m s a x)
+
+-- with nothing changed it is the rule, so a sham differs from the rule in its own notion alone
+unfoldable pub AsRuledIsTheRule : Type 0
+AsRuledIsTheRule = (s a x : List ℕ) (room : ℕ) → timedBy asRuled s a x room ≡ timed s a x room
 
 -- always the full mark
-abbrev pub alwaysFull : ℕ → ℕ → ℕ
-alwaysFull par clock = 1000
+abbrev pub alwaysFull : Marking
+alwaysFull = record { shown = λ n. n; marks = λ par clock. 1000 }
 
 -- halves go up
-unfoldable pub halvesUp : ℕ → ℕ → ℕ
-halvesUp par clock = cond (eqb clock 0) 1000 (min 1000 ((2000 * par + clock) / (2 * clock)))
+abbrev pub halvesUp : Marking
+halvesUp = record { shown = λ n. n; marks = λ par clock. cond (eqb clock 0) 1000 (min 1000 ((2000 * par + clock) / (2 * clock))) }
 
--- the share of the clock to the nearest hundredth first, then in thousandths
-unfoldable pub roundsEachStep : ℕ → ℕ → ℕ
-roundsEachStep par clock = cond (eqb clock 0) 1000 (min 1000 (10 * ((200 * par + clock) / (2 * clock))))
+-- rounded at each step: an `end` leaves the clock at the nearest ten seconds, halves going down
+abbrev pub toTens : ℕ → ℕ
+toTens n = (n + 4) / 10 * 10
 
--- the mark that f gives for the par and the clock of three texts that are read
-unfoldable pub shamCourse : (ℕ → ℕ → ℕ) → List ℕ → List ℕ → List ℕ → Course ℕ
-shamCourse f s a x = do
-  (t, p) ← read text.Sheet sheet s
-  y ← read text.Answer answer a
-  ts ← read text.Times times x
-  reached (f (ts .par) (clockOf default t p y ts))
+abbrev pub roundsEachStep : Marking
+roundsEachStep = record { shown = toTens; marks = markOf }
 
-abbrev pub given : Course ℕ → ℕ
-given (faulty k n at) = 0
-given (reached m) = m
-
-abbrev pub ToldApart : (ℕ → ℕ → ℕ) → Type 0
-ToldApart f =
+-- three texts, all steps allowed, where what the sham makes of them and of any buffer of 8,192 bytes is not what is promised
+abbrev pub ToldApart : Marking → Type 0
+ToldApart m =
     (s : List ℕ) × (a : List ℕ) × (x : List ℕ)
-    × (timed s a x 8192 .judgement .verdict .refused ≡ 0) × (given (shamCourse f s a x) ≢ timed s a x 8192 .mark)
+    × (timed s a x 8192 .judgement .verdict .refused ≡ 0)
+    × ((old : List ℕ) → length old ≡ 8192 → let j = timedBy m s a x 8192 in
+    ¬ Promised s a x old (record { verdict = j .judgement .verdict; mark = j .mark }) (over (j .judgement .bytes) old) (j .judgement .place))
 
 unfoldable pub ShamsToldApart : Type 0
 ShamsToldApart = ToldApart alwaysFull × ToldApart halvesUp × ToldApart roundsEachStep
 
--- and rounding at each step would lift a mark over a pass line of 500
+-- "rounding at each step has lifted failing marks over the pass line": a pass line, and a mark that fails by the rule and passes so
+abbrev pub passLine : ℕ
+passLine = 500
+
 unfoldable pub RoundingLifts : Type 0
 RoundingLifts =
-    (s : List ℕ) × (a : List ℕ) × (x : List ℕ) × (timed s a x 8192 .mark < 500) × (500 ≤ given (shamCourse roundsEachStep s a x))
+    (s : List ℕ) × (a : List ℕ) × (x : List ℕ)
+    × (timed s a x 8192 .judgement .verdict .refused ≡ 0) × (timed s a x 8192 .mark < passLine) × (passLine ≤ timedBy roundsEachStep s a x 8192 .mark)
