@@ -1,4 +1,4 @@
--- That no other outcome fits the promise.
+-- What the one public function promises, and that no other outcome fits it.
 use mathlib.Core.Path.{_≡_}
 use Prim.Native.Nat.{ℕ}
 use Rattle.model.specs.declared.Tables.{Tables}
@@ -10,6 +10,7 @@ use Rattle.timed.specs.Clock.{clockOf}
 use Rattle.timed.specs.Mark.{markAfter}
 use Rattle.clocks.specs.declared.TimedWalk.{TimedWalk}
 
+-- what the timed walk promises: the walk of the rules, and its mark
 pub record Promised (default : ℕ) (t : Tables) (p : Program) (a : Answer) (ts : Times) (r : TimedWalk) : Type 0 where
   pub walked-is : r .walked ≡ walkAnswer default t p a
   pub mark-is : r .mark ≡ markAfter (walkAnswer default t p a .refused) (ts .par) (clockOf default t p a ts)

@@ -128,7 +128,7 @@ cases-met = computed .cases
 
 told-apart : {m : Marking} {a x : List ℕ} {mark sham : ℕ} → Marks m a x mark sham → sham ≢ mark → ToldApart m
 told-apart {a = a} {x = x} h g =
-    (twins, a, x, h .allowed, λ old e q. g (sym (h .sham-is) ∙ ap (λ (r : Timed). r .mark) (q .answer-is) ∙ ap (λ (n : ℕ). timed twins a x n .mark) e ∙ h .mark-is))
+    (twins, a, x, h .allowed, λ old e q. g (sym (h .sham-is) ∙ ap (λ (r : Timed). r .mark) (q .verdict-is) ∙ ap (λ (n : ℕ). timed twins a x n .mark) e ∙ h .mark-is))
 
 pub as-ruled-is-the-rule : AsRuledIsTheRule
 unfolding AsRuledIsTheRule timedBy courseBy clockBy timed timedCourse clocked markAfter clockOf clockFrom tick

@@ -20,12 +20,12 @@ use Rattle.reading.specs.Texts.{sheet, answer}
 use Rattle.reading.proofs.Rests.{StopsAt}
 use Rattle.reading.proofs.Lawful.{sheet-stops, answer-stops}
 use Rattle.judged.specs.Course.{Course, faulty, reached, goOn, short, read, both, course}
-use Rattle.judged.specs.Judged.{afterWalk, inRoom, printing, printed}
+use Rattle.judged.specs.Judged.{afterFault, afterWalk, inRoom, printing, printed}
 use Rattle.judged.proofs.Room.{read-fits}
 use Rattle.times.specs.Text.{times}
 use Rattle.times.proofs.Read.{times-stop}
 use Rattle.timed.specs.Mark.{markOf, markAfter}
-use Rattle.timed.specs.Timed.{clocked, timedCourse, markedReport, timedPrinting, timedPrinted}
+use Rattle.timed.specs.Timed.{clocked, timedCourse, markedReport, timedEnding, timedPrinting, timedPrinted}
 use Rattle.timed.specs.Same.{FaultsPrintTheSame, PrintsWithItsMark}
 
 -- the numbers that a text is refused with
@@ -101,7 +101,7 @@ courses-alike s a x =
 -- ---- what the two print
 module _ (s a x : List ℕ) where
   fault-prints : {k : Text} {n at : ℕ} {y : Course (Walked × ℕ)} → Alike (faulty k n at) y → timedPrinting s a x y ≡ printing s a (faulty k n at)
-  unfolding timedPrinting printing
+  unfolding timedPrinting timedEnding afterFault printing
   fault-prints (in-sheet l) = refl
   fault-prints (in-answer l) = refl
 
@@ -124,7 +124,7 @@ unfolding inRoom afterWalk
 has-room room w r a l = rw (le-leb (length r) room l, inRoom)
 
 pub prints-with-its-mark : PrintsWithItsMark
-unfolding PrintsWithItsMark timedPrinted timedPrinting printed printing markedReport
+unfolding PrintsWithItsMark timedPrinted timedPrinting timedEnding printed printing markedReport
 prints-with-its-mark s a x w m e =
     let (q, l) = all-read s a x w m e in
     let k : length (report w) ≤ 8192 = omega (arith, read-fits s a w q .0) in

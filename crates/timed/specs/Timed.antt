@@ -15,7 +15,7 @@ use Rattle.rules.specs.Walk.{walkAnswer}
 use Rattle.report.specs.Report.{countText, report}
 use Rattle.report.specs.Faults.{faultText}
 use Rattle.judged.specs.Course.{Course, faulty, reached, _>>=_, _>>_, short, read, default, both}
-use Rattle.judged.specs.Judged.{Judgement, textOf, faultLine, afterFault, inRoom, over}
+use Rattle.judged.specs.Judged.{Judgement, textOf, afterFault, inRoom, over}
 use Rattle.times.specs.Text.{times}
 use Rattle.times.specs.Refusal.{timesNumber}
 use Rattle.timed.specs.declared.Timed.{Timed}
@@ -92,8 +92,8 @@ timedBuffer s a x old = over (timed s a x (length old) .judgement .bytes) old
 
 -- what the `timing` program prints; it lends 8,192 bytes
 unfoldable pub timedPrinting : List ℕ → List ℕ → List ℕ → Course (Walked × ℕ) → List ℕ
-timedPrinting s a x (faulty k n at) = faultText k (faultLine n at (lentText k s a x)) (numberIn k n)
-timedPrinting s a x (reached (w, m)) = inRoom 8192 w (markedReport w m) a .bytes
+timedPrinting s a x (faulty k n at) = let v = timedEnding s a x 8192 (faulty k n at) .judgement .verdict in faultText (v .text) (v .line) (v .refused)
+timedPrinting s a x (reached (w, m)) = timedEnding s a x 8192 (reached (w, m)) .judgement .bytes
 
 unfoldable pub timedPrinted : List ℕ → List ℕ → List ℕ → List ℕ
 timedPrinted s a x = timedPrinting s a x (timedCourse s a x)

@@ -1,11 +1,18 @@
 -- No other outcome fits: each promise is an equation, or tells a part by where it lies.
 -- Assumes nothing.
-use mathlib.Core.Path.{sym, _∙_}
+use mathlib.Core.Path.{refl, sym, _∙_}
+use Rattle.timed.specs.Timed.{timed}
+use Rattle.timed.specs.Once.{PromisedPlace}
+use Rattle.timed.proofs.Once.{place-promised}
 use Rattle.timekeeping.specs.Once.{NoOtherTimedPart, NoOtherTimedPrint}
 
 pub timed-part-once : NoOtherTimedPart
 unfolding NoOtherTimedPart
-timed-part-once p s a x r q h g = (λ i. ((h .block ∙ sym (g .block)) i, (h .place ∙ sym (g .place)) i), h .holds ∙ sym (g .holds))
+timed-part-once s a x room r q h g =
+    let is : PromisedPlace (s .now) (a .now) (x .now) room (timed (s .now) (a .now) (x .now) room .judgement .place) = place-promised refl in
+    let here = h _ is in
+    let there = g _ is in
+    (λ i. ((here .block ∙ sym (there .block)) i, (here .place ∙ sym (there .place)) i), here .holds ∙ sym (there .holds))
 
 pub timed-print-once : NoOtherTimedPrint
 unfolding NoOtherTimedPrint

@@ -2,7 +2,7 @@
 -- Assumes nothing.
 use Prim.Native.Nat.{ℕ, _+_, _≤_, zero-le}
 use mathlib.Core.List.{List, [], _∷_}
-use mathlib.Core.Path.{_≡_, refl}
+use mathlib.Core.Path.{_≡_, refl, sym, subst, _∙_}
 use mathlib.Core.Logic.{⊎-elim}
 use native.Mathlib.Omega.{arith}
 use lib.ListN.{length}
@@ -21,7 +21,9 @@ use Rattle.judged.specs.Course.{Course}
 use Rattle.judged.specs.Judged.{afterFault}
 use Rattle.judging.proofs.Places.{Within, fault-within, walk-within}
 use Rattle.timed.specs.Timed.{lentText, markedReport, timedEnding, timed}
-use Rattle.timekeeping.specs.Part.{lender}
+use Rattle.timed.specs.Once.{PromisedPlace}
+use Rattle.timed.proofs.Once.{the-place}
+use Rattle.timekeeping.specs.Part.{lender, PartOf, PromisedPart}
 use Rattle.timekeeping.proofs.Order.{TimedTold, sheet-fault, answer-fault, times-fault, clocked-walk, timed-told}
 
 abbrev lentIn : List ℕ → List ℕ → List ℕ → Text → List ℕ
@@ -39,9 +41,9 @@ timed-within s a x room = go (timed-told s a x)
 
 -- ---- as a part of the text
 
-module _ (s a x : List ℕ) (room : ℕ) {p : Place} (is : p ≡ timed s a x room .judgement .place) where
+module _ (s a x : List ℕ) (room : ℕ) {p : Place} (is : PromisedPlace s a x room p) where
   pub held : p .start + p .size ≤ length (lentText (p .text) s a x)
-  held = rw is (timed-within s a x room)
+  held = rw (the-place is) (timed-within s a x room)
 
   pub end-fits : Fits w64 (length s) → Fits w64 (length a) → Fits w64 (length x) → Fits w64 (p .start + p .size)
   end-fits f g h = fits-le held (each (p .text))
@@ -51,6 +53,10 @@ module _ (s a x : List ℕ) (room : ℕ) {p : Place} (is : p ≡ timed s a x roo
       each text.Sheet = f
       each text.Answer = g
       each text.Times = h
+
+-- the part that one promised place tells is that of every other: they are one
+pub part-placed : (s a x : RefT (List ℕ)) {room : ℕ} {p : Place} (r : RefT (List ℕ)) → PromisedPlace (s .now) (a .now) (x .now) room p → PartOf p s a x r → PromisedPart s a x room r
+part-placed s a x r h part q g = subst (λ (z : Place). PartOf z s a x r) (the-place h ∙ sym (the-place g)) part
 
 -- neither the sheet nor the times: 0 and 2 are the tags of Neither and Answer
 pub elsewhere : (k : Text) → OneOf (0 ∷ 2 ∷ []) (tagOf the-type k) → (s a x : RefT (List ℕ)) → (lender k s a x ≡ a) × (length (lentText k (s .now) (a .now) (x .now)) ≤ length (a .now))

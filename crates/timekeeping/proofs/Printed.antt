@@ -45,7 +45,7 @@ fault-chosen k n at m s h l = record {
 }
 
 chosen : (s a x : List ℕ) → Chosen OfText (timed s a x 8192 .judgement) (timedPrinted s a x)
-unfolding timed timedEnding timedPrinted timedPrinting
+unfolding timed timedEnding timedPrinted timedPrinting afterFault
 chosen s a x = go (timedCourse s a x) refl (courses-alike s a x) (timed-told s a x)
   where
     go : {y : Course Walked} (z : Course (Walked × ℕ)) → timedCourse s a x ≡ z → Alike y z → TimedTold s a x z → Chosen OfText (timedEnding s a x 8192 z .judgement) (timedPrinting s a x z)

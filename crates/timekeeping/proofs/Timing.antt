@@ -11,7 +11,9 @@ use Rattle.judged.specs.declared.Place.{Place}
 use Rattle.judged.specs.Course.{faulty, reached}
 use Rattle.judged.specs.Judged.{faultPlace, afterFault, inRoom, over}
 use Rattle.timed.specs.declared.Timed.{Timed}
-use Rattle.timed.specs.Timed.{timedCourse, markedReport, lentText, numberIn, numbered, Marked, markInRoom, timedEnding, timed, timedVerdict, timedBuffer}
+use Rattle.timed.specs.Timed.{timedCourse, markedReport, lentText, numberIn, numbered, Marked, markInRoom, timedEnding, timed}
+use Rattle.timed.specs.Once.{PromisedAnswer, PromisedPlace}
+use Rattle.timed.proofs.Once.{place-promised}
 
 module _ (s a x : List ℕ) where
   abbrev faultOf : Text → ℕ → ℕ → Marked
@@ -29,30 +31,31 @@ module _ (s a x : List ℕ) where
   timed-walk room w m e = rw (← e, timed, timedEnding)
 
   -- the answer, and the buffer that held `old`
-  abbrev pub Answers : List ℕ → Timed → List ℕ → Type 0
-  Answers old r after = (r ≡ timedVerdict s a x (length old)) × (after ≡ timedBuffer s a x old)
-
   answers : (old : List ℕ) {r : Timed} {after : List ℕ} {j : Marked} → j ≡ timed s a x (length old)
-      → r ≡ record { verdict = j .judgement .verdict; mark = j .mark } → after ≡ over (j .judgement .bytes) old → Answers old r after
+      → r ≡ record { verdict = j .judgement .verdict; mark = j .mark } → after ≡ over (j .judgement .bytes) old → PromisedAnswer s a x old r after
   answers old e h g =
-      (h ∙ ap (λ (j : Marked). record { verdict = j .judgement .verdict; mark = j .mark }) e, g ∙ ap (λ (j : Marked). over (j .judgement .bytes) old) e)
+      record {
+        verdict-is = h ∙ ap (λ (j : Marked). record { verdict = j .judgement .verdict; mark = j .mark }) e;
+        buffer-is = g ∙ ap (λ (j : Marked). over (j .judgement .bytes) old) e;
+        place-is = refl;
+      }
 
   pub fault-answers : (old : List ℕ) (k : Text) (n at : ℕ) {r : Timed} → faulty k n at ≡ timedCourse s a x
-      → r ≡ record { verdict = numbered (numberIn k n) (afterFault k n at (lentText k s a x)) .verdict; mark = 0 } → Answers old r old
+      → r ≡ record { verdict = numbered (numberIn k n) (afterFault k n at (lentText k s a x)) .verdict; mark = 0 } → PromisedAnswer s a x old r old
   unfolding afterFault over
   fault-answers old k n at e h = answers old (timed-fault (length old) k n at e) h refl
 
   pub walk-answers : (old : List ℕ) (w : Walked) (m : ℕ) {r : Timed} {after : List ℕ} → reached (w, m) ≡ timedCourse s a x
       → r .verdict ≡ inRoom (length old) w (markedReport w m) a .verdict → r .mark ≡ markInRoom (length old) (markedReport w m) m
-      → after ≡ over (inRoom (length old) w (markedReport w m) a .bytes) old → Answers old r after
+      → after ≡ over (inRoom (length old) w (markedReport w m) a .bytes) old → PromisedAnswer s a x old r after
   walk-answers old w m e v k = answers old (timed-walk (length old) w m e) (λ i. record { verdict = v i; mark = k i })
 
   -- the place
   pub fault-placed : (room : ℕ) (k : Text) (n at : ℕ) {p : Place} → faulty k n at ≡ timedCourse s a x → p ≡ faultPlace k n at (lentText k s a x)
-      → p ≡ timed s a x room .judgement .place
+      → PromisedPlace s a x room p
   unfolding afterFault
-  fault-placed room k n at e h = h ∙ ap (λ (j : Marked). j .judgement .place) (timed-fault room k n at e)
+  fault-placed room k n at e h = place-promised (h ∙ ap (λ (j : Marked). j .judgement .place) (timed-fault room k n at e))
 
   pub walk-placed : (room : ℕ) (w : Walked) (m : ℕ) {p : Place} → reached (w, m) ≡ timedCourse s a x → p ≡ inRoom room w (markedReport w m) a .place
-      → p ≡ timed s a x room .judgement .place
-  walk-placed room w m e h = h ∙ ap (λ (j : Marked). j .judgement .place) (timed-walk room w m e)
+      → PromisedPlace s a x room p
+  walk-placed room w m e h = place-promised (h ∙ ap (λ (j : Marked). j .judgement .place) (timed-walk room w m e))

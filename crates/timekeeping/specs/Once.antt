@@ -1,18 +1,17 @@
--- "That no other outcome fits the promise is itself proved": of each public function, two results that meet its promise are one. For the
--- verdict, the buffer and the place: timed/specs/Once.
+-- "That no other outcome fits the promise is itself proved": of each public function, two results that meet its promise are one. For
+-- `timed` and `timed_place`: timed/specs/Once.
 use Prim.Native.Nat.{ℕ}
 use mathlib.Core.List.{List}
 use mathlib.Core.Path.{_≡_}
 use lib.ListN.{length}
 use denote.Ref.{RefT}
-use Rattle.judged.specs.declared.Place.{Place}
 use Rattle.judged.specs.Judged.{over}
 use Rattle.timed.specs.Timed.{timedPrinted}
-use Rattle.timekeeping.specs.Part.{PartOf}
+use Rattle.timekeeping.specs.Part.{PromisedPart}
 
 unfoldable pub NoOtherTimedPart : Type 0
 NoOtherTimedPart =
-    (p : Place) (s a x r q : RefT (List ℕ)) → PartOf p s a x r → PartOf p s a x q → (r .ptr ≡ q .ptr) × (r .now ≡ q .now)
+    (s a x : RefT (List ℕ)) (room : ℕ) (r q : RefT (List ℕ)) → PromisedPart s a x room r → PromisedPart s a x room q → (r .ptr ≡ q .ptr) × (r .now ≡ q .now)
 
 unfoldable pub NoOtherTimedPrint : Type 0
 NoOtherTimedPrint =

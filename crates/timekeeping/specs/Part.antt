@@ -6,6 +6,7 @@ use Rattle.model.specs.declared.Text.{Text}
 use Rattle.model.specs.declared.Text.the-variants as text
 use Rattle.judged.specs.declared.Place.{Place}
 use Rattle.judging.specs.Part.{Part}
+use Rattle.timed.specs.Once.{PromisedPlace}
 
 -- the text that is named; no place is in neither
 abbrev pub lender : Text → RefT (List ℕ) → RefT (List ℕ) → RefT (List ℕ) → RefT (List ℕ)
@@ -16,3 +17,7 @@ lender text.Times s a x = x
 
 abbrev pub PartOf : Place → RefT (List ℕ) → RefT (List ℕ) → RefT (List ℕ) → RefT (List ℕ) → Type 0
 PartOf p s a x r = Part (lender (p .text) s a x) (p .start) (p .size) r
+
+-- the part that the promised place tells
+abbrev pub PromisedPart : RefT (List ℕ) → RefT (List ℕ) → RefT (List ℕ) → ℕ → RefT (List ℕ) → Type 0
+PromisedPart s a x room r = (p : Place) → PromisedPlace (s .now) (a .now) (x .now) room p → PartOf p s a x r

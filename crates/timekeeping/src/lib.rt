@@ -20,9 +20,10 @@ ghost use Rattle.inks.specs.Written.{Written};
 ghost use Rattle.judged.specs.Judged.{afterFault, inRoom, over};
 ghost use Rattle.judging.specs.Counts.{Counts};
 ghost use Rattle.times.specs.Refusal.{timesNumber};
-ghost use Rattle.timed.specs.Timed.{clocked, timedCourse, markedReport, numbered, markInRoom, timed, timedVerdict, timedBuffer, timedPrinted};
+ghost use Rattle.timed.specs.Timed.{clocked, timedCourse, markedReport, numbered, markInRoom, timedPrinted};
+ghost use Rattle.timed.specs.Once.{PromisedAnswer, PromisedPlace};
 ghost use Rattle.timekeeping.specs.Came.{came};
-ghost use Rattle.timekeeping.specs.Part.{PartOf};
+ghost use Rattle.timekeeping.specs.Part.{PromisedPart};
 
 // A text is refused with a reader's number at a place of it, or all three are read.
 enum TimedOutcome {
@@ -160,8 +161,7 @@ fn after_walk(walk: TimedWalk, lent: &mut [u8]) -> Timed
 
 // The verdict and the mark, and the report in the lent buffer.
 pub fn timed(sheet: &[u8], answer: &[u8], times: &[u8], report: &mut [u8]) -> Timed
-    ensures answer { λ r. ⌜ r ≡ timedVerdict (now (sheet .entry)) (now (answer .entry)) (now (times .entry)) (length (now (report .entry))) ⌝ }
-    ensures buffer { λ r. ⌜ now (report .exit) ≡ timedBuffer (now (sheet .entry)) (now (answer .entry)) (now (times .entry)) (now (report .entry)) ⌝ }
+    ensures { λ r. ⌜ PromisedAnswer (now (sheet .entry)) (now (answer .entry)) (now (times .entry)) (now (report .entry)) r (now (report .exit)) ⌝ }
 {
     let ended = course(sheet, answer, times);
     let outcome = ended.outcome;
@@ -181,7 +181,7 @@ pub fn timed(sheet: &[u8], answer: &[u8], times: &[u8], report: &mut [u8]) -> Ti
 
 // Which text held the line at fault, where the line starts, and how many bytes it has.
 pub fn timed_place(sheet: &[u8], answer: &[u8], times: &[u8], room: usize) -> Place
-    ensures { λ r. ⌜ r ≡ timed (now (sheet .entry)) (now (answer .entry)) (now (times .entry)) room .judgement .place ⌝ }
+    ensures { λ r. ⌜ PromisedPlace (now (sheet .entry)) (now (answer .entry)) (now (times .entry)) room r ⌝ }
 {
     let ended = course(sheet, answer, times);
     let outcome = ended.outcome;
@@ -205,7 +205,7 @@ pub fn timed_offending<'a>(
     times: &'a [u8],
     room: usize,
 ) -> &'a [u8]
-    ensures { λ r. ⌜ PartOf (timed (now (sheet .entry)) (now (answer .entry)) (now (times .entry)) room .judgement .place) (sheet .entry) (answer .entry) (times .entry) r ⌝ }
+    ensures { λ r. ⌜ PromisedPart (sheet .entry) (answer .entry) (times .entry) room r ⌝ }
 {
     let place = timed_place(sheet, answer, times, room);
     let start = place.start;

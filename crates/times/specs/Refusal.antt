@@ -5,5 +5,14 @@ use Prim.Native.Nat.{ℕ}
 use mathlib.Core.Bool.{cond}
 use lib.Dec.{eqb}
 
+abbrev pub badTimes : ℕ
+badTimes = 40
+
+abbrev pub timesBeyondLimit : ℕ
+timesBeyondLimit = 41
+
+abbrev pub pairListedTwice : ℕ
+pairListedTwice = 42
+
 unfoldable pub timesNumber : ℕ → ℕ
-timesNumber n = cond (eqb n 3) 41 (cond (eqb n 4) 42 40)
+timesNumber n = cond (eqb n 3) timesBeyondLimit (cond (eqb n 4) pairListedTwice badTimes)

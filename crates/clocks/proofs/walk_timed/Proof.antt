@@ -31,8 +31,7 @@ returns c =
     let g = m .before .before in
     let n = g .before .before .before in
     let due = rw (n .smaller .ensures .0) at (g .loop-test .taken) in
-    let met = at-refusal _ _ _ _ _ (full (n .before)) (g .before .loop .inv .2) _ due (m .step .ensures) (c .if1 .taken) in
-    (met .walked-is, met .mark-is)
+    at-refusal _ _ _ _ _ (full (n .before)) (g .before .loop .inv .2) _ due (m .step .ensures) (c .if1 .taken)
 
 tick-requires : tie.Need-tick-requires Inv-loop μ-loop
 tick-requires c κs =
@@ -66,7 +65,7 @@ returns-2 c =
     let n = g .before .before .before in
     let past = rw (n .smaller .ensures .0) at (g .loop-test .left) in
     let met = at-end _ _ _ _ _ (full (n .before)) (g .before .loop .inv .2) past in
-    (met .walked-is, c .mark .ensures ∙ met .mark-is)
+    record { walked-is = met .walked-is; mark-is = c .mark .ensures ∙ met .mark-is }
 
 pub walk-timed-spec : {M : Type 1} → statement M
 walk-timed-spec =

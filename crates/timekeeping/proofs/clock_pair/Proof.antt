@@ -12,7 +12,7 @@ returns-2 : tie.Need-returns-2
 returns-2 c =
     let d = c .before .before .before .before .before .before in
     let w = c .before .walk-timed .ensures in
-    c .come-to2 .ensures ∙ (λ i. reached (w .0 i, w .1 i)) ∙ clocks-told _ _ _ _ (d .before .before .read-times .ensures) .reaches (d .if1 .left)
+    c .come-to2 .ensures ∙ (λ i. reached (w .walked-is i, w .mark-is i)) ∙ clocks-told _ _ _ _ (d .before .before .read-times .ensures) .reaches (d .if1 .left)
 
 pub clock-pair-spec : {M : Type 1} → statement M
 clock-pair-spec =

@@ -2,7 +2,7 @@ use mathlib.Core.Path.{refl}
 use native.Mathlib.Omega.{arith}
 use lib.ListN.{drop}
 use Rattle.judging.proofs.Places.{sized}
-use Rattle.timekeeping.proofs.Places.{held, end-fits, elsewhere}
+use Rattle.timekeeping.proofs.Places.{held, end-fits, part-placed, elsewhere}
 use borrow.Author.Needs.{needs}
 use Rattle.timekeeping.proofs.timed_offending.Statement.{statement}
 use Rattle.timekeeping.proofs.timed_offending.Tie as tie
@@ -26,19 +26,19 @@ returns : tie.Need-returns
 returns c =
     let p = c .before .before .before .before .timed-place in
     let x = c .before .before .before .before .before .before .before .before .args in
-    rw (← p .ensures, c .before .enum-told .given .1) (record { block = refl; place = refl; holds = sized (p .result .start) (p .result .size) (drop (p .result .start) (x .sheet .now)) })
+    part-placed (x .sheet) (x .answer) (x .times) _ (p .ensures) (rw (c .before .enum-told .given .1) (record { block = refl; place = refl; holds = sized (p .result .start) (p .result .size) (drop (p .result .start) (x .sheet .now)) }))
 
 returns-2 : tie.Need-returns-2
 returns-2 c =
     let p = c .before .before .before .before .timed-place in
     let x = c .before .before .before .before .before .before .before .before .args in
-    rw (← p .ensures, c .before .enum-told2 .given .1) (record { block = refl; place = refl; holds = sized (p .result .start) (p .result .size) (drop (p .result .start) (x .times .now)) })
+    part-placed (x .sheet) (x .answer) (x .times) _ (p .ensures) (rw (c .before .enum-told2 .given .1) (record { block = refl; place = refl; holds = sized (p .result .start) (p .result .size) (drop (p .result .start) (x .times .now)) }))
 
 returns-3 : tie.Need-returns-3
 returns-3 c =
     let p = c .before .before .before .timed-place in
     let x = c .before .before .before .before .before .before .before .args in
-    rw (← p .ensures, elsewhere _ (c .before .match .keys3) (x .sheet) (x .answer) (x .times) .0) (record { block = refl; place = refl; holds = sized (p .result .start) (p .result .size) (drop (p .result .start) (x .answer .now)) })
+    part-placed (x .sheet) (x .answer) (x .times) _ (p .ensures) (rw (elsewhere _ (c .before .match .keys3) (x .sheet) (x .answer) (x .times) .0) (record { block = refl; place = refl; holds = sized (p .result .start) (p .result .size) (drop (p .result .start) (x .answer .now)) }))
 
 pub timed-offending-spec : {M : Type 1} → statement M
 timed-offending-spec =

@@ -20,35 +20,35 @@ returns c =
     let e = c .before .before .before .before .before in
     let g = e .before in
     let x = g .before .before .before .before in
-    lines-print (x .args .sheet .now) (x .args .answer .now) (x .args .times .now) (x .args .out .now) (lent-long g) (ap verdictOf (e .timed .ensures .0)) (e .timed .ensures .1) (inl (omega (arith, c .before .before .if2 .taken, c .before .before .before .if1 .left))) (c .write-fault .ensures)
+    lines-print (x .args .sheet .now) (x .args .answer .now) (x .args .times .now) (x .args .out .now) (lent-long g) (ap verdictOf (e .timed .ensures .verdict-is)) (e .timed .ensures .buffer-is) (inl (omega (arith, c .before .before .if2 .taken, c .before .before .before .if1 .left))) (c .write-fault .ensures)
 
 returns-2 : tie.Need-returns-2
 returns-2 c =
     let e = c .before .before .before .before .before .before .before in
     let g = e .before in
     let x = g .before .before .before .before in
-    lines-print (x .args .sheet .now) (x .args .answer .now) (x .args .times .now) (x .args .out .now) (lent-long g) (ap verdictOf (e .timed .ensures .0)) (e .timed .ensures .1) (inr (omega (arith, c .before .before .if4 .taken, c .before .before .before .if3 .left))) (c .write-fault2 .ensures)
+    lines-print (x .args .sheet .now) (x .args .answer .now) (x .args .times .now) (x .args .out .now) (lent-long g) (ap verdictOf (e .timed .ensures .verdict-is)) (e .timed .ensures .buffer-is) (inr (omega (arith, c .before .before .if4 .taken, c .before .before .before .if3 .left))) (c .write-fault2 .ensures)
 
 returns-3 : tie.Need-returns-3
 returns-3 c =
     let e = c .before .before in
     let g = e .before in
     let x = g .before .before .before .before in
-    report-prints (x .args .sheet .now) (x .args .answer .now) (x .args .times .now) (x .args .out .now) (lent-long g) (ap verdictOf (e .timed .ensures .0)) (e .timed .ensures .1) (⊎-elim (λ l. omega (arith, l, c .if1 .taken)) (λ l. omega (arith, l, c .if1 .taken)))
+    report-prints (x .args .sheet .now) (x .args .answer .now) (x .args .times .now) (x .args .out .now) (lent-long g) (ap verdictOf (e .timed .ensures .verdict-is)) (e .timed .ensures .buffer-is) (⊎-elim (λ l. omega (arith, l, c .if1 .taken)) (λ l. omega (arith, l, c .if1 .taken)))
 
 returns-4 : tie.Need-returns-4
 returns-4 c =
     let e = c .before .before .before .before in
     let g = e .before in
     let x = g .before .before .before .before in
-    report-prints (x .args .sheet .now) (x .args .answer .now) (x .args .times .now) (x .args .out .now) (lent-long g) (ap verdictOf (e .timed .ensures .0)) (e .timed .ensures .1) (⊎-elim (λ l. omega (arith, l, c .before .if2 .left)) (λ l. omega (arith, l, c .if3 .taken)))
+    report-prints (x .args .sheet .now) (x .args .answer .now) (x .args .times .now) (x .args .out .now) (lent-long g) (ap verdictOf (e .timed .ensures .verdict-is)) (e .timed .ensures .buffer-is) (⊎-elim (λ l. omega (arith, l, c .before .if2 .left)) (λ l. omega (arith, l, c .if3 .taken)))
 
 returns-5 : tie.Need-returns-5
 returns-5 c =
     let e = c .before .before .before .before .before in
     let g = e .before in
     let x = g .before .before .before .before in
-    report-prints (x .args .sheet .now) (x .args .answer .now) (x .args .times .now) (x .args .out .now) (lent-long g) (ap verdictOf (e .timed .ensures .0)) (e .timed .ensures .1) (⊎-elim (λ l. omega (arith, l, c .before .before .if2 .left)) (λ l. omega (arith, l, c .if4 .left)))
+    report-prints (x .args .sheet .now) (x .args .answer .now) (x .args .times .now) (x .args .out .now) (lent-long g) (ap verdictOf (e .timed .ensures .verdict-is)) (e .timed .ensures .buffer-is) (⊎-elim (λ l. omega (arith, l, c .before .before .if2 .left)) (λ l. omega (arith, l, c .if4 .left)))
 
 pub timed-print-spec : {M : Type 1} → statement M
 timed-print-spec = tie.close (tie.spec (λ c κs. search needs) (λ c κs. search needs) (λ c κs. search needs) returns returns-2 returns-3 returns-4 returns-5)
