@@ -33,7 +33,7 @@ moved s start l (fault k) h = record { within = zero-le; same = h .same }
 abbrev pub part : List ℕ → ℕ → List ℕ
 part s start = take (length s - start) (drop start s)
 
-rest-is : (start : ℕ) (s : List ℕ) → part s start ≡ drop start s
+pub rest-is : (start : ℕ) (s : List ℕ) → part s start ≡ drop start s
 rest-is start s = take-all (length s - start) (drop start s) (simp length-drop (omega arith))
 
 -- the place at, or the text's end where that lies past it

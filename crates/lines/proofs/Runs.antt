@@ -6,6 +6,7 @@ use mathlib.Core.Path.{_≡_, refl, sym, ap, _∙_}
 use native.Mathlib.Nat.{sub-zero, add-zero}
 use native.Mathlib.Omega.{arith}
 use lib.ListN.{length, drop, length-drop}
+use lib.Seq.{drop-drop}
 use Rattle.forms.specs.Reader.{Reply, Reader}
 use Rattle.reading.specs.Lines.{Run, Lines, on, stop, next, give, lineOf, line, each}
 use Rattle.texts.specs.Reads.{Outcome, past, fault, refusal, Reads}
@@ -13,7 +14,7 @@ use Rattle.texts.proofs.Laws.{told}
 use Rattle.lines.specs.declared.Went.{Went}
 use Rattle.lines.specs.declared.Went.the-variants.{On, Stop}
 use Rattle.lines.specs.Runs.{run, RunsTo}
-use Rattle.lines.proofs.Lines.{part, same-rest, place-within, line-told}
+use Rattle.lines.proofs.Lines.{part, rest-is, same-rest, place-within, line-told}
 
 -- ---- a refusal at the place at; the value a, before the place at
 pub stopped : {A : Type 0} {s : List ℕ} {a : A} {k at : ℕ} {m : Run A} → at ≤ length s → m ≡ stop k (drop at s) → RunsTo s (Stop k) at a m
@@ -56,6 +57,12 @@ module _ {A B : Type 0} (m : Run A) (f : A → Lines B) {s : List ℕ} {w : Went
 -- the end of the text, of which w was answered
 pub end-read : {s : List ℕ} {at : ℕ} {m : Run (Unit {0})} (w : Went) → at ≤ length s → run w tt (drop at s) ≡ m → RunsTo s w at tt m
 end-read w h e = record { within = h; same = e }
+
+-- a run of lines m that was read at the part of the text from the place at on
+pub run-moved : {A : Type 0} (m : Lines A) (s : List ℕ) (at : ℕ) {w : Went} {n : ℕ} {a : A} → at ≤ length s → RunsTo (part s at) w n a (m (part s at)) → RunsTo s w (at + n) a (m (drop at s))
+run-moved m s at {w} {n} {a} l h =
+    let r : RunsTo (drop at s) w n a (m (drop at s)) = rw (rest-is at s) at h in
+    record { within = omega (arith, rw (length-drop at s) at (r .within)); same = rw (drop-drop n at s) at (r .same) }
 
 -- a place of the text is told by how long the rest is
 pub place-is : (s : List ℕ) (at : ℕ) → at ≤ length s → length s - length (drop at s) ≡ at

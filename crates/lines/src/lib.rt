@@ -38,7 +38,7 @@ pub enum Went {
 }
 
 // The line of a key and the number due.
-pub fn due_line(s: &[u8], key: &[u8], number: u32) -> Due
+fn due_line(s: &[u8], key: &[u8], number: u32) -> Due
     ensures { λ r. ⌜ Reads (now (s .entry)) (dueSays r) (dueLine (now (key .entry)) number (now (s .entry))) ⌝ }
 {
     let Number::Got(a, used) = texts::number_line(s, key, Digits::Five) else {
@@ -81,7 +81,7 @@ fn greatest(limit: Limit) -> u32
 }
 
 // The line of a key and a number from the least to the greatest.
-pub fn within_line(s: &[u8], key: &[u8], digits: Digits, least: u32, greatest: u32) -> Line
+fn within_line(s: &[u8], key: &[u8], digits: Digits, least: u32, greatest: u32) -> Line
     ensures { λ r. ⌜ CountsIn (now (s .entry)) least greatest r (countLineIn (most digits) (now (key .entry)) (between least greatest) (now (s .entry))) ⌝ }
 {
     let Number::Got(a, used) = texts::number_line(s, key, digits) else {
@@ -94,13 +94,6 @@ pub fn within_line(s: &[u8], key: &[u8], digits: Digits, least: u32, greatest: u
         return Line::Refused(3);
     }
     Line::Got(a, used)
-}
-
-// The line of a key and a number within its limit.
-pub fn count_line(s: &[u8], key: &[u8], limit: Limit) -> Line
-    ensures { λ r. ⌜ Counts (now (s .entry)) limit r (countLine (now (key .entry)) (limitOk limit) (now (s .entry))) ⌝ }
-{
-    within_line(s, key, Digits::Five, least(limit), greatest(limit))
 }
 
 // The same lines at a place of a text: the part from there on, and the next line's place.

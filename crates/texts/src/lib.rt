@@ -255,7 +255,7 @@ fn members_then(s: &[u8], at: usize, end: u8, digits: Digits) -> OneList
 }
 
 // A list and the byte that ends it; `-` is the empty list.
-pub fn list_then(s: &[u8], at: usize, end: u8, digits: Digits) -> OneList
+fn list_then(s: &[u8], at: usize, end: u8, digits: Digits) -> OneList
     ensures { λ r. ⌜ Reads (now (s .entry)) (listSays r) (list (most digits) end (drop at (now (s .entry)))) ⌝ }
 {
     let Due::Past(i) = past_key(s, at, b"-") else {
@@ -311,7 +311,7 @@ pub fn four_numbers(s: &[u8], at: usize, digits: Digits) -> FourNumbers
     FourNumbers::Got(a, b, c, d, next)
 }
 
-pub fn one_list(s: &[u8], at: usize, digits: Digits) -> OneList
+fn one_list(s: &[u8], at: usize, digits: Digits) -> OneList
     ensures { λ r. ⌜ Reads (now (s .entry)) (listSays r) (set (most digits) (drop at (now (s .entry)))) ⌝ }
 {
     list_then(s, at, b'\n', digits)

@@ -10,6 +10,9 @@ use Rattle.times.specs.declared.Times.{Times}
 use Rattle.times.specs.View.{noTimes}
 use Rattle.times.specs.Text.{times}
 use Rattle.time_rows.specs.declared.TimesRead.{TimesRead}
+use Rattle.time_rows.specs.declared.RowsRead.{RowsRead}
+use Rattle.time_rows.specs.declared.RowsRead.the-variants as rows
+use Rattle.time_rows.specs.Says.{filled}
 
 -- nothing is handed out beside a refusal
 abbrev pub refusedTimes : ℕ → ℕ → TimesRead
@@ -19,6 +22,11 @@ refusedTimes k at = record { refused = k; place = at; times = noTimes }
 abbrev pub answered : List ℕ → Run Times → TimesRead
 answered s (on ts r) = record { refused = 0; place = length s - length r; times = ts }
 answered s (stop k r) = refusedTimes k (length s - length r)
+
+-- what a run of lines and the two arrays hand out
+abbrev pub rowsAnswer : RowsRead → List ℕ → List ℕ → TimesRead
+rowsAnswer (rows.Got par at) listed seconds = record { refused = 0; place = at; times = filled par listed seconds }
+rowsAnswer (rows.Refused k at) listed seconds = refusedTimes k at
 
 -- "a too long text first": 1, at its start; then the lines
 unfoldable pub timesRead : List ℕ → TimesRead

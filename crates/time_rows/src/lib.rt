@@ -1,4 +1,4 @@
-// A text of times read whole: its three first lines, then its rows, into two arrays that are lent from row to row.
+// A text of times read whole: its three first lines, then its rows, each from the part of the text that starts with it, into two lent arrays.
 // Promised: for every text `read_times` answers the one number, place and times that `timesRead` gives of it.
 use lines::Line;
 use lines::Went;
@@ -7,13 +7,14 @@ use texts::Due;
 use texts::ThreeNumbers;
 use times::Times;
 ghost use mathlib.Core.Path.{_≡_};
-ghost use Prim.Native.Nat.{ℕ, _≤_};
-ghost use lib.ListN.{length, drop};
+ghost use Prim.Native.Nat.{ℕ};
+ghost use lib.ListN.{replicate, length, drop};
 ghost use Rattle.reading.specs.Lines.{each};
-ghost use Rattle.lines.specs.Runs.{RunsTo};
+ghost use Rattle.lines.specs.Runs.{refusalOf, RunsTo};
 ghost use Rattle.times.specs.Text.{time, times};
-ghost use Rattle.time_rows.specs.Onward.{filled, stoppedRows, fromRows};
-ghost use Rattle.time_rows.specs.Times.{refusedTimes, answered, timesRead};
+ghost use Rattle.time_rows.specs.Onward.{fromRows};
+ghost use Rattle.time_rows.specs.Says.{filled, lineWent, lineUsed, ReadsTo};
+ghost use Rattle.time_rows.specs.Times.{rowsAnswer, timesRead};
 
 // What a text of times says, or the number of the refusal and the place of the line at fault beside empty times.
 pub struct TimesRead {
@@ -22,149 +23,172 @@ pub struct TimesRead {
     pub times: Times,
 }
 
-// The place of the next line or of the line at fault.
-struct RowsRead {
-    went: Went,
-    at: usize,
+// The bytes that a row used, or the number of the refusal.
+enum TimeLine {
+    Got(usize),
+    Refused(u8),
 }
 
-// A refusal, at the place of the line at fault.
-fn stopped(k: u8, at: usize) -> RowsRead
-    ensures { λ r. ⌜ r ≡ stoppedRows k at ⌝ }
-{
-    let went = Went::Stop(k);
-    RowsRead { went, at }
+// The par and the place of the next line, or the number of the refusal and the place of the line at fault.
+enum RowsRead {
+    Got(u32, usize),
+    Refused(u8, usize),
 }
 
-// One row, at a place of the text, put into its slots whatever the par is. Beside a refusal nothing is said of the arrays.
-fn row_at(text: &[u8], at: usize, listed: &mut [u8; 1024], seconds: &mut [u32; 1024]) -> RowsRead
-    requires { ⌜ at ≤ length (now text) ⌝ }
-    ensures { λ r. ⌜ ((par j : ℕ) → RunsTo (now (text .entry)) (r .went) (r .at) (filled par (now (listed .exit)) (now (seconds .exit))) (time j (filled par (now (listed .entry)) (now (seconds .entry))) (drop at (now (text .entry))))) ⌝ }
+// `time=id,transition,seconds`, put into its slots whatever the par is. Beside a refusal nothing is said of the arrays.
+fn time_line(s: &[u8], listed: &mut [u8; 1024], seconds: &mut [u32; 1024]) -> TimeLine
+    ensures { λ r. ⌜ ((par j : ℕ) → RunsTo (now (s .entry)) (lineWent r) (lineUsed r) (filled par (now (listed .exit)) (now (seconds .exit)))
+        (time j (filled par (now (listed .entry)) (now (seconds .entry))) (now (s .entry)))) ⌝ }
 {
-    let Due::Past(i) = texts::past_key(text, at, b"time=") else {
-        return stopped(2, at);
+    let Due::Past(i) = texts::past_key(s, 0, b"time=") else {
+        return TimeLine::Refused(2);
     };
-    let ThreeNumbers::Got(id, transition, n, next) = texts::three_numbers(text, i, Digits::Seven)
+    let ThreeNumbers::Got(id, transition, n, used) = texts::three_numbers(s, i, Digits::Seven)
     else {
-        return stopped(2, at);
+        return TimeLine::Refused(2);
     };
     if 31 < id {
-        return stopped(3, at);
+        return TimeLine::Refused(3);
     }
     if 31 < transition {
-        return stopped(3, at);
+        return TimeLine::Refused(3);
     }
     if 86400 < n {
-        return stopped(3, at);
+        return TimeLine::Refused(3);
     }
     let slot = (id * 32 + transition) as usize;
     if listed[slot] == 1 {
-        return stopped(4, at);
+        return TimeLine::Refused(4);
     }
     listed[slot] = 1;
     seconds[slot] = n;
-    let went = Went::On;
-    RowsRead { went, at: next }
+    TimeLine::Got(used)
 }
 
-// So many rows, from the place start on, in the same way.
+// The number of a row's refusal, 0 where the row was read.
+fn time_refusal(line: TimeLine) -> u8
+    ensures { λ r. ⌜ r ≡ refusalOf (lineWent line) ⌝ }
+{
+    match line {
+        TimeLine::Got(_) => 0,
+        TimeLine::Refused(k) => k,
+    }
+}
+
+// So many rows, from the place start on.
 fn read_rows(
     text: &[u8],
     start: usize,
+    par: u32,
     count: usize,
     listed: &mut [u8; 1024],
     seconds: &mut [u32; 1024],
 ) -> RowsRead
-    ensures { λ r. ⌜ ((par : ℕ) → RunsTo (now (text .entry)) (r .went) (r .at) (filled par (now (listed .exit)) (now (seconds .exit))) (each time count 0 (filled par (now (listed .entry)) (now (seconds .entry))) (drop start (now (text .entry))))) ⌝ }
+    ensures { λ r. ⌜ ReadsTo (now (text .entry)) r (now (listed .exit)) (now (seconds .exit))
+        (each time count 0 (filled par (now (listed .entry)) (now (seconds .entry))) (drop start (now (text .entry)))) ⌝ }
 {
     let mut at = texts::place_in(text, start);
     let mut i: usize = 0;
     while i < count {
-        let read = row_at(text, at, listed, seconds);
-        at = read.at;
-        let went = read.went;
-        let Went::On = went else {
-            return RowsRead { went, at };
+        let line = time_line(&text[at..], listed, seconds);
+        let TimeLine::Got(used) = line else {
+            let k = time_refusal(line);
+            return RowsRead::Refused(k, at);
         };
+        at = at + used;
         i = i + 1;
     }
-    let went = Went::On;
-    RowsRead { went, at }
-}
-
-// Nothing of what was read is handed out beside a refusal.
-fn refused_times(refused: u8, place: usize) -> TimesRead
-    ensures { λ r. ⌜ r ≡ refusedTimes refused place ⌝ }
-{
-    let times = Times {
-        par: 0,
-        listed: [0; 1024],
-        seconds: [0; 1024],
-    };
-    TimesRead {
-        refused,
-        place,
-        times,
-    }
+    RowsRead::Got(par, at)
 }
 
 // The rows and the end of the text.
-fn read_from_rows(text: &[u8], start: usize, par: u32, count: usize) -> TimesRead
-    ensures { λ r. ⌜ r ≡ answered (now (text .entry)) (fromRows par count (drop start (now (text .entry)))) ⌝ }
+fn read_from_rows(
+    text: &[u8],
+    start: usize,
+    par: u32,
+    count: usize,
+    listed: &mut [u8; 1024],
+    seconds: &mut [u32; 1024],
+) -> RowsRead
+    requires { ⌜ (now listed ≡ replicate 1024 0) × (now seconds ≡ replicate 1024 0) ⌝ }
+    ensures { λ r. ⌜ ReadsTo (now (text .entry)) r (now (listed .exit)) (now (seconds .exit)) (fromRows par count (drop start (now (text .entry)))) ⌝ }
 {
-    let mut listed = [0u8; 1024];
-    let mut seconds = [0u32; 1024];
-    let read = read_rows(text, start, count, &mut listed, &mut seconds);
-    let went = read.went;
-    let place = read.at;
-    let Went::On = went else {
-        let refused = lines::refusal(went);
-        return refused_times(refused, place);
+    let rows = read_rows(text, start, par, count, listed, seconds);
+    let RowsRead::Got(_, place) = rows else {
+        return rows;
     };
     let end = lines::at_end(text, place);
     let Went::On = end else {
-        let refused = lines::refusal(end);
-        return refused_times(refused, place);
+        let k = lines::refusal(end);
+        return RowsRead::Refused(k, place);
     };
-    let times = Times {
-        par,
-        listed,
-        seconds,
-    };
-    TimesRead {
-        refused: 0,
-        place,
-        times,
-    }
+    rows
 }
 
 // All lines of the text.
-fn read_lines(text: &[u8]) -> TimesRead
-    ensures { λ r. ⌜ r ≡ answered (now (text .entry)) (times (now (text .entry))) ⌝ }
+fn read_lines(text: &[u8], listed: &mut [u8; 1024], seconds: &mut [u32; 1024]) -> RowsRead
+    requires { ⌜ (now listed ≡ replicate 1024 0) × (now seconds ≡ replicate 1024 0) ⌝ }
+    ensures { λ r. ⌜ ReadsTo (now (text .entry)) r (now (listed .exit)) (now (seconds .exit)) (times (now (text .entry))) ⌝ }
 {
     let Due::Past(par_at) = lines::due_at(text, 0, b"times=", 1) else {
-        return refused_times(2, 0);
+        return RowsRead::Refused(2, 0);
     };
     let line = lines::within_at(text, par_at, b"par=", Digits::Seven, 1, 1000000);
     let Line::Got(par, rows_at) = line else {
-        let refused = lines::line_refusal(line);
-        return refused_times(refused, par_at);
+        let k = lines::line_refusal(line);
+        return RowsRead::Refused(k, par_at);
     };
     let line = lines::within_at(text, rows_at, b"rows=", Digits::Seven, 0, 1024);
     let Line::Got(n, start) = line else {
-        let refused = lines::line_refusal(line);
-        return refused_times(refused, rows_at);
+        let k = lines::line_refusal(line);
+        return RowsRead::Refused(k, rows_at);
     };
     let count = n as usize;
-    read_from_rows(text, start, par, count)
+    read_from_rows(text, start, par, count, listed, seconds)
 }
 
-// The times of a text of any length.
+// The lines of a text of any length.
+fn read_text(text: &[u8], listed: &mut [u8; 1024], seconds: &mut [u32; 1024]) -> RowsRead
+    requires { ⌜ (now listed ≡ replicate 1024 0) × (now seconds ≡ replicate 1024 0) ⌝ }
+    ensures { λ r. ⌜ rowsAnswer r (now (listed .exit)) (now (seconds .exit)) ≡ timesRead (now (text .entry)) ⌝ }
+{
+    if 32768 < text.len() {
+        return RowsRead::Refused(1, 0);
+    }
+    read_lines(text, listed, seconds)
+}
+
+// The times of a text of any length. Nothing of what was read is handed out beside a refusal.
 pub fn read_times(text: &[u8]) -> TimesRead
     ensures { λ r. ⌜ r ≡ timesRead (now (text .entry)) ⌝ }
 {
-    if 32768 < text.len() {
-        return refused_times(1, 0);
+    let mut listed = [0u8; 1024];
+    let mut seconds = [0u32; 1024];
+    let read = read_text(text, &mut listed, &mut seconds);
+    match read {
+        RowsRead::Got(par, place) => {
+            let times = Times {
+                par,
+                listed,
+                seconds,
+            };
+            TimesRead {
+                refused: 0,
+                place,
+                times,
+            }
+        }
+        RowsRead::Refused(refused, place) => {
+            let times = Times {
+                par: 0,
+                listed: [0; 1024],
+                seconds: [0; 1024],
+            };
+            TimesRead {
+                refused,
+                place,
+                times,
+            }
+        }
     }
-    read_lines(text)
 }

@@ -1,4 +1,3 @@
-use mathlib.Core.Path.{refl, ap, _∙_}
 use lib.ListN.{drop}
 use borrow.Author.Needs.{needs}
 use Rattle.forms.specs.Reader.{bytes}
@@ -8,13 +7,12 @@ use Rattle.texts.proofs.Laws.{told}
 use Rattle.reading.specs.Kinds.{dueLine, countLineIn}
 use Rattle.lines.specs.Counts.{lineSays}
 use Rattle.times.specs.Limits.{parOk}
-use Rattle.time_rows.specs.Times.{answered}
-use Rattle.time_rows.proofs.Laws.{due-fault, par-fault, rows-fault, head-read, stop-answered}
+use Rattle.time_rows.proofs.Laws.{due-fault, par-fault, rows-fault, head-read, reads-same}
 use Rattle.time_rows.proofs.read_lines.Statement.{statement}
 use Rattle.time_rows.proofs.read_lines.Tie as tie
 
 -- the first two lines, each as it was read
-due : (c : tie.After-known-told) → let a = c .before .before .before .before .before .before .args in Reads (a .text .now) (past tt (c .before .par-at .given .0 .0)) (dueLine (bytes "times=") 1 (a .text .now))
+due : (c : tie.After-known-told) → let s = c .before .before .before .before .before .before .args .text .now in Reads s (past tt (c .before .par-at .given .0 .0)) (dueLine (bytes "times=") 1 s)
 due c = told dueSays _ (c .before .before .before .due-at .ensures) (c .before .par-at .given .1)
 
 par : (c : tie.After-known-told2) →
@@ -24,36 +22,32 @@ par : (c : tie.After-known-told2) →
 par c = told lineSays _ (c .before .before .before .within-at .ensures .reads) (c .before .line .given .1)
 
 returns : tie.Need-returns
-returns c =
-    rw (c .refused-times .ensures)
-    (stop-answered _ (due-fault _ (told dueSays _ (c .before .before .before .due-at .ensures) (c .before .enum-told .given .1))) refl refl)
+returns c = record { runs = due-fault _ (told dueSays _ (c .before .before .due-at .ensures) (c .enum-told .given .1)) }
 
 returns-2 : tie.Need-returns-2
 returns-2 c =
-    let q = c .before .before .enum-told2 .given .1 in
-    let h = told lineSays _ (c .before .before .before .before .within-at .ensures .reads) q in
-    rw (c .refused-times2 .ensures, c .before .line-refusal .ensures, q)
-    (stop-answered _ (par-fault _ (due (c .before .before .before .before .before .before)) h) refl refl)
+    let q = c .before .enum-told2 .given .1 in
+    let h = told lineSays _ (c .before .before .before .within-at .ensures .reads) q in
+    record { runs = rw (c .line-refusal .ensures, q) (par-fault _ (due (c .before .before .before .before .before)) h) }
 
 returns-3 : tie.Need-returns-3
 returns-3 c =
-    let q = c .before .before .enum-told3 .given .1 in
-    let p = c .before .before .before .before .before .before in
-    let h = told lineSays _ (c .before .before .before .before .within-at2 .ensures .reads) q in
-    rw (c .refused-times3 .ensures, c .before .line-refusal2 .ensures, q)
-    (stop-answered _ (rows-fault _ (due (p .before .before .before .before .before)) (par p) h) refl refl)
+    let q = c .before .enum-told3 .given .1 in
+    let p = c .before .before .before .before .before in
+    let h = told lineSays _ (c .before .before .before .within-at2 .ensures .reads) q in
+    record { runs = rw (c .line-refusal2 .ensures, q) (rows-fault _ (due (p .before .before .before .before .before)) (par p) h) }
 
 returns-4 : tie.Need-returns-4
 returns-4 c =
-    let p = c .before .before .before .before .before .before in
-    let h = told lineSays _ (c .before .before .before .before .within-at2 .ensures .reads) (c .before .before .line2 .given .1) in
-    c .read-from-rows .ensures ∙ ap (answered _) (head-read _ (due (p .before .before .before .before .before)) (par p) h)
+    let p = c .before .before .before .before .before .before .before .before in
+    let h = told lineSays _ (c .before .before .before .before .before .before .within-at2 .ensures .reads) (c .before .before .before .before .line2 .given .1) in
+    reads-same (head-read _ (due (p .before .before .before .before .before)) (par p) h) (c .read-from-rows .ensures)
 
 pub read-lines-spec : {M : Type 1} → statement M
 read-lines-spec =
     tie.close
     (tie.spec
-    (λ c. search needs) (λ c κs. search needs) (λ c. search needs) (λ c. search needs) (λ c κs. search needs) returns
-    (λ c. search needs) (λ c κs. search needs) (λ c. search needs) (λ c. search needs) (λ c κs. search needs) (λ c κs. search needs)
-    returns-2 (λ c. search needs) (λ c κs. search needs) (λ c. search needs) (λ c. search needs) (λ c κs. search needs)
-    (λ c κs. search needs) returns-3 (λ c. search needs) (λ c κs. search needs) returns-4)
+    (λ c. search needs) (λ c κs. search needs) (λ c. search needs) (λ c. search needs) returns (λ c. search needs)
+    (λ c κs. search needs) (λ c. search needs) (λ c. search needs) (λ c κs. search needs) returns-2 (λ c. search needs)
+    (λ c κs. search needs) (λ c. search needs) (λ c. search needs) (λ c κs. search needs) returns-3 (λ c. search needs)
+    (λ c κs. c .before .before .before .before .before .before .before .before .before .before .before .before .before .before .before .before .before .before .pre) returns-4)

@@ -1,14 +1,14 @@
-use mathlib.Core.Path.{_∙_}
 use borrow.Author.Needs.{needs}
-use Rattle.time_rows.proofs.Laws.{lines-read, too-long}
+use Rattle.times.specs.View.{timesOf}
 use Rattle.time_rows.proofs.read_times.Statement.{statement}
 use Rattle.time_rows.proofs.read_times.Tie as tie
 
 returns : tie.Need-returns
-returns c = c .refused-times .ensures ∙ too-long _ (c .before .if1 .taken)
+returns c = rw (c .before .read .given .1) at (c .before .before .before .read-text .ensures)
 
 returns-2 : tie.Need-returns-2
-returns-2 c = c .read-lines .ensures ∙ lines-read _ (c .before .if1 .left)
+unfolding timesOf
+returns-2 c = rw (c .before .read2 .given .1) at (c .before .before .before .read-text .ensures)
 
 pub read-times-spec : {M : Type 1} → statement M
-read-times-spec = tie.close (tie.spec (λ c κs. search needs) returns (λ c κs. search needs) returns-2)
+read-times-spec = tie.close (tie.spec (λ c κs. search needs) (λ c. search needs) (λ c. search needs) returns returns-2)
