@@ -13,6 +13,9 @@ ghost use Rattle.reading.specs.Place.{upToLf, lineNumber, lineStart};
 ghost use Rattle.lines.specs.Counts.{lineSays, limitOk, least, greatest, between, CountsIn, Counts};
 ghost use Rattle.lines.specs.Runs.{run, refusalOf};
 
+// "Each text has at most 32,768 bytes."
+pub const LONGEST: usize = 32768;
+
 // The limits of the counts, by the counts' names.
 pub enum Limit {
     Depth,

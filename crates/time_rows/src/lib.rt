@@ -1,5 +1,6 @@
 // A text of times read whole: its three first lines, then its rows, each from the part of the text that starts with it, into two lent arrays.
 // Promised: for every text `read_times` answers the one number, place and times that `timesRead` gives of it.
+use lines::LONGEST;
 use lines::Line;
 use lines::Went;
 use texts::Digits;
@@ -152,7 +153,7 @@ fn read_text(text: &[u8], listed: &mut [u8; 1024], seconds: &mut [u32; 1024]) ->
     requires { ⌜ (now listed ≡ replicate 1024 0) × (now seconds ≡ replicate 1024 0) ⌝ }
     ensures { λ r. ⌜ rowsAnswer r (now (listed .exit)) (now (seconds .exit)) ≡ timesRead (now (text .entry)) ⌝ }
 {
-    if 32768 < text.len() {
+    if LONGEST < text.len() {
         return RowsRead::Refused(1, 0);
     }
     read_lines(text, listed, seconds)
