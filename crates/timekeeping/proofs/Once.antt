@@ -16,4 +16,4 @@ timed-part-once s a x room r q h g =
 
 pub timed-print-once : NoOtherTimedPrint
 unfolding NoOtherTimedPrint
-timed-print-once s a x old b c n m h g = (h .0 ∙ sym (g .0), h .1 ∙ sym (g .1))
+timed-print-once s a x old b c n m h g = (h .used-is ∙ sym (g .used-is), h .out-is ∙ sym (g .out-is))

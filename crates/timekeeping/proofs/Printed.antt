@@ -16,11 +16,13 @@ use Rattle.judged.specs.declared.Verdict.{Verdict}
 use Rattle.judged.specs.Course.{Course}
 use Rattle.judged.specs.Judged.{faultLine, afterFault}
 use Rattle.inks.specs.Written.{Written}
+use Rattle.judging.specs.Counts.{Counts}
 use Rattle.judging.proofs.Order.{walked-numbers}
 use Rattle.judging.proofs.Printed.{fault-short, Chosen, walk-chosen, Prints, report-printed, lines-printed}
 use Rattle.times.specs.Refusal.{timesNumber}
 use Rattle.timed.specs.Timed.{timedCourse, markedReport, numbered, timedEnding, timed, timedVerdict, timedBuffer, timedPrinting, timedPrinted}
 use Rattle.timed.proofs.Same.{Alike, in-sheet, in-answer, in-times, marked, courses-alike, all-read}
+use Rattle.timekeeping.specs.Once.{PromisedPrint}
 use Rattle.timekeeping.proofs.Order.{TimedTold, sheet-fault, answer-fault, times-fault, clocked-walk, timed-told}
 
 -- of the sheet or the answer, or of the times
@@ -59,8 +61,12 @@ chosen s a x = go (timedCourse s a x) refl (courses-alike s a x) (timed-told s a
         (⊎-elim (λ g. omega (arith, g)) (λ g. omega (arith, g)))
 
 module _ (s a x old : List ℕ) {v : Verdict} {mid : List ℕ} (long : length old ≡ 8192) (is : v ≡ timedVerdict s a x (length old) .verdict) (after : mid ≡ timedBuffer s a x old) where
-  pub report-prints : (OfText (v .refused) → ⊥) → Prints (timedPrinted s a x) old mid (v .written)
-  report-prints = report-printed (chosen s a x) old long (rw long at is) (rw long at after)
+  -- as the judge's print is proved to print
+  promised : {new : List ℕ} {used : ℕ} → Prints (timedPrinted s a x) old new used → PromisedPrint s a x old used new × Counts used new
+  promised h = (record { used-is = h .0; out-is = h .1 .0 }, h .1 .1)
 
-  pub lines-print : {new : List ℕ} {used : ℕ} → OfText (v .refused) → Written mid (faultText (v .text) (v .line) (v .refused)) new 0 used → Prints (timedPrinted s a x) old new used
-  lines-print = lines-printed (chosen s a x) old long (rw long at is) (rw long at after)
+  pub report-prints : (OfText (v .refused) → ⊥) → PromisedPrint s a x old (v .written) mid × Counts (v .written) mid
+  report-prints h = promised (report-printed (chosen s a x) old long (rw long at is) (rw long at after) h)
+
+  pub lines-print : {new : List ℕ} {used : ℕ} → OfText (v .refused) → Written mid (faultText (v .text) (v .line) (v .refused)) new 0 used → PromisedPrint s a x old used new × Counts used new
+  lines-print h w = promised (lines-printed (chosen s a x) old long (rw long at is) (rw long at after) h w)

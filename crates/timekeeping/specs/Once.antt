@@ -13,9 +13,14 @@ unfoldable pub NoOtherTimedPart : Type 0
 NoOtherTimedPart =
     (s a x : RefT (List ℕ)) (room : ℕ) (r q : RefT (List ℕ)) → PromisedPart s a x room r → PromisedPart s a x room q → (r .ptr ≡ q .ptr) × (r .now ≡ q .now)
 
+-- what printing promises: how many bytes, and every byte of the buffer that held `old`
+pub record PromisedPrint (s a x old : List ℕ) (used : ℕ) (after : List ℕ) : Type 0 where
+  pub used-is : used ≡ length (timedPrinted s a x)
+  pub out-is : after ≡ over (timedPrinted s a x) old
+
 unfoldable pub NoOtherTimedPrint : Type 0
 NoOtherTimedPrint =
     (s a x old b c : List ℕ) (n m : ℕ)
-    → (n ≡ length (timedPrinted s a x)) × (b ≡ over (timedPrinted s a x) old)
-    → (m ≡ length (timedPrinted s a x)) × (c ≡ over (timedPrinted s a x) old)
+    → PromisedPrint s a x old n b
+    → PromisedPrint s a x old m c
     → (n ≡ m) × (b ≡ c)

@@ -20,10 +20,11 @@ ghost use Rattle.inks.specs.Written.{Written};
 ghost use Rattle.judged.specs.Judged.{afterFault, inRoom, over};
 ghost use Rattle.judging.specs.Counts.{Counts};
 ghost use Rattle.times.specs.Refusal.{timesNumber};
-ghost use Rattle.timed.specs.Timed.{clocked, timedCourse, markedReport, numbered, markInRoom, timedPrinted};
+ghost use Rattle.timed.specs.Timed.{clocked, timedCourse, markedReport, numbered, markInRoom};
 ghost use Rattle.timed.specs.Once.{PromisedAnswer, PromisedPlace};
 ghost use Rattle.timekeeping.specs.Came.{came};
 ghost use Rattle.timekeeping.specs.Part.{PromisedPart};
+ghost use Rattle.timekeeping.specs.Once.{PromisedPrint};
 
 // A text is refused with a reader's number at a place of it, or all three are read.
 enum TimedOutcome {
@@ -220,8 +221,7 @@ pub fn timed_offending<'a>(
 
 // What the `timing` program prints: the report with its mark, or after 1 to 5 and 40 to 42 the three lines.
 pub fn timed_print(sheet: &[u8], answer: &[u8], times: &[u8], out: &mut [u8; 8192]) -> usize
-    ensures used { λ r. ⌜ r ≡ length (timedPrinted (now (sheet .entry)) (now (answer .entry)) (now (times .entry))) ⌝ }
-    ensures out { λ r. ⌜ now (out .exit) ≡ over (timedPrinted (now (sheet .entry)) (now (answer .entry)) (now (times .entry))) (now (out .entry)) ⌝ }
+    ensures print { λ r. ⌜ PromisedPrint (now (sheet .entry)) (now (answer .entry)) (now (times .entry)) (now (out .entry)) r (now (out .exit)) ⌝ }
     ensures counts { λ r. ⌜ Counts r (now (out .exit)) ⌝ }
 {
     let ended = timed(sheet, answer, times, out);
