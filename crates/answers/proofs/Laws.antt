@@ -11,7 +11,7 @@ use Rattle.model.specs.Empty.{noAnswer}
 use Rattle.model.specs.Lent.{stepsIn, answerIn}
 use Rattle.texts.specs.Reads.{past, Reads}
 use Rattle.reading.specs.Limits.{stepsOk}
-use Rattle.reading.specs.Lines.{Lines, _>>=_, _>>_, give, each, atEnd}
+use Rattle.reading.specs.Lines.{Lines, _>>=_, _>>_, handOn, each, atEnd}
 use Rattle.reading.specs.Kinds.{dueLine, countLine}
 use Rattle.reading.specs.Fill.{answerOf}
 use Rattle.reading.specs.Texts.{stepAt, answer}
@@ -45,7 +45,7 @@ unfoldable pub fromSteps : ℕ → Lines Answer
 fromSteps k = do
   a ← each stepAt k 0 (answerOf k)
   atEnd
-  give a
+  handOn a
 
 pub steps-then : (s : List ℕ) {first second k : ℕ} {w : Went} {at : ℕ} {a : Answer} → Reads s (past tt first) (dueLine (bytes "answer=") 1 s)
     → Reads s (past k second) (countLine (bytes "steps=") stepsOk (drop first s)) → RunsTo s w at a (fromSteps k (drop second s)) → RunsTo s w at a (answer s)

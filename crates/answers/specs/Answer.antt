@@ -4,6 +4,7 @@ use mathlib.Core.List.{List}
 use mathlib.Core.Bool.{true, false}
 use mathlib.Core.Path.{_≡_}
 use lib.ListN.{length}
+use Rattle.forms.specs.Refusal.{tooLong}
 use Rattle.model.specs.declared.Answer.{Answer}
 use Rattle.model.specs.Empty.{noAnswer}
 use Rattle.model.specs.Lent.{answerIn}
@@ -24,7 +25,7 @@ answered s (stop k r) = refusedAnswer k (length s - length r)
 
 -- "a text is too long": 1, at its start; then the lines
 unfoldable pub answerRead : List ℕ → AnswerRead
-answerRead s = elim (lengthOk (length s)) [ true ↦ answered s (answer s) | false ↦ refusedAnswer 1 0 ]
+answerRead s = elim (lengthOk (length s)) [ true ↦ answered s (answer s) | false ↦ refusedAnswer tooLong 0 ]
 
 -- what r and the three lists of the steps say together
 abbrev pub given : StepsRead → List ℕ → List ℕ → List ℕ → AnswerRead

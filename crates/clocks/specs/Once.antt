@@ -11,13 +11,13 @@ use Rattle.timed.specs.Mark.{markAfter}
 use Rattle.clocks.specs.declared.TimedWalk.{TimedWalk}
 
 -- what the timed walk promises: the walk of the rules, and its mark
-pub record Promised (default : ℕ) (t : Tables) (p : Program) (a : Answer) (ts : Times) (r : TimedWalk) : Type 0 where
+pub record ClocksPromised (default : ℕ) (t : Tables) (p : Program) (a : Answer) (ts : Times) (r : TimedWalk) : Type 0 where
   pub walked-is : r .walked ≡ walkAnswer default t p a
   pub mark-is : r .mark ≡ markAfter (walkAnswer default t p a .refused) (ts .par) (clockOf default t p a ts)
 
 unfoldable pub NoOtherTimedWalk : Type 0
 NoOtherTimedWalk =
     (default : ℕ) (t : Tables) (p : Program) (a : Answer) (ts : Times) (r q : TimedWalk)
-    → Promised default t p a ts r
-    → Promised default t p a ts q
+    → ClocksPromised default t p a ts r
+    → ClocksPromised default t p a ts q
     → r ≡ q

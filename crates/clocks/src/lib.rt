@@ -22,7 +22,7 @@ ghost use Rattle.sets.specs.Mask.{member};
 ghost use Rattle.times.specs.View.{pairSlot};
 ghost use Rattle.timed.specs.Clock.{started, notes, tick};
 ghost use Rattle.timed.specs.Mark.{markOf};
-ghost use Rattle.clocks.specs.Once.{Promised};
+ghost use Rattle.clocks.specs.Once.{ClocksPromised};
 ghost use Rattle.clocks.specs.Paced.{clockAt, ofSeconds, mostSeconds, longest, InTime, Paced};
 
 const FIRE: u8 = 1;
@@ -135,7 +135,7 @@ fn mark(par: u32, clock: usize) -> usize
 
 // The walk of an answer from the empty start, with the clock beside it.
 pub fn walk_timed(default: u8, t: Tables, p: Program, a: Answer, times: Times) -> TimedWalk
-    ensures { λ r. ⌜ Promised default t p a times r ⌝ }
+    ensures { λ r. ⌜ ClocksPromised default t p a times r ⌝ }
 {
     let n = smaller(a.count, 1024);
     let mut noted = [0usize; 1024];

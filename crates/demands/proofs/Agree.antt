@@ -14,8 +14,8 @@ use Rattle.model.specs.declared.Configuration.{Configuration}
 use Rattle.model.specs.declared.Walked.{Walked}
 use Rattle.model.specs.Empty.{start}
 use Rattle.model.specs.View.{withDone}
-use Rattle.rules.specs.Action.{Action, add, del, pushb, con, dcon, wait, fire, end, enter, finish, move}
-use Rattle.rules.specs.Step.{isNext, line, action, number, after}
+use Rattle.rules.specs.Action.{Action, add, del, pushb, con, dcon, wait, fire, end, enter, finish, moveAction}
+use Rattle.rules.specs.Step.{isNext, actionAt, action, stepCheck, stepTo}
 use Rattle.rules.specs.Walk.{oneMore, walk}
 use Rattle.rules.specs.Proper.{Proper}
 use Rattle.rules.proofs.Tables.{Facts, facts}
@@ -48,7 +48,7 @@ unfolding walk oneMore tally
 accepted-walk default t p [] c ok = refl
 accepted-walk default t p (s ∷ ss) c ok =
     ap (λ (w : Walked). w .accepted) (walk-on default t p c s ss (allowed-head default t p c s ss ok))
-    ∙ ap suc (accepted-walk default t p ss (after t p c s) (allowed-tail default t p c s ss ok)) ∙ sym (one-add (tally each ss))
+    ∙ ap suc (accepted-walk default t p ss (stepTo t p c s) (allowed-tail default t p c s ss ok)) ∙ sym (one-add (tally each ss))
 
 -- ---- connections and the instructions done: the program's next instructions, as many as there are `next`
 
@@ -61,26 +61,26 @@ course c = record { joined = wires c; done = c .done }
 
 -- after the next instruction
 abbrev onward : Program → Course → Course
-onward p x = record { joined = rewired (wiringOf (change (line p (x .done)))) (x .joined); done = suc (x .done) }
+onward p x = record { joined = rewired (wiringOf (change (actionAt p (x .done)))) (x .joined); done = suc (x .done) }
 
 times : ℕ → (Course → Course) → Course → Course
 times zero f x = x
 times (suc n) f x = times n f (f x)
 
 module _ (default : ℕ) (t : Tables) (p : Program) where
-  course-step : (c : Configuration) (s : Step) → course (after t p c s) ≡ cond (isNext s) (onward p (course c)) (course c)
+  course-step : (c : Configuration) (s : Step) → course (stepTo t p c s) ≡ cond (isNext s) (onward p (course c)) (course c)
   unfolding action withDone
   course-step c s =
       after-cases t p (λ d. course d ≡ cond (isNext s) (onward p (course c)) (course c)) c s
-      (λ e. rw e (ap (λ (x : Wires). record { joined = x; done = suc (c .done) }) (rest-after t c (line p (c .done)) .connections)))
-      (λ e. rw e (ap₂ (λ (x : Wires) (n : ℕ). record { joined = x; done = n }) (part-wires t c (move s) (s .id) (move-changes s)) (rest-after t c (move s) .done)))
+      (λ e. rw e (ap (λ (x : Wires). record { joined = x; done = suc (c .done) }) (rest-after t c (actionAt p (c .done)) .connections)))
+      (λ e. rw e (ap₂ (λ (x : Wires) (n : ℕ). record { joined = x; done = n }) (part-wires t c (moveAction s) (s .id) (move-changes s)) (rest-after t c (moveAction s) .done)))
 
   course-walk : (ss : List Step) (c : Configuration) → walk default t p c ss .refused ≡ 0 → course (walk default t p c ss .configuration) ≡ times (tally ifNext ss) (onward p) (course c)
   unfolding walk oneMore tally times
   course-walk [] c ok = refl
   course-walk (s ∷ ss) c ok =
       ap (λ (w : Walked). course (w .configuration)) (walk-on default t p c s ss (allowed-head default t p c s ss ok))
-      ∙ course-walk ss (after t p c s) (allowed-tail default t p c s ss ok)
+      ∙ course-walk ss (stepTo t p c s) (allowed-tail default t p c s ss ok)
       ∙ ap (times (tally ifNext ss) (onward p)) (course-step c s)
       ∙ go (isNext s)
     where
@@ -120,14 +120,14 @@ acts-naming t i (a ∷ rest) x =
     ∙ by-test (names a i) (λ e. rw (e, naming)) (λ e. rw (unnamed-kept a i e, e, naming))
 
 module _ (default : ℕ) (t : Tables) (p : Program) (law : Facts default t p) where
-  part-step : (c : Configuration) (s : Step) → Proper default t p c → number default t p c s ≡ 0 → (i : ℕ) → i < 32 → part (after t p c s) i ≡ acted t i (action p c s) (part c i)
+  part-step : (c : Configuration) (s : Step) → Proper default t p c → stepCheck default t p c s ≡ 0 → (i : ℕ) → i < 32 → part (stepTo t p c s) i ≡ acted t i (action p c s) (part c i)
   unfolding withDone
   part-step c s now e i h =
       let there = part-after default t p law c now (action p c s) (step-lawfully default t p law c s e) (number-facts default t p c s e .0) i h in
       after-cases t p (λ d. part d i ≡ acted t i (action p c s) (part c i)) c s (λ _. there) (λ _. there)
 
   -- the deeds of a step and of the rest
-  deeds-step : (c : Configuration) (s : Step) (ss : List Step) → deeds p (c .done) (s ∷ ss) ≡ action p c s ∷ deeds p (after t p c s .done) ss
+  deeds-step : (c : Configuration) (s : Step) (ss : List Step) → deeds p (c .done) (s ∷ ss) ≡ action p c s ∷ deeds p (stepTo t p c s .done) ss
   unfolding deeds action
   deeds-step c s ss =
       by-test (isNext s) (λ e. rw (after-done t p c s, e, deeds)) (λ e. rw (after-done t p c s, e, deeds))
@@ -139,8 +139,8 @@ module _ (default : ℕ) (t : Tables) (p : Program) (law : Facts default t p) wh
   part-walk (s ∷ ss) c now ok i h =
       let e = allowed-head default t p c s ss ok in
       ap (λ (w : Walked). part (w .configuration) i) (walk-on default t p c s ss e)
-      ∙ part-walk ss (after t p c s) (step-proper default t p law c s now e) (allowed-tail default t p c s ss ok) i h
-      ∙ ap (λ (x : Part). acts t i x (deeds p (after t p c s .done) ss)) (part-step c s now e i h)
+      ∙ part-walk ss (stepTo t p c s) (step-proper default t p law c s now e) (allowed-tail default t p c s ss ok) i h
+      ∙ ap (λ (x : Part). acts t i x (deeds p (stepTo t p c s .done) ss)) (part-step c s now e i h)
       ∙ sym (ap (acts t i (part c i)) (deeds-step c s ss))
 
   -- ---- the outcome, from any proper configuration

@@ -11,7 +11,7 @@ use lib.Dec.{eqb}
 use lib.ListN.{length, take, length-append, length-set}
 use lib.Seq.{take-suc-set, length-take-le}
 use Rattle.forms.specs.Reader.{Reply, Reader, got, refused, bytes, check}
-use Rattle.forms.specs.Read.{key, on as onKey, one, two}
+use Rattle.forms.specs.Read.{key, upon, oneForm, twoForm}
 use Rattle.forms.specs.Write.{oneText, twoText, numberText, digitsIn}
 use Rattle.forms.proofs.Laws.{not-got, got-value, got-rest, bound-to}
 use Rattle.forms.proofs.Back.{key-back, one-back, two-back}
@@ -19,9 +19,9 @@ use Rattle.model.specs.declared.Step.{Step}
 use Rattle.model.specs.declared.Answer.{Answer}
 use Rattle.model.specs.Empty.{noAnswer}
 use Rattle.model.specs.Verb.{fireVerb, endVerb, enterVerb, finishVerb}
-use Rattle.reading.specs.Limits.{digits, stepsOk, idOk, placeOk, transitionOk}
-use Rattle.reading.specs.Lines.{Run, Lines, on, stop, next, line, lineOf, each, atEnd}
-use Rattle.reading.specs.Kinds.{dueLine, countLineIn, countLine, step, stepId, stepNumber, stepLine}
+use Rattle.reading.specs.Limits.{fiveDigits, stepsOk, idOk, placeOk, transitionOk}
+use Rattle.reading.specs.Lines.{Run, Lines, on, stop, runOn, line, lineOf, each, atEnd}
+use Rattle.reading.specs.Kinds.{dueLine, countLineIn, countLine, aStep, stepId, stepNumber, stepLine}
 use Rattle.reading.specs.Fill.{answerOf, withStep}
 use Rattle.reading.specs.Texts.{stepAt, answer}
 use Rattle.demands.specs.AnswerText.{stepText, stepsText, answerText, AnswersAreTheirTexts}
@@ -34,39 +34,39 @@ checked false n s q = absurd (not-got q)
 due-back : (k : List ℕ) (n : ℕ) (s : List ℕ) {u : Unit {0}} {r : List ℕ} → dueLine k n s ≡ got u r → s ≡ k ++ oneText n ++ r
 unfolding dueLine
 due-back k n s q =
-    bound-to (key k s) _ q λ _ t e q. bound-to (one digits t) _ q λ a v f q.
+    bound-to (key k s) _ q λ _ t e q. bound-to (oneForm fiveDigits t) _ q λ a v f q.
     let (same, rest) = checked (eqb a n) 2 v q in
-    rw (key-back k s e, one-back digits (omega arith) t f .0, eqb-true a n same, rest) (simp append-assoc)
+    rw (key-back k s e, one-back fiveDigits (omega arith) t f .0, eqb-true a n same, rest) (simp append-assoc)
 
 count-back : (k : List ℕ) (limit : ℕ → Bool) (s : List ℕ) {n : ℕ} {r : List ℕ} → countLine k limit s ≡ got n r → (s ≡ k ++ oneText n ++ r) × (limit n ≡ true)
 unfolding countLineIn
 count-back k limit s q =
-    bound-to (key k s) _ q λ _ t e q. bound-to (one digits t) _ q λ a v f q. bound-to (check (limit a) 3 v) _ q λ _ w g q.
+    bound-to (key k s) _ q λ _ t e q. bound-to (oneForm fiveDigits t) _ q λ a v f q. bound-to (check (limit a) 3 v) _ q λ _ w g q.
     let (ok, rest) = checked (limit a) 3 v g in
-    rw (← got-value q, ← got-rest q) (rw (key-back k s e, one-back digits (omega arith) t f .0, rest) (simp append-assoc), ok)
+    rw (← got-value q, ← got-rest q) (rw (key-back k s e, one-back fiveDigits (omega arith) t f .0, rest) (simp append-assoc), ok)
 
 -- m takes the text of what it gives, where k was taken before
 abbrev After : List ℕ → Reader Step → Type 0
 After k m = (s : List ℕ) (x : Step) (r : List ℕ) → m s ≡ got x r → k ++ s ≡ stepText x ++ r
 
-on-back : (k : List ℕ) {m other : Reader Step} → After k m → After [] other → After [] (onKey k m other)
+on-back : (k : List ℕ) {m other : Reader Step} → After k m → After [] other → After [] (upon k m other)
 on-back k {m} {other} f g s x r = go (key k s) refl
   where
     go : (z : Reply (Unit {0})) → key k s ≡ z → elim z [ got u r ↦ m r | refused n ↦ other s ] ≡ got x r → s ≡ stepText x ++ r
     go (got tt t) e q = key-back k s e ∙ f t x r q
     go (refused n) e q = g s x r q
 
-id-back : (k : List ℕ) (v : ℕ) → ((a : ℕ) → stepText (step v a 0) ≡ k ++ oneText a) → After k (stepId v)
+id-back : (k : List ℕ) (v : ℕ) → ((a : ℕ) → stepText (aStep v a 0) ≡ k ++ oneText a) → After k (stepId v)
 unfolding stepId
 id-back k v is s x r q =
-    bound-to (one digits s) _ q λ a t e q. bound-to (check (idOk a) 3 t) _ q λ _ w g q.
-    rw (← got-value q, ← got-rest q, is a, one-back digits (omega arith) s e .0, checked (idOk a) 3 t g .1) (simp append-assoc)
+    bound-to (oneForm fiveDigits s) _ q λ a t e q. bound-to (check (idOk a) 3 t) _ q λ _ w g q.
+    rw (← got-value q, ← got-rest q, is a, one-back fiveDigits (omega arith) s e .0, checked (idOk a) 3 t g .1) (simp append-assoc)
 
-number-back : (k : List ℕ) (v : ℕ) (limit : ℕ → Bool) → ((a b : ℕ) → stepText (step v a b) ≡ k ++ twoText a b) → After k (stepNumber v limit)
+number-back : (k : List ℕ) (v : ℕ) (limit : ℕ → Bool) → ((a b : ℕ) → stepText (aStep v a b) ≡ k ++ twoText a b) → After k (stepNumber v limit)
 unfolding stepNumber
 number-back k v limit is s x r q =
-    bound-to (two digits s) _ q λ a t e q. bound-to (check (idOk (a .0) && limit (a .1)) 3 t) _ q λ _ w g q.
-    rw (← got-value q, ← got-rest q, is (a .0) (a .1), two-back digits (omega arith) s e .0, checked (idOk (a .0) && limit (a .1)) 3 t g .1) (simp append-assoc)
+    bound-to (twoForm fiveDigits s) _ q λ a t e q. bound-to (check (idOk (a .0) && limit (a .1)) 3 t) _ q λ _ w g q.
+    rw (← got-value q, ← got-rest q, is (a .0) (a .1), two-back fiveDigits (omega arith) s e .0, checked (idOk (a .0) && limit (a .1)) 3 t g .1) (simp append-assoc)
 
 step-back : After [] stepLine
 unfolding stepLine stepText
@@ -89,7 +89,7 @@ on-rest : {A : Type 0} {a b : A} {s r : List ℕ} → on a s ≡ on b r → s �
 on-rest {a = a} {b = b} {s = s} {r = r} e = cc
 
 -- lines that are read, and what comes after
-run-then : {A B W : Type 0} (x : Run A) (f : A → Lines B) {b : B} {r : List ℕ} → next x f ≡ on b r →
+run-then : {A B W : Type 0} (x : Run A) (f : A → Lines B) {b : B} {r : List ℕ} → runOn x f ≡ on b r →
     ((a : A) (t : List ℕ) → x ≡ on a t → f a t ≡ on b r → W) → W
 run-then (on a t) f q k = k a t refl q
 run-then (stop n t) f q k = absurd (not-on q)
@@ -98,7 +98,7 @@ line-back : {A : Type 0} (x : Reply A) (s : List ℕ) {a : A} {t : List ℕ} →
 line-back (got a t) s e = rw (on-value e, on-rest e) refl
 line-back (refused n) s e = absurd (not-on e)
 
-line-then : {A B W : Type 0} (m : Reader A) (f : A → Lines B) (s : List ℕ) {b : B} {r : List ℕ} → next (line m s) f ≡ on b r →
+line-then : {A B W : Type 0} (m : Reader A) (f : A → Lines B) (s : List ℕ) {b : B} {r : List ℕ} → runOn (line m s) f ≡ on b r →
     ((a : A) (t : List ℕ) → m s ≡ got a t → f a t ≡ on b r → W) → W
 line-then m f s q k = run-then (line m s) f q λ a t e. k a t (line-back (m s) s e)
 

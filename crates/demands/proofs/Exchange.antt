@@ -10,7 +10,7 @@ use native.Mathlib.Decide.{ℕ-discrete}
 use lib.Dec.{eqb}
 use lib.ListN.{getD}
 use borrow.Author.Tests.{eqb-true, eq-eqb}
-use Rattle.sets.specs.Test.{any}
+use Rattle.sets.specs.Test.{anyBelow}
 use Rattle.sets.proofs.Laws.{any-same}
 use Rattle.forms.proofs.Tests.{by-test}
 use Rattle.model.specs.declared.Tables.{Tables}
@@ -21,16 +21,16 @@ use Rattle.model.specs.declared.Connection.{Connection}
 use Rattle.model.specs.declared.Configuration.{Configuration}
 use Rattle.model.specs.declared.Walked.{Walked}
 use Rattle.model.specs.Empty.{noConnection, start}
-use Rattle.model.specs.View.{instance, connection, head}
-use Rattle.rules.specs.Refusal.{orElse}
+use Rattle.model.specs.View.{instance, connection, queueHead}
+use Rattle.rules.specs.Refusal.{orNumber}
 use Rattle.rules.specs.Instance.{portsOf, current, leaving, entering, fired, entered}
 use Rattle.rules.specs.Ports.{someConnection, serves, blocks, employs, failsUnserved, failsRefusing, failsInUse, portCheck}
 use Rattle.rules.specs.Fire.{fireRow, fireCheck}
 use Rattle.rules.specs.End.{endCheck}
 use Rattle.rules.specs.Enter.{enterRow, enterCheck}
 use Rattle.rules.specs.Finish.{finishRow, finishCheck}
-use Rattle.rules.specs.Action.{Action, add, del, pushb, con, dcon, wait, fire, end, enter, finish, move, check, effect}
-use Rattle.rules.specs.Step.{isNext, after}
+use Rattle.rules.specs.Action.{Action, add, del, pushb, con, dcon, wait, fire, end, enter, finish, moveAction, actionCheck, effect}
+use Rattle.rules.specs.Step.{isNext, stepTo}
 use Rattle.rules.specs.Walk.{oneMore, walk}
 use Rattle.rules.specs.Proper.{Proper}
 use Rattle.rules.proofs.Tables.{Facts, facts}
@@ -45,9 +45,9 @@ use Rattle.demands.proofs.Parts.{Part, part, acted, part-after, whole}
 -- d is as c for all that a move of j looks at: its part, the connections, the provider's record and head, the user's record
 record Near (c d : Configuration) (j : ℕ) : Type 0 where
   own : instance d j ≡ instance c j
-  top : head d j ≡ head c j
+  top : queueHead d j ≡ queueHead c j
   connections : wires d ≡ wires c
-  provider : (k : Connection) → Joined c k → k .user ≡ j → (instance d (k .provider) ≡ instance c (k .provider)) × (head d (k .provider) ≡ head c (k .provider))
+  provider : (k : Connection) → Joined c k → k .user ≡ j → (instance d (k .provider) ≡ instance c (k .provider)) × (queueHead d (k .provider) ≡ queueHead c (k .provider))
   user : (k : Connection) → Joined c k → k .provider ≡ j → instance d (k .user) ≡ instance c (k .user)
 
 -- a test that is only made where i is j
@@ -58,7 +58,7 @@ module _ (t : Tables) (c d : Configuration) (j : ℕ) (near : Near c d j) where
   some-same : (f g : Connection → Bool) → ((k : Connection) → Joined c k → f k ≡ g k) → someConnection d f ≡ someConnection c g
   unfolding someConnection
   some-same f g same =
-      ap (λ (x : Wires). any (x .count) (λ l. f (getD (x .list) l noConnection))) (near .connections)
+      ap (λ (x : Wires). anyBelow (x .count) (λ l. f (getD (x .list) l noConnection))) (near .connections)
       ∙ any-same (c .count) _ _ (λ l h. same (connection c l) (l, h, refl))
 
   serves-same : (q : ℕ) → someConnection d (serves t d j q) ≡ someConnection c (serves t c j q)
@@ -85,12 +85,12 @@ module _ (t : Tables) (c d : Configuration) (j : ℕ) (near : Near c d j) where
 
   -- `fire` and `enter`: a row and the port checks, both told by the record and the head
   passing-same : (row : Instance → ℕ → ℕ) (result : Instance → ℕ → Instance)
-      → orElse (row (instance d j) (head d j)) (portCheck t d j (instance d j) (result (instance d j) (head d j)))
-      ≡ orElse (row (instance c j) (head c j)) (portCheck t c j (instance c j) (result (instance c j) (head c j)))
-  passing-same row result = rw (near .own, near .top, ports-same (instance c j) (result (instance c j) (head c j)))
+      → orNumber (row (instance d j) (queueHead d j)) (portCheck t d j (instance d j) (result (instance d j) (queueHead d j)))
+      ≡ orNumber (row (instance c j) (queueHead c j)) (portCheck t c j (instance c j) (result (instance c j) (queueHead c j)))
+  passing-same row result = rw (near .own, near .top, ports-same (instance c j) (result (instance c j) (queueHead c j)))
 
-check-same : (default : ℕ) (t : Tables) (c d : Configuration) (a : Action) → isMove a ≡ true → Near c d (ownerOf a) → check default t d a ≡ check default t c a
-unfolding isMove check change owner fireCheck enterCheck endCheck finishCheck
+check-same : (default : ℕ) (t : Tables) (c d : Configuration) (a : Action) → isMove a ≡ true → Near c d (ownerOf a) → actionCheck default t d a ≡ actionCheck default t c a
+unfolding isMove actionCheck change owner fireCheck enterCheck endCheck finishCheck
 check-same default t c d (fire i p) m near =
     passing-same t c d i near (λ v h. fireRow v p (leaving t (v .kind) (current t v h) p)) (λ v h. fired v p (leaving t (v .kind) (current t v h) p))
 check-same default t c d (enter i p) m near =
@@ -125,7 +125,7 @@ unfolding isMove
 move-lawfully t m j k e = absurd (false≢true (sym (ap isMove e) ∙ m .is-move))
 
 module _ (default : ℕ) (t : Tables) (p : Program) (law : Facts default t p) where
-  module _ (c : Configuration) (now : Proper default t p c) (a : Action) (i : ℕ) (m : MoveOf a i) (ok : check default t c a ≡ 0) where
+  module _ (c : Configuration) (now : Proper default t p c) (a : Action) (i : ℕ) (m : MoveOf a i) (ok : actionCheck default t c a ≡ 0) where
     move-proper : Proper default t p (effect t c a)
     move-proper = action-proper default t p law c now a (move-lawfully t m) ok
 
@@ -145,9 +145,9 @@ module _ (default : ℕ) (t : Tables) (p : Program) (law : Facts default t p) wh
         fits : Room c a
         fits = room default t p law c now a (move-lawfully t m) ok
 
-    number-kept : (b : Action) (j : ℕ) → MoveOf b j → j ≢ i → Apart c i j → check default t (effect t c a) b ≡ check default t c b
+    number-kept : (b : Action) (j : ℕ) → MoveOf b j → j ≢ i → Apart c i j → actionCheck default t (effect t c a) b ≡ actionCheck default t c b
     number-kept b j n other apart =
-        at-owner (λ (k : ℕ). Near c (effect t c a) k → check default t (effect t c a) b ≡ check default t c b) b j (n .mine)
+        at-owner (λ (k : ℕ). Near c (effect t c a) k → actionCheck default t (effect t c a) b ≡ actionCheck default t c b) b j (n .mine)
         (λ _ near. check-same default t c (effect t c a) b (n .is-move) near) (near-after j other apart)
 
     move-part : (k : ℕ) → k < 32 → part (effect t c a) k ≡ acted t k a (part c k)
@@ -155,11 +155,11 @@ module _ (default : ℕ) (t : Tables) (p : Program) (law : Facts default t p) wh
 
   -- ---- a move a of i and a move b of j, one after the other
   module _ (c : Configuration) (now : Proper default t p c) (a b : Action) (i j : ℕ) (m : MoveOf a i) (n : MoveOf b j) (other : i ≢ j) (apart : Apart c i j)
-      (ea : check default t c a ≡ 0) (eb : check default t (effect t c a) b ≡ 0) where
-    second-first : check default t c b ≡ 0
+      (ea : actionCheck default t c a ≡ 0) (eb : actionCheck default t (effect t c a) b ≡ 0) where
+    second-first : actionCheck default t c b ≡ 0
     second-first = sym (number-kept c now a i m ea b j n (λ q. other (sym q)) apart) ∙ eb
 
-    first-second : check default t (effect t c b) a ≡ 0
+    first-second : actionCheck default t (effect t c b) a ≡ 0
     first-second = number-kept c now b j n second-first a i m other (λ k x. (apart k x .1, apart k x .0)) ∙ ea
 
     swapped : (k : ℕ) (x : Part) → acted t k a (acted t k b x) ≡ acted t k b (acted t k a x)
@@ -179,12 +179,12 @@ module _ (default : ℕ) (t : Tables) (p : Program) (law : Facts default t p) wh
 
 -- ---- steps
 
-step-move : (s : Step) → MoveOf (move s) (s .id)
+step-move : (s : Step) → MoveOf (moveAction s) (s .id)
 step-move s = record { is-move = move-is-move s; mine = move-changes s }
 
 module _ (default : ℕ) (t : Tables) (p : Program) (law : Facts default t p) where
-  walk-move : (c : Configuration) (s : Step) (ss : List Step) → isNext s ≡ false → check default t c (move s) ≡ 0
-      → walk default t p c (s ∷ ss) ≡ oneMore (walk default t p (effect t c (move s)) ss)
+  walk-move : (c : Configuration) (s : Step) (ss : List Step) → isNext s ≡ false → actionCheck default t c (moveAction s) ≡ 0
+      → walk default t p c (s ∷ ss) ≡ oneMore (walk default t p (effect t c (moveAction s)) ss)
   walk-move c s ss e ok =
       walk-on default t p c s ss (move-number s t p c e default ∙ ok) ∙ ap (λ (d : Configuration). oneMore (walk default t p d ss)) (move-after s t p c e)
 
@@ -192,25 +192,25 @@ module _ (default : ℕ) (t : Tables) (p : Program) (law : Facts default t p) wh
     exchange-here : (c : Configuration) → Proper default t p c → Apart c (m .id) (n .id) → (rest : List Step) → walk default t p c (m ∷ n ∷ rest) .refused ≡ 0
         → walk default t p c (n ∷ m ∷ rest) ≡ walk default t p c (m ∷ n ∷ rest)
     exchange-here c now apart rest ok =
-        walk-move c n (m ∷ rest) second x ∙ ap oneMore (walk-move (effect t c (move n)) m rest first y ∙ ap (λ (d : Configuration). oneMore (walk default t p d rest)) z)
-        ∙ sym (walk-move c m (n ∷ rest) first ea ∙ ap oneMore (walk-move (effect t c (move m)) n rest second eb))
+        walk-move c n (m ∷ rest) second x ∙ ap oneMore (walk-move (effect t c (moveAction n)) m rest first y ∙ ap (λ (d : Configuration). oneMore (walk default t p d rest)) z)
+        ∙ sym (walk-move c m (n ∷ rest) first ea ∙ ap oneMore (walk-move (effect t c (moveAction m)) n rest second eb))
       where
-        ea : check default t c (move m) ≡ 0
+        ea : actionCheck default t c (moveAction m) ≡ 0
         ea = sym (move-number m t p c first default) ∙ allowed-head default t p c m (n ∷ rest) ok
 
-        eb : check default t (effect t c (move m)) (move n) ≡ 0
+        eb : actionCheck default t (effect t c (moveAction m)) (moveAction n) ≡ 0
         eb =
-            sym (move-number n t p (effect t c (move m)) second default)
-            ∙ (rw (move-after m t p c first) at (allowed-head default t p (after t p c m) n rest (allowed-tail default t p c m (n ∷ rest) ok)))
+            sym (move-number n t p (effect t c (moveAction m)) second default)
+            ∙ (rw (move-after m t p c first) at (allowed-head default t p (stepTo t p c m) n rest (allowed-tail default t p c m (n ∷ rest) ok)))
 
-        x : check default t c (move n) ≡ 0
-        x = second-first default t p law c now (move m) (move n) (m .id) (n .id) (step-move m) (step-move n) two apart ea eb
+        x : actionCheck default t c (moveAction n) ≡ 0
+        x = second-first default t p law c now (moveAction m) (moveAction n) (m .id) (n .id) (step-move m) (step-move n) two apart ea eb
 
-        y : check default t (effect t c (move n)) (move m) ≡ 0
-        y = first-second default t p law c now (move m) (move n) (m .id) (n .id) (step-move m) (step-move n) two apart ea eb
+        y : actionCheck default t (effect t c (moveAction n)) (moveAction m) ≡ 0
+        y = first-second default t p law c now (moveAction m) (moveAction n) (m .id) (n .id) (step-move m) (step-move n) two apart ea eb
 
-        z : effect t (effect t c (move n)) (move m) ≡ effect t (effect t c (move m)) (move n)
-        z = same-outcome default t p law c now (move m) (move n) (m .id) (n .id) (step-move m) (step-move n) two apart ea eb
+        z : effect t (effect t c (moveAction n)) (moveAction m) ≡ effect t (effect t c (moveAction m)) (moveAction n)
+        z = same-outcome default t p law c now (moveAction m) (moveAction n) (m .id) (n .id) (step-move m) (step-move n) two apart ea eb
 
     -- from any proper configuration
     pub exchange-from : (before : List Step) (c : Configuration) → Proper default t p c
@@ -222,7 +222,7 @@ module _ (default : ℕ) (t : Tables) (p : Program) (law : Facts default t p) wh
         let e = allowed-head default t p c s (before ++ m ∷ n ∷ rest) ok in
         walk-on default t p c s (before ++ n ∷ m ∷ rest) e
         ∙ ap oneMore
-        (exchange-from before (after t p c s) (step-proper default t p law c s now e)
+        (exchange-from before (stepTo t p c s) (step-proper default t p law c s now e)
         (rw (walk-on default t p c s before e) at apart) rest (allowed-tail default t p c s (before ++ m ∷ n ∷ rest) ok))
         ∙ sym (walk-on default t p c s (before ++ m ∷ n ∷ rest) e)
 

@@ -13,8 +13,8 @@ use Rattle.model.specs.declared.Program.{Program}
 use Rattle.model.specs.declared.Step.{Step}
 use Rattle.model.specs.Empty.{noInstruction}
 use Rattle.model.specs.Verb.{fireVerb, endVerb, enterVerb}
-use Rattle.rules.specs.Action.{Action, add, del, pushb, con, dcon, wait, fire, end, enter, finish, move}
-use Rattle.rules.specs.Step.{isNext, line}
+use Rattle.rules.specs.Action.{Action, add, del, pushb, con, dcon, wait, fire, end, enter, finish, moveAction}
+use Rattle.rules.specs.Step.{isNext, actionAt}
 use Rattle.rules.proofs.Actions.{instruction-cases}
 use Rattle.demands.specs.Agree.{deeds, naming}
 use Rattle.demands.specs.AnswerText.{stepText, stepsText, answerText}
@@ -38,12 +38,12 @@ bytesOf (wait i) = 10
 abbrev lineBytes : Step → ℕ
 lineBytes s = length (stepText s)
 
-line-bytes : (p : Program) (n : ℕ) → bytesOf (line p n) ≡ 10
-unfolding line bytesOf
+line-bytes : (p : Program) (n : ℕ) → bytesOf (actionAt p n) ≡ 10
+unfolding actionAt bytesOf
 line-bytes p n = instruction-cases (λ a. bytesOf a ≡ 10) (getD (p .instructions) n noInstruction) (λ _. refl) refl refl refl refl refl
 
-move-bytes : (s : Step) → isNext s ≡ false → bytesOf (move s) ≡ lineBytes s
-unfolding move stepText bytesOf
+move-bytes : (s : Step) → isNext s ≡ false → bytesOf (moveAction s) ≡ lineBytes s
+unfolding moveAction stepText bytesOf
 move-bytes s e = rw e (go (eqb (s .verb) fireVerb) (eqb (s .verb) endVerb) (eqb (s .verb) enterVerb))
   where
     go : (x y z : Bool) → bytesOf (cond x (fire (s .id) (s .number)) (cond y (end (s .id) (s .number)) (cond z (enter (s .id) (s .number)) (finish (s .id)))))

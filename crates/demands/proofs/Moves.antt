@@ -10,8 +10,8 @@ use Rattle.model.specs.declared.Program.{Program}
 use Rattle.model.specs.declared.Step.{Step}
 use Rattle.model.specs.declared.Configuration.{Configuration}
 use Rattle.model.specs.Empty.{noInstruction}
-use Rattle.rules.specs.Action.{Action, add, del, pushb, con, dcon, wait, fire, end, enter, finish, move, check, effect}
-use Rattle.rules.specs.Step.{isNext, line, action, number, after}
+use Rattle.rules.specs.Action.{Action, add, del, pushb, con, dcon, wait, fire, end, enter, finish, moveAction, actionCheck, effect}
+use Rattle.rules.specs.Step.{isNext, actionAt, action, stepCheck, stepTo}
 use Rattle.rules.proofs.Actions.{instruction-cases, move-cases}
 use Rattle.rules.proofs.Local.{change, touches, changes}
 
@@ -27,25 +27,25 @@ isMove (con k) = false
 isMove (dcon k) = false
 isMove (wait i) = false
 
-pub line-no-move : (p : Program) (n : ℕ) → isMove (line p n) ≡ false
-unfolding line isMove
+pub line-no-move : (p : Program) (n : ℕ) → isMove (actionAt p n) ≡ false
+unfolding actionAt isMove
 line-no-move p n = instruction-cases (λ a. isMove a ≡ false) (getD (p .instructions) n noInstruction) (λ _. refl) refl refl refl refl refl
 
 module _ (s : Step) where
-  pub move-is-move : isMove (move s) ≡ true
+  pub move-is-move : isMove (moveAction s) ≡ true
   unfolding isMove
   move-is-move = move-cases (λ a. isMove a ≡ true) s refl refl refl refl
 
   -- a move changes its component
-  pub move-changes : changes (move s) (s .id) ≡ true
+  pub move-changes : changes (moveAction s) (s .id) ≡ true
   unfolding change touches
   move-changes = let e = eq-eqb (s .id) (s .id) refl in move-cases (λ a. changes a (s .id) ≡ true) s e e e e
 
   module _ (t : Tables) (p : Program) (c : Configuration) (e : isNext s ≡ false) where
-    pub move-number : (default : ℕ) → number default t p c s ≡ check default t c (move s)
-    unfolding number action
+    pub move-number : (default : ℕ) → stepCheck default t p c s ≡ actionCheck default t c (moveAction s)
+    unfolding stepCheck action
     move-number default = rw e
 
-    pub move-after : after t p c s ≡ effect t c (move s)
-    unfolding after action
+    pub move-after : stepTo t p c s ≡ effect t c (moveAction s)
+    unfolding stepTo action
     move-after = rw e

@@ -21,12 +21,12 @@ use Rattle.reading.specs.Lawful.{Lawful, SheetsAreLawful}
 use Rattle.reading.proofs.Lawful.{sheets-are-lawful}
 use Rattle.rules.specs.Walk.{walkAnswer}
 use Rattle.report.specs.Report.{report}
-use Rattle.judged.specs.Course.{Course, faulty, reached, default, short, read, both, course}
+use Rattle.judged.specs.Course.{Course, faulty, reached, defaultDepth, short, read, both, course}
 use Rattle.judged.specs.Judged.{afterFault, afterWalk, stepPlace, inRoom, ending, judged, printing, printed}
 use Rattle.judged.specs.Room.{ReportsFit}
 use Rattle.judged.proofs.Read.{both-read, fault-numbered}
 use Rattle.judged.proofs.Room.{reports-fit}
-use Rattle.demands.specs.OnTexts.{tablesIn, programIn, stepsIn, Reads, AllAllowed, walkOn, upTo, ReachedIsTheWalk, SafeOnTexts, QueuesOnTexts, SameReports, ReportsAgreeOnTexts, Exchanged, MovesExchangeOnTexts}
+use Rattle.demands.specs.OnTexts.{sheetTables, sheetProgram, answerSteps, BothRead, AllAllowed, walkOn, upTo, ReachedIsTheWalk, SafeOnTexts, QueuesOnTexts, SameReports, ReportsAgreeOnTexts, Exchanged, MovesExchangeOnTexts}
 use Rattle.demands.specs.Safe.{WalksAreSafe}
 use Rattle.demands.specs.Queues.{QueuesAreKept}
 use Rattle.demands.specs.Exchange.{MovesExchange}
@@ -42,23 +42,23 @@ use Rattle.demands.proofs.Agree.{reports-agree}
 -- ---- what two texts come to
 
 pub reached-is-the-walk : ReachedIsTheWalk
-unfolding ReachedIsTheWalk walkAnswer tablesIn programIn stepsIn
-reached-is-the-walk s a w e = let b = both-read s a w e in b .walked ∙ rw (b .sheet-is, b .answer-is, tablesIn, programIn, stepsIn)
+unfolding ReachedIsTheWalk walkAnswer sheetTables sheetProgram answerSteps
+reached-is-the-walk s a w e = let b = both-read s a w e in b .walked ∙ rw (b .sheet-is, b .answer-is, sheetTables, sheetProgram, answerSteps)
 
 -- the walk is reached, the sheet is lawful, and the answer is the text of its steps
 record Goes (s a : List ℕ) : Type 0 where
-  is : course s a ≡ reached (walkOn s (stepsIn a))
-  lawful : Lawful (tablesIn s) (programIn s)
-  text : a ≡ answerText (stepsIn a)
+  is : course s a ≡ reached (walkOn s (answerSteps a))
+  lawful : Lawful (sheetTables s) (sheetProgram s)
+  text : a ≡ answerText (answerSteps a)
 
-read-goes : (s a : List ℕ) → Reads s a → Goes s a
-unfolding ReachedIsTheWalk tablesIn programIn stepsIn SheetsAreLawful AnswersAreTheirTexts
+read-goes : (s a : List ℕ) → BothRead s a → Goes s a
+unfolding ReachedIsTheWalk sheetTables sheetProgram answerSteps SheetsAreLawful AnswersAreTheirTexts
 read-goes s a (w, e) =
     let b = both-read s a w e in
     record {
       is = e ∙ ap reached (reached-is-the-walk s a w e);
-      lawful = rw (b .sheet-is, tablesIn, programIn) (sheets-are-lawful s _ _ _ (b .sheet-is));
-      text = rw (b .answer-is, stepsIn) (answers-are-their-texts a _ _ (b .answer-is));
+      lawful = rw (b .sheet-is, sheetTables, sheetProgram) (sheets-are-lawful s _ _ _ (b .sheet-is));
+      text = rw (b .answer-is, answerSteps) (answers-are-their-texts a _ _ (b .answer-is));
     }
 
 -- ---- what the judge makes of it
@@ -68,15 +68,15 @@ number-is : (s a : List ℕ) (w : Walked) → course s a ≡ reached w → judge
 unfolding judged ending inRoom afterWalk ReportsFit
 number-is s a w e = rw (e, ending, le-leb (length (report w)) 8192 (reports-fit s a w e), inRoom)
 
-allowed-reads : (s a : List ℕ) → AllAllowed s a → Reads s a
+allowed-reads : (s a : List ℕ) → AllAllowed s a → BothRead s a
 unfolding judged ending afterFault
 allowed-reads s a = go (course s a) refl
   where
-    go : (z : Course Walked) → course s a ≡ z → ending s a 8192 z .verdict .refused ≡ 0 → Reads s a
+    go : (z : Course Walked) → course s a ≡ z → ending s a 8192 z .verdict .refused ≡ 0 → BothRead s a
     go (faulty x n at) e q = absurd (let l = fault-numbered s a x n at e in omega arith)
     go (reached w) e q = (w, e)
 
-allowed-goes : (s a : List ℕ) → AllAllowed s a → Goes s a × (walkOn s (stepsIn a) .refused ≡ 0)
+allowed-goes : (s a : List ℕ) → AllAllowed s a → Goes s a × (walkOn s (answerSteps a) .refused ≡ 0)
 allowed-goes s a q = let g = read-goes s a (allowed-reads s a q) in (g, sym (number-is s a _ (g .is)) ∙ q)
 
 -- in any room only the place of the offending line looks at the answer
@@ -106,35 +106,35 @@ record Stepped (a : List ℕ) : Type 0 where
   steps : Answer
   rest : List ℕ
   is : answer a ≡ on steps rest
-  text : a ≡ answerText (stepsIn a)
+  text : a ≡ answerText (answerSteps a)
 
-some-steps : (a : List ℕ) → 0 < length (stepsIn a) → Stepped a
-unfolding stepsIn AnswersAreTheirTexts
+some-steps : (a : List ℕ) → 0 < length (answerSteps a) → Stepped a
+unfolding answerSteps AnswersAreTheirTexts
 some-steps a = go (answer a) refl
   where
     go : (z : Run Answer) → answer a ≡ z → 0 < length {A = Step} (elim z [ on y r ↦ stepsOf y | stop n r ↦ [] ]) → Stepped a
-    go (on y r) e l = record { steps = y; rest = r; is = e; text = rw (e, stepsIn) (answers-are-their-texts a r y e) }
+    go (on y r) e l = record { steps = y; rest = r; is = e; text = rw (e, answerSteps) (answers-are-their-texts a r y e) }
     go (stop n r) e l = absurd (omega arith)
 
 not-reached : {A : Type 0} {x : Text} {n at : ℕ} {w : A} → faulty x n at ≡ reached w → ⊥
 not-reached {x = x} {n = n} {at = at} {w = w} e = let z : _≡_ {A = ℕ} 0 1 = cc in omega arith
 
 -- it is read beside a sheet where one as long is
-as-long-reads : (s a b : List ℕ) → length a ≡ length b → Stepped b → Reads s a → Reads s b
+as-long-reads : (s a b : List ℕ) → length a ≡ length b → Stepped b → BothRead s a → BothRead s b
 unfolding course both short read
 as-long-reads s a b l y (w, e) =
     by-test (lengthOk (length s))
     (λ p. by-test (lengthOk (length a))
-    (λ q. let x = both-read s a w e in (walkAnswer default (x .tables) (x .program) (y .steps), rw (course, both, short, p, ← l, q, read, x .sheet-is, y .is) refl))
+    (λ q. let x = both-read s a w e in (walkAnswer defaultDepth (x .tables) (x .program) (y .steps), rw (course, both, short, p, ← l, q, read, x .sheet-is, y .is) refl))
     (λ q. absurd (not-reached (rw (course, both, short, p, q) at e))))
     (λ p. absurd (not-reached (rw (course, both, short, p) at e)))
 
 -- it is as long as the first, and is read beside the same sheet
-exchanged-reads : (s a b : List ℕ) → Exchanged s a b → Reads s a → (length a ≡ length b) × Reads s b
+exchanged-reads : (s a b : List ℕ) → Exchanged s a b → BothRead s a → (length a ≡ length b) × BothRead s b
 exchanged-reads s a b x r =
     let y = some-steps a (rw (x .these, length-append (x .before)) (omega arith)) in
     let z = some-steps b (rw (x .those, length-append (x .before)) (omega arith)) in
-    let l : length (answerText (stepsIn a)) ≡ length (answerText (stepsIn b)) = rw (x .these, x .those) (exchanged-length (x .before) (x .after) (x .m) (x .n)) in
+    let l : length (answerText (answerSteps a)) ≡ length (answerText (answerSteps b)) = rw (x .these, x .those) (exchanged-length (x .before) (x .after) (x .m) (x .n)) in
     let q = ap length (y .text) ∙ l ∙ sym (ap length (z .text)) in
     (q, as-long-reads s a b q z r)
 
@@ -142,19 +142,19 @@ exchanged-reads s a b x r =
 
 pub safe-on-texts : SafeOnTexts
 unfolding SafeOnTexts WalksAreSafe
-safe-on-texts s a n r = walks-are-safe default (tablesIn s) (programIn s) (upTo n a) (omega arith) (read-goes s a r .lawful)
+safe-on-texts s a n r = walks-are-safe defaultDepth (sheetTables s) (sheetProgram s) (upTo n a) (omega arith) (read-goes s a r .lawful)
 
 pub queues-on-texts : QueuesOnTexts
 unfolding QueuesOnTexts QueuesAreKept
-queues-on-texts s a n i r = queues-are-kept default (tablesIn s) (programIn s) (upTo n a) i (omega arith) (read-goes s a r .lawful)
+queues-on-texts s a n i r = queues-are-kept defaultDepth (sheetTables s) (sheetProgram s) (upTo n a) i (omega arith) (read-goes s a r .lawful)
 
 pub reports-agree-on-texts : ReportsAgreeOnTexts
 unfolding ReportsAgreeOnTexts ReportsAgree
 reports-agree-on-texts s a b p q same =
     let (g, x) = allowed-goes s a p in
     let (h, y) = allowed-goes s b q in
-    let e = reports-agree default (tablesIn s) (programIn s) (stepsIn a) (stepsIn b) (omega arith) (g .lawful) x y same in
-    let l = ap length (g .text) ∙ same-text-length (programIn s) 0 (stepsIn a) (stepsIn b) same ∙ sym (ap length (h .text)) in
+    let e = reports-agree defaultDepth (sheetTables s) (sheetProgram s) (answerSteps a) (answerSteps b) (omega arith) (g .lawful) x y same in
+    let l = ap length (g .text) ∙ same-text-length (sheetProgram s) 0 (answerSteps a) (answerSteps b) same ∙ sym (ap length (h .text)) in
     alike-where-reached s a b _ x l (g .is) (h .is ∙ ap reached (sym e))
 
 pub moves-exchange-on-texts : MovesExchangeOnTexts
@@ -163,5 +163,5 @@ moves-exchange-on-texts s a b x p =
     let (g, y) = allowed-goes s a p in
     let (l, r) = exchanged-reads s a b x (allowed-reads s a p) in
     let h = read-goes s b r in
-    let (still, e) = moves-exchange default (tablesIn s) (programIn s) (x .before) (x .after) (x .m) (x .n) (omega arith) (g .lawful) (x .exchangeable) (rw (x .these) at y) in
+    let (still, e) = moves-exchange defaultDepth (sheetTables s) (sheetProgram s) (x .before) (x .after) (x .m) (x .n) (omega arith) (g .lawful) (x .exchangeable) (rw (x .these) at y) in
     (number-is s b _ (h .is) ∙ rw (x .those) still, alike-where-reached s a b _ y l (g .is) (h .is ∙ ap reached (rw (x .those, x .these) e)))

@@ -15,7 +15,7 @@ use Rattle.model.specs.declared.Instance.{Instance}
 use Rattle.model.specs.declared.Configuration.{Configuration}
 use Rattle.model.specs.View.{instance, slot, listOf}
 use Rattle.model.proofs.View.{list-same, list-at, same-instances, same-queues, same-fields}
-use Rattle.rules.specs.Action.{Action, check, effect}
+use Rattle.rules.specs.Action.{Action, actionCheck, effect}
 use Rattle.rules.specs.Proper.{Proper}
 use Rattle.model.specs.declared.Program.{Program}
 use Rattle.rules.proofs.Tables.{Facts}
@@ -48,7 +48,7 @@ parts-same : {v w : Instance} {s u : List ℕ} → v ≡ w → s ≡ u → _≡_
 parts-same = ap₂ (λ (v : Instance) (s : List ℕ). record { self = v; slots = s })
 
 pub part-after : (default : ℕ) (t : Tables) (p : Program) → Facts default t p → (c : Configuration) → Proper default t p c
-    → (a : Action) → Lawfully t a → check default t c a ≡ 0 → (i : ℕ) → i < 32 → part (effect t c a) i ≡ acted t i a (part c i)
+    → (a : Action) → Lawfully t a → actionCheck default t c a ≡ 0 → (i : ℕ) → i < 32 → part (effect t c a) i ≡ acted t i a (part c i)
 unfolding acted
 part-after default t p law c now a new ok i h =
     by-test (changes a i)

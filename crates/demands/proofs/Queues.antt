@@ -13,11 +13,11 @@ use Rattle.model.specs.declared.Step.{Step}
 use Rattle.model.specs.declared.Instance.{Instance}
 use Rattle.model.specs.declared.Configuration.{Configuration}
 use Rattle.model.specs.Empty.{start}
-use Rattle.model.specs.View.{instance, slot, head, listOf, queueOf, withDone}
+use Rattle.model.specs.View.{instance, slot, queueHead, listOf, queueOf, withDone}
 use Rattle.model.proofs.View.{list-same, list-snoc, list-head, start-instance}
 use Rattle.rules.specs.Instance.{fired, endedBy, entered, withQueued}
-use Rattle.rules.specs.Action.{Action, add, del, pushb, con, dcon, wait, fire, end, enter, finish, check, effect}
-use Rattle.rules.specs.Step.{action, number, after}
+use Rattle.rules.specs.Action.{Action, add, del, pushb, con, dcon, wait, fire, end, enter, finish, actionCheck, effect}
+use Rattle.rules.specs.Step.{action, stepCheck, stepTo}
 use Rattle.rules.specs.Walk.{oneMore, besideBy, walk}
 use Rattle.rules.specs.Proper.{Proper}
 use Rattle.rules.proofs.Tables.{Facts, facts}
@@ -73,10 +73,10 @@ tell-other c i (end j x) h e = refl
 tell-other c i (enter j q) h e = refl
 
 -- the story of the component that an action changes
-tell-own : (default : ℕ) (t : Tables) (c : Configuration) (a : Action) (h : Story ℕ) → check default t c a ≡ 0 → Fits (turn (change a)) (instance c (ownerOf a) .queued)
+tell-own : (default : ℕ) (t : Tables) (c : Configuration) (a : Action) (h : Story ℕ) → actionCheck default t c a ≡ 0 → Fits (turn (change a)) (instance c (ownerOf a) .queued)
     → changes a (ownerOf a) ≡ true → Kept h (instance c (ownerOf a) .queued) (slot c (ownerOf a))
-    → Kept (tell c (ownerOf a) a h) (ownInstance t (instance c (ownerOf a)) (head c (ownerOf a)) a .queued) (ownSlot (instance c (ownerOf a) .queued) (slot c (ownerOf a)) a)
-unfolding check change touches owner self turn turnedSlot Fits tell listOf fired endedBy entered withQueued
+    → Kept (tell c (ownerOf a) a h) (ownInstance t (instance c (ownerOf a)) (queueHead c (ownerOf a)) a .queued) (ownSlot (instance c (ownerOf a) .queued) (slot c (ownerOf a)) a)
+unfolding actionCheck change touches owner self turn turnedSlot Fits tell listOf fired endedBy entered withQueued
 tell-own default t c (add i k) h e f q told = rw q (omega arith, refl)
 tell-own default t c (del i) h e f q (short, told) = (omega arith, rw (del-facts c i e .empty) at told)
 tell-own default t c (pushb i b) h e f q (short, told) =
@@ -103,7 +103,7 @@ module _ (default : ℕ) (t : Tables) (p : Program) (law : Facts default t p) (i
   abbrev pub KeptAt : Story ℕ → Configuration → Type 0
   KeptAt h c = Kept h (instance c i .queued) (slot c i)
 
-  action-told : (c : Configuration) → Proper default t p c → (a : Action) → Lawfully t a → check default t c a ≡ 0 → (h : Story ℕ) → KeptAt h c → KeptAt (tell c i a h) (effect t c a)
+  action-told : (c : Configuration) → Proper default t p c → (a : Action) → Lawfully t a → actionCheck default t c a ≡ 0 → (h : Story ℕ) → KeptAt h c → KeptAt (tell c i a h) (effect t c a)
   action-told c now a new ok h told = by-test (changes a i) own other
     where
       fits : Room c a
@@ -112,10 +112,10 @@ module _ (default : ℕ) (t : Tables) (p : Program) (law : Facts default t p) (i
       own : changes a i ≡ true → KeptAt (tell c i a h) (effect t c a)
       own q =
           let (inside, fit) = room-own c a i q fits in
-          kept-same (tell c i a h) (ownInstance t (instance c i) (head c i) a) (instance (effect t c a) i) (ownSlot (instance c i .queued) (slot c i) a) (slot (effect t c a) i)
+          kept-same (tell c i a h) (ownInstance t (instance c i) (queueHead c i) a) (instance (effect t c a) i) (ownSlot (instance c i .queued) (slot c i) a) (slot (effect t c a) i)
           (instance-own t c a i q (rw (now .instances-length) inside)) (slot-own t c a (now .queue-length) fits i q)
           (at-owner (λ (n : ℕ). Fits (turn (change a)) (instance c n .queued) → Kept h (instance c n .queued) (slot c n)
-          → Kept (tell c n a h) (ownInstance t (instance c n) (head c n) a .queued) (ownSlot (instance c n .queued) (slot c n) a)) a i q
+          → Kept (tell c n a h) (ownInstance t (instance c n) (queueHead c n) a .queued) (ownSlot (instance c n .queued) (slot c n) a)) a i q
           (λ r f k. tell-own default t c a h ok f r k) fit told)
 
       other : changes a i ≡ false → KeptAt (tell c i a h) (effect t c a)
@@ -123,7 +123,7 @@ module _ (default : ℕ) (t : Tables) (p : Program) (law : Facts default t p) (i
           rw (tell-other c i a h q)
           (kept-same h (instance c i) (instance (effect t c a) i) (slot c i) (slot (effect t c a) i) (instance-other t c a i q) (slot-other t c a (now .queue-length) fits i q) told)
 
-  step-told : (c : Configuration) (s : Step) (h : Story ℕ) → Proper default t p c → number default t p c s ≡ 0 → KeptAt h c → KeptAt (tell c i (action p c s) h) (after t p c s)
+  step-told : (c : Configuration) (s : Step) (h : Story ℕ) → Proper default t p c → stepCheck default t p c s ≡ 0 → KeptAt h c → KeptAt (tell c i (action p c s) h) (stepTo t p c s)
   unfolding withDone
   step-told c s h now e told =
       let there = action-told c now (action p c s) (step-lawfully default t p law c s e) (number-facts default t p c s e .0) h told in
@@ -135,8 +135,8 @@ module _ (default : ℕ) (t : Tables) (p : Program) (law : Facts default t p) (i
   told-from [] c h now told = told
   told-from (s ∷ ss) c h now told =
       walk-cases default t p (λ w. KeptAt (story default t p i c (s ∷ ss) h) (w .configuration)) c s ss
-      (λ e. rw (besideBy, step-on default t p c s e, step-on default t p c s e) (told-from ss (after t p c s) (tell c i (action p c s) h) (step-proper default t p law c s now e) (step-told c s h now e told)))
-      (λ n. rw (besideBy, step-stop default t p c s n, ne-eqb (number default t p c s) 0 n) told)
+      (λ e. rw (besideBy, step-on default t p c s e, step-on default t p c s e) (told-from ss (stepTo t p c s) (tell c i (action p c s) h) (step-proper default t p law c s now e) (step-told c s h now e told)))
+      (λ n. rw (besideBy, step-stop default t p c s n, ne-eqb (stepCheck default t p c s) 0 n) told)
 
 pub queues-are-kept : QueuesAreKept
 unfolding QueuesAreKept queueOf listOf

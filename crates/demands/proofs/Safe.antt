@@ -7,7 +7,7 @@ use mathlib.Core.List.{List}
 use Prim.Native.Nat.{ℕ, _<_}
 use lib.Dec.{eqb}
 use borrow.Author.Tests.{eqb-true, eqb-false, eq-eqb}
-use Rattle.sets.specs.Test.{any}
+use Rattle.sets.specs.Test.{anyBelow}
 use Rattle.sets.specs.Mask.{member, collect}
 use Rattle.forms.proofs.Tests.{by-test}
 use Rattle.model.specs.declared.Tables.{Tables}
@@ -17,7 +17,7 @@ use Rattle.model.specs.declared.Instance.{Instance}
 use Rattle.model.specs.declared.Connection.{Connection}
 use Rattle.model.specs.declared.Configuration.{Configuration}
 use Rattle.model.specs.Empty.{start}
-use Rattle.model.specs.View.{isUse, instance, head, withConnections, withDone}
+use Rattle.model.specs.View.{isUse, instance, queueHead, withConnections, withDone}
 use Rattle.model.proofs.View.{start-instance}
 use Rattle.rules.specs.Instance.{active, portsOf, fired, endedBy, entered, withQueued}
 use Rattle.rules.specs.Ports.{someConnection, serves, employs, portCheck}
@@ -25,8 +25,8 @@ use Rattle.rules.specs.Add.{fresh}
 use Rattle.rules.specs.Del.{namedBy}
 use Rattle.rules.specs.Con.{connected}
 use Rattle.rules.specs.DCon.{disconnected}
-use Rattle.rules.specs.Action.{Action, add, del, pushb, con, dcon, wait, fire, end, enter, finish, check, effect}
-use Rattle.rules.specs.Step.{action, number, after}
+use Rattle.rules.specs.Action.{Action, add, del, pushb, con, dcon, wait, fire, end, enter, finish, actionCheck, effect}
+use Rattle.rules.specs.Step.{action, stepCheck, stepTo}
 use Rattle.rules.specs.Walk.{walk}
 use Rattle.rules.specs.Proper.{Joins, Proper}
 use Rattle.rules.proofs.Masks.{neither, end-active}
@@ -107,9 +107,9 @@ module _ (default : ℕ) (t : Tables) (p : Program) (law : Facts default t p) (c
         own = λ q here hq hu ha. absurd (false≢true (sym (idle q here hq hu) ∙ ha));
       }
 
-  own-steady : (a : Action) → Lawfully t a → check default t c a ≡ 0 → changes a (ownerOf a) ≡ true
-      → Steady t c (ownerOf a) (ownInstance t (instance c (ownerOf a)) (head c (ownerOf a)) a)
-  unfolding check change touches owner self fired endedBy entered withQueued active namedBy member any collect
+  own-steady : (a : Action) → Lawfully t a → actionCheck default t c a ≡ 0 → changes a (ownerOf a) ≡ true
+      → Steady t c (ownerOf a) (ownInstance t (instance c (ownerOf a)) (queueHead c (ownerOf a)) a)
+  unfolding actionCheck change touches owner self fired endedBy entered withQueued active namedBy member anyBelow collect
   own-steady (add i k) new e q =
       aside-steady i (fresh t k)
       (λ l j f. false≢true (sym (add-facts c i e) ∙ (rw f at (joins l j .provider))))
@@ -127,7 +127,7 @@ module _ (default : ℕ) (t : Tables) (p : Program) (law : Facts default t p) (c
   own-steady (finish i) new e q = calm-steady i _ (finish-facts t c i e .present) refl (λ q. refl)
 
   -- ---- every instance after an action
-  module _ (a : Action) (new : Lawfully t a) (ok : check default t c a ≡ 0) where
+  module _ (a : Action) (new : Lawfully t a) (ok : actionCheck default t c a ≡ 0) where
     -- a connection stays where its use port is active
     joined-after : (k : Connection) → Joined c k → active t (instance c (k .user)) (k .useport) ≡ true → Joined (effect t c a) k
     unfolding Passed rewired connected disconnected withConnections
@@ -146,7 +146,7 @@ module _ (default : ℕ) (t : Tables) (p : Program) (law : Facts default t p) (c
     provider-after k j used on =
         by-test (changes a (k .provider))
         (λ q. rw (instance-own t c a (k .provider) q (present-in c (k .provider) (joins k j .provider)))
-        (at-owner (λ (n : ℕ). k .provider ≡ n → active t (instance c n) (k .provideport) ≡ true → active t (ownInstance t (instance c n) (head c n) a) (k .provideport) ≡ true) a (k .provider) q
+        (at-owner (λ (n : ℕ). k .provider ≡ n → active t (instance c n) (k .provideport) ≡ true → active t (ownInstance t (instance c n) (queueHead c n) a) (k .provideport) ≡ true) a (k .provider) q
         (λ r e on. own-steady a new ok r .stays k j e used on) refl on))
         (λ q. rw (instance-other t c a (k .provider) q) on)
 
@@ -164,7 +164,7 @@ module _ (default : ℕ) (t : Tables) (p : Program) (law : Facts default t p) (c
         own e =
             let mine = instance-own t c a i e (rw (← rest-after t c a .instances) (present-in (effect t c a) i here)) in
             let (k, s) =
-            at-owner (λ (n : ℕ). ownInstance t (instance c n) (head c n) a .present ≡ true → q < portsOf t (ownInstance t (instance c n) (head c n) a) → isUse t (ownInstance t (instance c n) (head c n) a .kind) q ≡ true → active t (ownInstance t (instance c n) (head c n) a) q ≡ true → (k : Connection) × Serving t c n q k) a i e
+            at-owner (λ (n : ℕ). ownInstance t (instance c n) (queueHead c n) a .present ≡ true → q < portsOf t (ownInstance t (instance c n) (queueHead c n) a) → isUse t (ownInstance t (instance c n) (queueHead c n) a .kind) q ≡ true → active t (ownInstance t (instance c n) (queueHead c n) a) q ≡ true → (k : Connection) × Serving t c n q k) a i e
             (λ r. own-steady a new ok r .own q) (rw mine at here) (rw mine at hq) (rw mine at hu) (rw mine at ha)
             in
             let apart : changes a (k .provider) ≡ false = changes-one a i (k .provider) e (λ f. joins k (s .stands) .apart (s .user ∙ sym f)) in (
@@ -180,7 +180,7 @@ module _ (default : ℕ) (t : Tables) (p : Program) (law : Facts default t p) (c
 -- ---- walks
 
 module _ (default : ℕ) (t : Tables) (p : Program) (law : Facts default t p) where
-  step-safe : (c : Configuration) (s : Step) → Proper default t p c × Safely t c → number default t p c s ≡ 0 → Proper default t p (after t p c s) × Safely t (after t p c s)
+  step-safe : (c : Configuration) (s : Step) → Proper default t p c × Safely t c → stepCheck default t p c s ≡ 0 → Proper default t p (stepTo t p c s) × Safely t (stepTo t p c s)
   unfolding withDone
   step-safe c s (now, safe) e =
       let there = safe-after default t p law c now safe (action p c s) (step-lawfully default t p law c s e) (number-facts default t p c s e .0) in (

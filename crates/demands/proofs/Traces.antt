@@ -10,8 +10,8 @@ use borrow.Author.Tests.{eq-eqb}
 use Rattle.forms.proofs.Tests.{by-test}
 use Rattle.model.specs.declared.Program.{Program}
 use Rattle.model.specs.declared.Step.{Step}
-use Rattle.rules.specs.Action.{Action, add, del, pushb, con, dcon, wait, fire, end, enter, finish, move}
-use Rattle.rules.specs.Step.{isNext, line}
+use Rattle.rules.specs.Action.{Action, add, del, pushb, con, dcon, wait, fire, end, enter, finish, moveAction}
+use Rattle.rules.specs.Step.{isNext, actionAt}
 use Rattle.demands.specs.Agree.{names, deeds, naming}
 
 -- what the actions count for together, where each counts for so much
@@ -103,8 +103,8 @@ tally g [] = 0
 tally g (s ∷ ss) = g s + tally g ss
 
 -- a step counts for what it does
-module _ (p : Program) (f : Action → ℕ) (g : Step → ℕ) (next : (n : ℕ) (s : Step) → isNext s ≡ true → f (line p n) ≡ g s)
-    (moves : (s : Step) → isNext s ≡ false → f (move s) ≡ g s) where
+module _ (p : Program) (f : Action → ℕ) (g : Step → ℕ) (next : (n : ℕ) (s : Step) → isNext s ≡ true → f (actionAt p n) ≡ g s)
+    (moves : (s : Step) → isNext s ≡ false → f (moveAction s) ≡ g s) where
   total-deeds : (ss : List Step) (n : ℕ) → total f (deeds p n ss) ≡ tally g ss
   unfolding total tally deeds
   total-deeds [] n = refl

@@ -11,8 +11,8 @@ use Rattle.model.specs.declared.Program.{Program}
 use Rattle.model.specs.declared.Step.{Step}
 use Rattle.model.specs.Empty.{start}
 use Rattle.reading.specs.Lawful.{Lawful}
-use Rattle.rules.specs.Action.{Action, add, del, pushb, con, dcon, wait, fire, end, enter, finish, move}
-use Rattle.rules.specs.Step.{isNext, line}
+use Rattle.rules.specs.Action.{Action, add, del, pushb, con, dcon, wait, fire, end, enter, finish, moveAction}
+use Rattle.rules.specs.Step.{isNext, actionAt}
 use Rattle.rules.specs.Walk.{walk}
 use Rattle.demands.specs.Exchange.{Allowed}
 
@@ -32,7 +32,7 @@ names (finish i) j = eqb i j
 -- what an allowed answer does where n instructions were done before: its moves, and at each `next` the program's next instruction
 unfoldable pub deeds : Program → ℕ → List Step → List Action
 deeds p n [] = []
-deeds p n (s ∷ ss) = elim (isNext s) [ true ↦ line p n ∷ deeds p (suc n) ss | false ↦ move s ∷ deeds p n ss ]
+deeds p n (s ∷ ss) = elim (isNext s) [ true ↦ actionAt p n ∷ deeds p (suc n) ss | false ↦ moveAction s ∷ deeds p n ss ]
 
 unfoldable pub naming : ℕ → List Action → List Action
 naming i [] = []

@@ -11,11 +11,11 @@ pub record Said : Type 0 where
   pub allowed : Bool
   pub bytes : List ℕ
 
-abbrev pub Judge : Type 0
-Judge = List ℕ → List ℕ → Said
+abbrev pub ReportingJudge : Type 0
+ReportingJudge = List ℕ → List ℕ → Said
 
 -- demand 3 of a judge, by its own word for what is allowed
-pub record DemandThree (j : Judge) : Type 0 where
+pub record DemandThree (j : ReportingJudge) : Type 0 where
   pub agree : (s a b : List ℕ) → j s a .allowed ≡ true → j s b .allowed ≡ true → ((i : ℕ) → projectionOn s a i ≡ projectionOn s b i) → j s a .bytes ≡ j s b .bytes
   pub exchange : (s a b : List ℕ) → Exchanged s a b → j s a .allowed ≡ true → j s b .allowed ≡ true
 

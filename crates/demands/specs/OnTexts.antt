@@ -13,60 +13,60 @@ use Rattle.reading.specs.Lines.{on, stop}
 use Rattle.reading.specs.Texts.{sheet, answer}
 use Rattle.rules.specs.Action.{Action}
 use Rattle.rules.specs.Walk.{walk}
-use Rattle.judged.specs.Course.{reached, course, default}
-use Rattle.judged.specs.Judged.{judged, printed}
+use Rattle.judged.specs.Course.{reached, course, defaultDepth}
+use Rattle.judged.specs.Judged.{judged, printed, lentBytes}
 use Rattle.demands.specs.Safe.{Safe}
 use Rattle.demands.specs.Queues.{Story, nothing, story}
 use Rattle.demands.specs.Exchange.{Exchangeable}
 use Rattle.demands.specs.Agree.{projection}
 
 -- the tables and the program of a sheet, the steps of an answer, where they are read
-unfoldable pub tablesIn : List ℕ → Tables
-tablesIn s = elim (sheet s) [ on x r ↦ x .0 | stop n r ↦ noTables ]
+unfoldable pub sheetTables : List ℕ → Tables
+sheetTables s = elim (sheet s) [ on x r ↦ x .0 | stop n r ↦ noTables ]
 
-unfoldable pub programIn : List ℕ → Program
-programIn s = elim (sheet s) [ on x r ↦ x .1 | stop n r ↦ noProgram ]
+unfoldable pub sheetProgram : List ℕ → Program
+sheetProgram s = elim (sheet s) [ on x r ↦ x .1 | stop n r ↦ noProgram ]
 
-unfoldable pub stepsIn : List ℕ → List Step
-stepsIn a = elim (answer a) [ on y r ↦ stepsOf y | stop n r ↦ [] ]
+unfoldable pub answerSteps : List ℕ → List Step
+answerSteps a = elim (answer a) [ on y r ↦ stepsOf y | stop n r ↦ [] ]
 
 -- both texts are read without fault
-abbrev pub Reads : List ℕ → List ℕ → Type 0
-Reads s a = (w : Walked) × (course s a ≡ reached w)
+abbrev pub BothRead : List ℕ → List ℕ → Type 0
+BothRead s a = (w : Walked) × (course s a ≡ reached w)
 
 -- all steps of the answer are allowed
 abbrev pub AllAllowed : List ℕ → List ℕ → Type 0
-AllAllowed s a = judged s a 8192 .verdict .refused ≡ 0
+AllAllowed s a = judged s a lentBytes .verdict .refused ≡ 0
 
 -- on the sheet s: the walk of some steps, and what component i was pushed and has finished in it
 abbrev pub walkOn : List ℕ → List Step → Walked
-walkOn s ss = walk default (tablesIn s) (programIn s) start ss
+walkOn s ss = walk defaultDepth (sheetTables s) (sheetProgram s) start ss
 
 abbrev pub storyOn : List ℕ → ℕ → List Step → Story ℕ
-storyOn s i ss = story default (tablesIn s) (programIn s) i start ss nothing
+storyOn s i ss = story defaultDepth (sheetTables s) (sheetProgram s) i start ss nothing
 
 -- the first n steps of the answer; their walk ends at the n-th accepted point, or at the last one
 abbrev pub upTo : ℕ → List ℕ → List Step
-upTo n a = take n (stepsIn a)
+upTo n a = take n (answerSteps a)
 
 -- the moves of component i and the instructions carried out that name it, in order
 abbrev pub projectionOn : List ℕ → List ℕ → ℕ → List Action
-projectionOn s a i = projection (programIn s) i (stepsIn a)
+projectionOn s a i = projection (sheetProgram s) i (answerSteps a)
 
 -- what the judge comes to is the walk of all steps of the answer
 unfoldable pub ReachedIsTheWalk : Type 0
-ReachedIsTheWalk = (s a : List ℕ) (w : Walked) → course s a ≡ reached w → w ≡ walkOn s (stepsIn a)
+ReachedIsTheWalk = (s a : List ℕ) (w : Walked) → course s a ≡ reached w → w ≡ walkOn s (answerSteps a)
 
 -- "At each accepted point an active use port is connected to an active provide port"
 unfoldable pub SafeOnTexts : Type 0
-SafeOnTexts = (s a : List ℕ) (n : ℕ) → Reads s a → Safe (tablesIn s) (walkOn s (upTo n a) .configuration)
+SafeOnTexts = (s a : List ℕ) (n : ℕ) → BothRead s a → Safe (sheetTables s) (walkOn s (upTo n a) .configuration)
 
 -- "the behaviors a component has finished since it was added, followed by those still queued, are those pushed to it since then, in that
 -- order"
 unfoldable pub QueuesOnTexts : Type 0
 QueuesOnTexts =
     (s a : List ℕ) (n i : ℕ)
-    → Reads s a
+    → BothRead s a
     → storyOn s i (upTo n a) .finished ++ queueOf (walkOn s (upTo n a) .configuration) i ≡ storyOn s i (upTo n a) .pushed
 
 -- what two answers to the sheet s print is equal byte for byte, and so is every field of the verdict, what is written and the place handed
@@ -93,9 +93,9 @@ pub record Exchanged (s a b : List ℕ) : Type 0 where
   pub m : Step
   pub n : Step
   pub after : List Step
-  pub these : stepsIn a ≡ before ++ m ∷ n ∷ after
-  pub those : stepsIn b ≡ before ++ n ∷ m ∷ after
-  pub exchangeable : Exchangeable default (tablesIn s) (programIn s) before m n
+  pub these : answerSteps a ≡ before ++ m ∷ n ∷ after
+  pub those : answerSteps b ≡ before ++ n ∷ m ∷ after
+  pub exchangeable : Exchangeable defaultDepth (sheetTables s) (sheetProgram s) before m n
 
 -- "leaves such an answer allowed throughout"; and the reports are the same
 unfoldable pub MovesExchangeOnTexts : Type 0

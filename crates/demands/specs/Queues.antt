@@ -10,7 +10,7 @@ use Rattle.model.specs.declared.Program.{Program}
 use Rattle.model.specs.declared.Step.{Step}
 use Rattle.model.specs.declared.Configuration.{Configuration}
 use Rattle.model.specs.Empty.{start}
-use Rattle.model.specs.View.{head, queueOf}
+use Rattle.model.specs.View.{queueHead, queueOf}
 use Rattle.reading.specs.Lawful.{Lawful}
 use Rattle.rules.specs.Action.{Action, add, del, pushb, con, dcon, wait, fire, end, enter, finish}
 use Rattle.rules.specs.Step.{action, step}
@@ -34,7 +34,7 @@ moreFinished b h = record { pushed = h .pushed; finished = h .finished ++ (b ∷
 unfoldable pub tell : Configuration → ℕ → Action → Story ℕ → Story ℕ
 tell c i (add j k) h = cond (eqb j i) nothing h
 tell c i (pushb j b) h = cond (eqb j i) (morePushed b h) h
-tell c i (finish j) h = cond (eqb j i) (moreFinished (head c i) h) h
+tell c i (finish j) h = cond (eqb j i) (moreFinished (queueHead c i) h) h
 tell c i (del j) h = h
 tell c i (con k) h = h
 tell c i (dcon k) h = h

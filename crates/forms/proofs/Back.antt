@@ -12,8 +12,8 @@ use lib.Dec.{eqb, ltb, eqb·suc-zero}
 use borrow.Author.Tests.{ltb-true, ltb-false, eqb-true}
 use Rattle.sets.specs.Mask.{member, with}
 use Rattle.sets.proofs.Laws.{collect-lt, add-lt, with-add}
-use Rattle.forms.specs.Reader.{Reader, got, bind, byte, bytes}
-use Rattle.forms.specs.Read.{key, digit, number, numberFrom, Set, follows, list, membersFrom, one, two, three, four, set, sets}
+use Rattle.forms.specs.Reader.{Reader, got, readOn, byte, bytes}
+use Rattle.forms.specs.Read.{key, digit, number, numberFrom, Set, follows, list, membersFrom, oneForm, twoForm, threeForm, fourForm, listForm, listsForm}
 use Rattle.forms.specs.Write.{numberText, members, membersBelow, moreText, listText, maskText, oneText, twoText, threeText, fourText}
 use Rattle.forms.proofs.Tests.{by-test}
 use Rattle.forms.proofs.Laws.{number-none, number-end, number-digit, number-other, list-end, list-end-no, list-plus, list-plus-no, list-digit, list-other, Digit, digit-true, follows-true, digits-lt, text-digit, text-last, not-got, not-both, got-value, got-rest, bound-to}
@@ -187,45 +187,45 @@ module _ (d : ℕ) (l : d ≤ 7) where
       (λ p. list-from e (c ∷ s) _ _ top 0 0 0 0 (omega arith) (omega arith) (rw (p, list) at q) .0)
 
   -- the shapes of lines: a number or a list, the byte that ends it, and what comes after
-  number-then : {B W : Type 0} (e : ℕ) (s : List ℕ) (f : ℕ → Reader B) {b : B} {r : List ℕ} → bind (number d e s) f ≡ got b r →
+  number-then : {B W : Type 0} (e : ℕ) (s : List ℕ) (f : ℕ → Reader B) {b : B} {r : List ℕ} → readOn (number d e s) f ≡ got b r →
       ((a : ℕ) (t : List ℕ) → Numbered d e s a t → f a t ≡ got b r → W) → W
   number-then e s f q k = bound-to (number d e s) f q (λ a t p. k a t (number-back e s p))
 
-  list-then : {B W : Type 0} (e : ℕ) (s : List ℕ) (f : Set → Reader B) {b : B} {r : List ℕ} → bind (list d e s) f ≡ got b r →
+  list-then : {B W : Type 0} (e : ℕ) (s : List ℕ) (f : Set → Reader B) {b : B} {r : List ℕ} → readOn (list d e s) f ≡ got b r →
       ((a : Set) (t : List ℕ) → (a .top ≤ 32 → Listed e s a t) → f a t ≡ got b r → W) → W
   list-then e s f q k = bound-to (list d e s) f q (λ a t p. k a t (list-back e s p))
 
-  pub one-back : (s : List ℕ) {a : ℕ} {r : List ℕ} → one d s ≡ got a r → (s ≡ oneText a ++ r) × (a < 10 ^ d)
-  unfolding one oneText
+  pub one-back : (s : List ℕ) {a : ℕ} {r : List ℕ} → oneForm d s ≡ got a r → (s ≡ oneText a ++ r) × (a < 10 ^ d)
+  unfolding oneForm oneText
   one-back s q = let a = number-back _ s q in (simp append-assoc (a .0), a .1)
 
-  pub two-back : (s : List ℕ) {x : ℕ × ℕ} {r : List ℕ} → two d s ≡ got x r → (s ≡ twoText (x .0) (x .1) ++ r) × (x .0 < 10 ^ d) × (x .1 < 10 ^ d)
-  unfolding two twoText oneText
+  pub two-back : (s : List ℕ) {x : ℕ × ℕ} {r : List ℕ} → twoForm d s ≡ got x r → (s ≡ twoText (x .0) (x .1) ++ r) × (x .0 < 10 ^ d) × (x .1 < 10 ^ d)
+  unfolding twoForm twoText oneText
   two-back s q =
       number-then _ s _ q λ _ t a q. number-then _ t _ q λ _ _ b q.
       rw (← got-value q, ← got-rest q) (simp append-assoc (cc (a .0, b .0)), a .1, b .1)
 
-  pub three-back : (s : List ℕ) {x : ℕ × ℕ × ℕ} {r : List ℕ} → three d s ≡ got x r →
+  pub three-back : (s : List ℕ) {x : ℕ × ℕ × ℕ} {r : List ℕ} → threeForm d s ≡ got x r →
       (s ≡ threeText (x .0) (x .1) (x .2) ++ r) × (x .0 < 10 ^ d) × (x .1 < 10 ^ d) × (x .2 < 10 ^ d)
-  unfolding three threeText twoText oneText
+  unfolding threeForm threeText twoText oneText
   three-back s q =
       number-then _ s _ q λ _ t a q. number-then _ t _ q λ _ u b q. number-then _ u _ q λ _ _ c q.
       rw (← got-value q, ← got-rest q) (simp append-assoc (cc (a .0, b .0, c .0)), a .1, b .1, c .1)
 
-  pub four-back : (s : List ℕ) {x : ℕ × ℕ × ℕ × ℕ} {r : List ℕ} → four d s ≡ got x r →
+  pub four-back : (s : List ℕ) {x : ℕ × ℕ × ℕ × ℕ} {r : List ℕ} → fourForm d s ≡ got x r →
       (s ≡ fourText (x .0) (x .1) (x .2) (x .3) ++ r) × (x .0 < 10 ^ d) × (x .1 < 10 ^ d) × (x .2 < 10 ^ d) × (x .3 < 10 ^ d)
-  unfolding four fourText threeText twoText oneText
+  unfolding fourForm fourText threeText twoText oneText
   four-back s q =
       number-then _ s _ q λ _ t a q. number-then _ t _ q λ _ u b q. number-then _ u _ q λ _ v c q. number-then _ v _ q λ _ _ e q.
       rw (← got-value q, ← got-rest q) (simp append-assoc (cc (a .0, b .0, c .0, e .0)), a .1, b .1, c .1, e .1)
 
-  pub set-back : (s : List ℕ) {x : Set} {r : List ℕ} → set d s ≡ got x r → x .top ≤ 32 → (s ≡ maskText (x .mask) ++ bytes "\n" ++ r) × Topped x
-  unfolding set
+  pub set-back : (s : List ℕ) {x : Set} {r : List ℕ} → listForm d s ≡ got x r → x .top ≤ 32 → (s ≡ maskText (x .mask) ++ bytes "\n" ++ r) × Topped x
+  unfolding listForm
   set-back s q h = let a = list-back _ s q h in (simp append-assoc (a .0), a .1)
 
-  pub sets-back : (s : List ℕ) {x : Set × Set} {r : List ℕ} → sets d s ≡ got x r → x .0 .top ≤ 32 → x .1 .top ≤ 32 →
+  pub sets-back : (s : List ℕ) {x : Set × Set} {r : List ℕ} → listsForm d s ≡ got x r → x .0 .top ≤ 32 → x .1 .top ≤ 32 →
       (s ≡ maskText (x .0 .mask) ++ bytes "," ++ maskText (x .1 .mask) ++ bytes "\n" ++ r) × Topped (x .0) × Topped (x .1)
-  unfolding sets
+  unfolding listsForm
   sets-back s q =
       list-then _ s _ q λ _ t a q. list-then _ t _ q λ _ _ b q.
       rw (← got-value q, ← got-rest q) λ h g. (simp append-assoc (cc (a h .0, b g .0)), a h .1, b g .1)

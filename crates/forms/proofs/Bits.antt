@@ -10,7 +10,7 @@ use native.Mathlib.Omega.{arith}
 use borrow.Author.Tests.{eq-eqb, ne-eqb}
 use Rattle.sets.specs.Mask.{member}
 use Rattle.sets.proofs.Laws.{member-past, member-add, add-lt}
-use Rattle.forms.specs.Write.{when, membersBelow}
+use Rattle.forms.specs.Write.{onlyIf, membersBelow}
 
 module _ (n m : ℕ) where
   pub below-has : member n m ≡ true → membersBelow (suc n) m ≡ membersBelow n m ++ (n ∷ [])
@@ -25,7 +25,7 @@ module _ (n m : ℕ) where
 pub below-same : (n a b : ℕ) → ((j : ℕ) → j < n → member j a ≡ member j b) → membersBelow n a ≡ membersBelow n b
 unfolding membersBelow
 below-same zero a b f = refl
-below-same (suc n) a b f = ap₂ (λ (l : List ℕ) (t : Bool). l ++ when t (n ∷ [])) (below-same n a b (λ j h. f j (le-step h))) (f n (omega arith))
+below-same (suc n) a b f = ap₂ (λ (l : List ℕ) (t : Bool). l ++ onlyIf t (n ∷ [])) (below-same n a b (λ j h. f j (le-step h))) (f n (omega arith))
 
 -- no member at or above v
 pub below-bound : (n m v : ℕ) → m < 2 ^ v → v ≤ n → membersBelow n m ≡ membersBelow v m

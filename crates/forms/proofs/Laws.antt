@@ -9,7 +9,7 @@ use native.Mathlib.Omega.{arith}
 use lib.Dec.{eqb, leb, ltb, lit<}
 use borrow.Author.Tests.{ne-eqb, leb-true, ltb-true, eqb-false, not-true, le-leb, lt-ltb, le-ltb}
 use Rattle.sets.specs.Mask.{with}
-use Rattle.forms.specs.Reader.{Reply, Reader, got, refused, bind, byte}
+use Rattle.forms.specs.Reader.{Reply, Reader, got, refused, readOn, byte}
 use Rattle.forms.specs.Read.{digit, numberFrom, follows, membersFrom}
 use Rattle.forms.specs.Write.{digitsIn, numberText}
 use Rattle.forms.proofs.Tests.{by-test, and-left, and-right, or-not}
@@ -135,11 +135,11 @@ pub record Bound {A B : Type 0} (x : Reply A) (f : A → Reader B) (b : B) (r : 
   pub first : x ≡ got value rest
   pub then : f value rest ≡ got b r
 
-pub bound : {A B : Type 0} (x : Reply A) (f : A → Reader B) {b : B} {r : List ℕ} → bind x f ≡ got b r → Bound x f b r
+pub bound : {A B : Type 0} (x : Reply A) (f : A → Reader B) {b : B} {r : List ℕ} → readOn x f ≡ got b r → Bound x f b r
 bound (got a s) f e = record { value = a; rest = s; first = refl; then = e }
 bound (refused n) f e = absurd (not-got e)
 
 -- the same, handed on: the value and the rest are variables there
-pub bound-to : {A B W : Type 0} (x : Reply A) (f : A → Reader B) {b : B} {r : List ℕ} → bind x f ≡ got b r →
+pub bound-to : {A B W : Type 0} (x : Reply A) (f : A → Reader B) {b : B} {r : List ℕ} → readOn x f ≡ got b r →
     ((a : A) (t : List ℕ) → x ≡ got a t → f a t ≡ got b r → W) → W
 bound-to x f q k = let u = bound x f q in k (u .value) (u .rest) (u .first) (u .then)

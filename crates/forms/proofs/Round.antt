@@ -13,7 +13,7 @@ use borrow.Author.Tests.{eq-eqb, ne-eqb, ltb-true, ltb-false}
 use Rattle.sets.specs.Mask.{member, collect, with}
 use Rattle.sets.proofs.Laws.{collect-is, gather-in, gather-out}
 use Rattle.forms.specs.Reader.{got, byte, bytes}
-use Rattle.forms.specs.Read.{key, digit, number, numberFrom, Set, list, membersFrom, one, two, three, four, set, sets}
+use Rattle.forms.specs.Read.{key, digit, number, numberFrom, Set, list, membersFrom, oneForm, twoForm, threeForm, fourForm, listForm, listsForm}
 use Rattle.forms.specs.Write.{numberText, membersBelow, members, moreText, listText, maskText, oneText, twoText, threeText, fourText}
 use Rattle.forms.proofs.Tests.{by-test}
 use Rattle.forms.proofs.Laws.{number-digit, number-end, list-digit, list-end, list-plus, true-digit, true-follows, digits-lt, tenth-lt, text-digit, text-last}
@@ -211,26 +211,26 @@ module _ (d : ℕ) (low : 1 ≤ d) (high : d ≤ 7) where
       ∙ ap (λ (x : ℕ). got (record { mask = x; top = topOf m }) s) (mask-members m (lt-of-lt-of-le g (pow-mono {j = 32} (omega arith))))
 
   -- the shapes of lines
-  pub one-round : (a : ℕ) → a < 10 ^ d → (s : List ℕ) → one d (oneText a ++ s) ≡ got a s
-  unfolding one oneText
+  pub one-round : (a : ℕ) → a < 10 ^ d → (s : List ℕ) → oneForm d (oneText a ++ s) ≡ got a s
+  unfolding oneForm oneText
   one-round a ha s = simp append-assoc (number-round lf a ha s)
 
-  pub two-round : (a b : ℕ) → a < 10 ^ d → b < 10 ^ d → (s : List ℕ) → two d (twoText a b ++ s) ≡ got (a, b) s
-  unfolding two twoText oneText
+  pub two-round : (a b : ℕ) → a < 10 ^ d → b < 10 ^ d → (s : List ℕ) → twoForm d (twoText a b ++ s) ≡ got (a, b) s
+  unfolding twoForm twoText oneText
   two-round a b ha hb s = simp append-assoc (rw (number-round comma a ha, number-round lf b hb))
 
-  pub three-round : (a b c : ℕ) → a < 10 ^ d → b < 10 ^ d → c < 10 ^ d → (s : List ℕ) → three d (threeText a b c ++ s) ≡ got (a, b, c) s
-  unfolding three threeText twoText oneText
+  pub three-round : (a b c : ℕ) → a < 10 ^ d → b < 10 ^ d → c < 10 ^ d → (s : List ℕ) → threeForm d (threeText a b c ++ s) ≡ got (a, b, c) s
+  unfolding threeForm threeText twoText oneText
   three-round a b c ha hb hc s = simp append-assoc (rw (number-round comma a ha, number-round comma b hb, number-round lf c hc))
 
-  pub four-round : (a b c e : ℕ) → a < 10 ^ d → b < 10 ^ d → c < 10 ^ d → e < 10 ^ d → (s : List ℕ) → four d (fourText a b c e ++ s) ≡ got (a, b, c, e) s
-  unfolding four fourText threeText twoText oneText
+  pub four-round : (a b c e : ℕ) → a < 10 ^ d → b < 10 ^ d → c < 10 ^ d → e < 10 ^ d → (s : List ℕ) → fourForm d (fourText a b c e ++ s) ≡ got (a, b, c, e) s
+  unfolding fourForm fourText threeText twoText oneText
   four-round a b c e ha hb hc he s = simp append-assoc (rw (number-round comma a ha, number-round comma b hb, number-round comma c hc, number-round lf e he))
 
-  pub set-round : (m : ℕ) → m < 2 ^ writable d → (s : List ℕ) → set d (maskText m ++ bytes "\n" ++ s) ≡ got (setOf m) s
-  unfolding set
+  pub set-round : (m : ℕ) → m < 2 ^ writable d → (s : List ℕ) → listForm d (maskText m ++ bytes "\n" ++ s) ≡ got (setOf m) s
+  unfolding listForm
   set-round m h s = simp append-assoc (mask-round lf m h s)
 
-  pub sets-round : (m n : ℕ) → m < 2 ^ writable d → n < 2 ^ writable d → (s : List ℕ) → sets d (maskText m ++ bytes "," ++ maskText n ++ bytes "\n" ++ s) ≡ got (setOf m, setOf n) s
-  unfolding sets
+  pub sets-round : (m n : ℕ) → m < 2 ^ writable d → n < 2 ^ writable d → (s : List ℕ) → listsForm d (maskText m ++ bytes "," ++ maskText n ++ bytes "\n" ++ s) ≡ got (setOf m, setOf n) s
+  unfolding listsForm
   sets-round m n h g s = simp append-assoc (rw (mask-round comma m h, mask-round lf n g))

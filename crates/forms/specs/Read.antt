@@ -4,17 +4,18 @@ use mathlib.Core.List.{List, [], _∷_}
 use mathlib.Core.Bool.{Bool, true, false, _&&_, _||_, not}
 use lib.Dec.{ltb, leb, eqb}
 use Rattle.sets.specs.Mask.{with}
+use Rattle.forms.specs.Refusal.{badForm}
 use Rattle.forms.specs.Reader.{got, refused, Reader, _>>=_, _>>_, give, byte}
 
 -- the bytes that stand in this place
 unfoldable pub key : List ℕ → Reader (Unit {0})
 key [] s = got tt s
-key (a ∷ k) [] = refused 2
-key (a ∷ k) (b ∷ s) = elim (eqb b a) [ true ↦ key k s | false ↦ refused 2 ]
+key (a ∷ k) [] = refused badForm
+key (a ∷ k) (b ∷ s) = elim (eqb b a) [ true ↦ key k s | false ↦ refused badForm ]
 
 -- m where the key k stands, else the other
-abbrev pub on : {A : Type 0} → List ℕ → Reader A → Reader A → Reader A
-on k m other = λ s. elim (key k s) [ got u r ↦ m r | refused n ↦ other s ]
+abbrev pub upon : {A : Type 0} → List ℕ → Reader A → Reader A → Reader A
+upon k m other = λ s. elim (key k s) [ got u r ↦ m r | refused n ↦ other s ]
 
 -- "decimal, one to five digits, no leading zero": the digit c may follow k digits whose value is v, at most d in all
 unfoldable pub digit : ℕ → ℕ → ℕ → ℕ → Bool
@@ -22,11 +23,11 @@ digit d k v c = leb (byte "0") c && (leb c (byte "9") && (ltb k d && (eqb k 0 ||
 
 -- a number of at most d digits and the byte e that ends it, after k digits whose value is v
 unfoldable pub numberFrom : ℕ → ℕ → ℕ → ℕ → Reader ℕ
-numberFrom d e k v [] = refused 2
+numberFrom d e k v [] = refused badForm
 numberFrom d e k v (c ∷ s) =
     elim (eqb c e) [
-      | true ↦ elim (eqb k 0) [ true ↦ refused 2 | false ↦ got v s ]
-      | false ↦ elim (digit d k v c) [ true ↦ numberFrom d e (suc k) (v * 10 + (c - byte "0")) s | false ↦ refused 2 ]
+      | true ↦ elim (eqb k 0) [ true ↦ refused badForm | false ↦ got v s ]
+      | false ↦ elim (digit d k v c) [ true ↦ numberFrom d e (suc k) (v * 10 + (c - byte "0")) s | false ↦ refused badForm ]
     ]
 
 -- a number of at most d digits, and the byte e that ends it
@@ -44,19 +45,19 @@ follows k t v = not (eqb k 0) && leb t v
 
 -- the members from here on and the byte e that ends them, after members of mask m, all below t, and k digits of value v
 unfoldable pub membersFrom : ℕ → ℕ → ℕ → ℕ → ℕ → ℕ → Reader Set
-membersFrom d e m t k v [] = refused 2
+membersFrom d e m t k v [] = refused badForm
 membersFrom d e m t k v (c ∷ s) =
     elim (eqb c e) [
-      | true ↦ elim (follows k t v) [ true ↦ got (record { mask = with v m; top = suc v }) s | false ↦ refused 2 ]
+      | true ↦ elim (follows k t v) [ true ↦ got (record { mask = with v m; top = suc v }) s | false ↦ refused badForm ]
       | false ↦ elim (eqb c (byte "+")) [
-        | true ↦ elim (follows k t v) [ true ↦ membersFrom d e (with v m) (suc v) 0 0 s | false ↦ refused 2 ]
-        | false ↦ elim (digit d k v c) [ true ↦ membersFrom d e m t (suc k) (v * 10 + (c - byte "0")) s | false ↦ refused 2 ]
+        | true ↦ elim (follows k t v) [ true ↦ membersFrom d e (with v m) (suc v) 0 0 s | false ↦ refused badForm ]
+        | false ↦ elim (digit d k v c) [ true ↦ membersFrom d e m t (suc k) (v * 10 + (c - byte "0")) s | false ↦ refused badForm ]
       ]
     ]
 
 -- "A list is numbers joined by `+`, strictly ascending; `-` is the empty list", and the byte e that ends it
 unfoldable pub list : ℕ → ℕ → Reader Set
-list d e [] = refused 2
+list d e [] = refused badForm
 list d e (c ∷ s) =
     elim (eqb c (byte "-")) [
       | true ↦ (do key (e ∷ []); give (record { mask = 0; top = 0 })) s
@@ -64,35 +65,35 @@ list d e (c ∷ s) =
     ]
 
 -- what stands between the key and the line's end: one to four numbers; a list; two lists
-unfoldable pub one : ℕ → Reader ℕ
-one d = number d (byte "\n")
+unfoldable pub oneForm : ℕ → Reader ℕ
+oneForm d = number d (byte "\n")
 
-unfoldable pub two : ℕ → Reader (ℕ × ℕ)
-two d = do
+unfoldable pub twoForm : ℕ → Reader (ℕ × ℕ)
+twoForm d = do
   a ← number d (byte ",")
   b ← number d (byte "\n")
   give (a, b)
 
-unfoldable pub three : ℕ → Reader (ℕ × ℕ × ℕ)
-three d = do
+unfoldable pub threeForm : ℕ → Reader (ℕ × ℕ × ℕ)
+threeForm d = do
   a ← number d (byte ",")
   b ← number d (byte ",")
   c ← number d (byte "\n")
   give (a, b, c)
 
-unfoldable pub four : ℕ → Reader (ℕ × ℕ × ℕ × ℕ)
-four d = do
+unfoldable pub fourForm : ℕ → Reader (ℕ × ℕ × ℕ × ℕ)
+fourForm d = do
   a ← number d (byte ",")
   b ← number d (byte ",")
   c ← number d (byte ",")
   e ← number d (byte "\n")
   give (a, b, c, e)
 
-unfoldable pub set : ℕ → Reader Set
-set d = list d (byte "\n")
+unfoldable pub listForm : ℕ → Reader Set
+listForm d = list d (byte "\n")
 
-unfoldable pub sets : ℕ → Reader (Set × Set)
-sets d = do
+unfoldable pub listsForm : ℕ → Reader (Set × Set)
+listsForm d = do
   a ← list d (byte ",")
   b ← list d (byte "\n")
   give (a, b)

@@ -4,6 +4,7 @@ use Prim.Native.Char.{Char, code}
 use Prim.Native.String.{String, [] as []ˢ, _∷_ as _∷ˢ_}
 use mathlib.Core.List.{List, [], _∷_}
 use mathlib.Core.Bool.{Bool, true, false}
+use Rattle.forms.specs.Refusal.{badForm}
 
 infixl 20 _>>=_
 infixl 20 _>>_
@@ -16,15 +17,15 @@ abbrev pub Reader : Type 0 → Type 0
 Reader A = List ℕ → Reply A
 
 -- what comes after: with the value and the rest, or the refusal passed on
-abbrev pub bind : {A B : Type 0} → Reply A → (A → Reader B) → Reply B
-bind (got a s) f = f a s
-bind (refused n) f = refused n
+abbrev pub readOn : {A B : Type 0} → Reply A → (A → Reader B) → Reply B
+readOn (got a s) f = f a s
+readOn (refused n) f = refused n
 
 abbrev pub _>>=_ : {A B : Type 0} → Reader A → (A → Reader B) → Reader B
-_>>=_ m f = λ s. bind (m s) f
+_>>=_ m f = λ s. readOn (m s) f
 
 abbrev pub _>>_ : {A B : Type 0} → Reader A → Reader B → Reader B
-_>>_ m f = λ s. bind (m s) (λ _. f)
+_>>_ m f = λ s. readOn (m s) (λ _. f)
 
 -- a value, with nothing read
 abbrev pub give : {A : Type 0} → A → Reader A
@@ -36,8 +37,8 @@ check true n = λ s. got tt s
 check false n = λ s. refused n
 
 -- no line that is due: 2
-abbrev pub none : {A : Type 0} → Reader A
-none = λ s. refused 2
+abbrev pub noLine : {A : Type 0} → Reader A
+noLine = λ s. refused badForm
 
 -- one of several: f with what comes after it as the other way
 abbrev pub _or_ : {A : Type 0} → (Reader A → Reader A) → Reader A → Reader A

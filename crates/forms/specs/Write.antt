@@ -7,9 +7,9 @@ use Rattle.sets.specs.Mask.{member}
 use Rattle.forms.specs.Reader.{bytes, byte}
 
 -- a where the test holds, else nothing
-abbrev pub when : Bool → List ℕ → List ℕ
-when true a = a
-when false a = []
+abbrev pub onlyIf : Bool → List ℕ → List ℕ
+onlyIf true a = a
+onlyIf false a = []
 
 -- v in at most n digits, the last one cut off first
 unfoldable pub digitsIn : ℕ → ℕ → List ℕ
@@ -27,7 +27,7 @@ numberText v = digitsIn 20 v
 -- the members of the mask m that are below n, ascending
 unfoldable pub membersBelow : ℕ → ℕ → List ℕ
 membersBelow zero m = []
-membersBelow (suc n) m = membersBelow n m ++ when (member n m) (n ∷ [])
+membersBelow (suc n) m = membersBelow n m ++ onlyIf (member n m) (n ∷ [])
 
 abbrev pub members : ℕ → List ℕ
 members m = membersBelow 32 m

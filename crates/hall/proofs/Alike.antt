@@ -22,13 +22,13 @@ use Rattle.model.specs.View.{stepsOf}
 use Rattle.reading.specs.Limits.{stepsOk}
 use Rattle.reading.specs.Lawful.{Lawful, stepLawful, answerLawful, SheetsAreLawful, AnswersAreLawful}
 use Rattle.reading.proofs.Lawful.{sheets-are-lawful, answers-are-lawful}
-use Rattle.rules.specs.Step.{number, after, step}
+use Rattle.rules.specs.Step.{stepCheck, stepTo, step}
 use Rattle.rules.specs.Walk.{oneMore, walkBy, walk, walkAnswer}
 use Rattle.rules.specs.Proper.{Proper}
 use Rattle.rules.proofs.Walks.{step-on, step-stop}
 use Rattle.rules.proofs.Tables.{facts}
 use Rattle.rules.proofs.Proper.{start-proper, step-proper}
-use Rattle.judged.specs.Course.{default}
+use Rattle.judged.specs.Course.{defaultDepth}
 use Rattle.hall.specs.Screen.{lentLawful, hallStep}
 use Rattle.hall.specs.Agree.{hallWalk, ProperIsLawful, SheetsBreakNone, HallWalksAlike}
 use Rattle.hall.proofs.Proper.{proper-is-lawful}
@@ -49,26 +49,26 @@ steps-lawful a e j l =
 
 module _ (t : Tables) (p : Program) (law : Lawful t p) where
   -- a lawful step at a point of a walk gets the rules' answer
-  ruled : (c : Configuration) (s : Step) → Proper default t p c → stepLawful s ≡ true → hallStep t p c s ≡ step default t p c s
+  ruled : (c : Configuration) (s : Step) → Proper defaultDepth t p c → stepLawful s ≡ true → hallStep t p c s ≡ step defaultDepth t p c s
   unfolding ProperIsLawful Lawful hallStep lentLawful
   ruled c s h e = rw (law .0, law .1, e, proper-is-lawful t p c h)
 
-  alike : (ss : List Step) (c : Configuration) → Proper default t p c → Steps ss → hallWalk t p c ss ≡ walk default t p c ss
+  alike : (ss : List Step) (c : Configuration) → Proper defaultDepth t p c → Steps ss → hallWalk t p c ss ≡ walk defaultDepth t p c ss
   unfolding hallWalk walk
   alike [] c h f = refl
   alike (s ∷ ss) c h f =
       let rest : Steps ss = λ j l. f (suc j) (omega arith) in
       let first = ruled c s h (f 0 (omega arith)) in
-      by-cases (ℕ-discrete (number default t p c s) 0)
+      by-cases (ℕ-discrete (stepCheck defaultDepth t p c s) 0)
       (λ e.
-      let same = first ∙ step-on default t p c s e in
-      rw (walkBy, same, step-on default t p c s e, same, step-on default t p c s e)
-      (ap oneMore (alike ss (after t p c s) (step-proper default t p (facts default t p (omega arith) law) c s h e) rest)))
+      let same = first ∙ step-on defaultDepth t p c s e in
+      rw (walkBy, same, step-on defaultDepth t p c s e, same, step-on defaultDepth t p c s e)
+      (ap oneMore (alike ss (stepTo t p c s) (step-proper defaultDepth t p (facts defaultDepth t p (omega arith) law) c s h e) rest)))
       (λ n.
-      let same = first ∙ step-stop default t p c s n in
-      rw (walkBy, same, step-stop default t p c s n, ne-eqb (number default t p c s) 0 n, same, step-stop default t p c s n))
+      let same = first ∙ step-stop defaultDepth t p c s n in
+      rw (walkBy, same, step-stop defaultDepth t p c s n, ne-eqb (stepCheck defaultDepth t p c s) 0 n, same, step-stop defaultDepth t p c s n))
 
 pub hall-walks-alike : HallWalksAlike
 unfolding HallWalksAlike SheetsAreLawful AnswersAreLawful walkAnswer
 hall-walks-alike x r y q t p a e f =
-    alike t p (sheets-are-lawful x r t p e) (stepsOf a) start (start-proper default t p) (steps-lawful a (answers-are-lawful y q a f))
+    alike t p (sheets-are-lawful x r t p e) (stepsOf a) start (start-proper defaultDepth t p) (steps-lawful a (answers-are-lawful y q a f))

@@ -19,7 +19,7 @@ use Rattle.model.specs.View.{instance, connection, slot}
 use Rattle.reading.specs.Limits.{maskOk}
 use Rattle.rules.specs.Con.{isOf, isUsePort, isProvidePort}
 use Rattle.rules.specs.Proper.{ProperInstance, Joins, Proper}
-use Rattle.judged.specs.Course.{default}
+use Rattle.judged.specs.Course.{defaultDepth}
 use Rattle.lawfulness.specs.Lawful.{queuedLawful, numbersLawful, instanceLawful, connectedBefore, endsLawful, connectionLawful, connectionsLawful, configurationLawful}
 use Rattle.hall.specs.Agree.{ProperIsLawful}
 
@@ -45,12 +45,12 @@ masked n m f = lt-ltb m (2 ^ n) (rw same (collect-lt n (λ x. member x m)))
         same-members (m + n) m (collect n (λ x. member x m)) (lt-of-lt-of-le (below-power m) (pow-mono {j = m + n} (omega arith)))
         (lt-of-lt-of-le (collect-lt n (λ x. member x m)) (pow-mono {j = m + n} (omega arith))) each
 
-module _ (t : Tables) (p : Program) (c : Configuration) (h : Proper default t p c) where
-  instance-lawful : (i : ℕ) → instanceLawful default t c i ≡ true
+module _ (t : Tables) (p : Program) (c : Configuration) (h : Proper defaultDepth t p c) where
+  instance-lawful : (i : ℕ) → instanceLawful defaultDepth t c i ≡ true
   unfolding instanceLawful numbersLawful queuedLawful
   instance-lawful i = by-test (instance c i .present) (λ e. rw e (numbers (h .each i e))) (λ e. rw e)
     where
-      numbers : ProperInstance default t (instance c i) (slot c i) → numbersLawful default t c i ≡ true
+      numbers : ProperInstance defaultDepth t (instance c i) (slot c i) → numbersLawful defaultDepth t c i ≡ true
       numbers v =
           ap₂ _&&_ (lt-ltb _ _ (v .kind)) (ap₂ _&&_ (masked _ _ (v .marked)) (ap₂ _&&_ (masked _ _ (v .running)) (ap₂ _&&_ (masked _ _ (v .ended))
           (ap₂ _&&_ (le-leb _ _ (v .short)) (all-of _ _ (λ r l. lt-ltb _ _ (v .queue r l)))))))
@@ -75,7 +75,7 @@ module _ (t : Tables) (p : Program) (c : Configuration) (h : Proper default t p 
   unfolding connectionLawful
   connection-lawful l b = ap₂ _&&_ (ends-lawful (connection c l) (h .connections .joins l b)) (ap not (not-before l b))
 
-  lawful : configurationLawful default t p c ≡ true
+  lawful : configurationLawful defaultDepth t p c ≡ true
   unfolding configurationLawful connectionsLawful
   lawful =
       ap₂ _&&_ (all-of 32 _ (λ i _. instance-lawful i)) (ap₂ _&&_ (le-leb _ _ (h .done)) (ap₂ _&&_ (le-leb _ _ (h .few)) (all-of _ _ connection-lawful)))

@@ -12,23 +12,23 @@ use Rattle.model.specs.declared.Step.{Step}
 use Rattle.model.specs.declared.Configuration.{Configuration}
 use Rattle.model.specs.declared.Stepped.{Stepped}
 use Rattle.rules.specs.Refused.{RefusedChangesNothing}
-use Rattle.rules.specs.Step.{number, step}
+use Rattle.rules.specs.Step.{stepCheck, step}
 use Rattle.rules.proofs.Walks.{step-on, step-stop, refused-changes-nothing}
 use Rattle.rules.proofs.Numbers.{Numbered, step-numbered}
-use Rattle.judged.specs.Course.{default}
+use Rattle.judged.specs.Course.{defaultDepth}
 use Rattle.hall.specs.Screen.{limitBroken, lentLawful, hallStep}
 use Rattle.hall.specs.Agree.{RefusedLeaves, SevenExactly}
 
 -- the number of a step by value
-pub step-number : (t : Tables) (p : Program) (c : Configuration) (s : Step) → step default t p c s .refused ≡ number default t p c s
+pub step-number : (t : Tables) (p : Program) (c : Configuration) (s : Step) → step defaultDepth t p c s .refused ≡ stepCheck defaultDepth t p c s
 step-number t p c s =
-    by-cases (ℕ-discrete (number default t p c s) 0) (λ e. ap (λ (m : Stepped). m .refused) (step-on default t p c s e) ∙ sym e)
-    (λ n. ap (λ (m : Stepped). m .refused) (step-stop default t p c s n))
+    by-cases (ℕ-discrete (stepCheck defaultDepth t p c s) 0) (λ e. ap (λ (m : Stepped). m .refused) (step-on defaultDepth t p c s e) ∙ sym e)
+    (λ n. ap (λ (m : Stepped). m .refused) (step-stop defaultDepth t p c s n))
 
 pub refused-leaves : RefusedLeaves
 unfolding RefusedLeaves RefusedChangesNothing hallStep
 refused-leaves t p c s n =
-    by-test (lentLawful t p c s) (λ e. rw e (refused-changes-nothing default t p c s (rw e at n))) (λ e. rw e)
+    by-test (lentLawful t p c s) (λ e. rw e (refused-changes-nothing defaultDepth t p c s (rw e at n))) (λ e. rw e)
 
 -- a step's number is 0 or 10 to 37
 not-seven : {n : ℕ} → Numbered n → n ≢ limitBroken
@@ -37,6 +37,6 @@ not-seven {n} h = ⊎-elim (λ e. omega arith) (λ e. omega arith) (h .range)
 pub seven-exactly : SevenExactly
 unfolding SevenExactly hallStep
 seven-exactly t p c s = (
-  λ q. by-test (lentLawful t p c s) (λ e. absurd (not-seven (step-numbered default t p c s) (sym (step-number t p c s) ∙ (rw e at q)))) (λ e. e),
+  λ q. by-test (lentLawful t p c s) (λ e. absurd (not-seven (step-numbered defaultDepth t p c s) (sym (step-number t p c s) ∙ (rw e at q)))) (λ e. e),
   λ e. rw e,
 )

@@ -9,7 +9,7 @@ use lib.Dec.{eqb, ltb, leb}
 use lib.ListN.{length, getD}
 use borrow.Author.Tests.{eqb-true, eqb-false, eq-eqb, ne-eqb, ltb-true, ltb-false, le-ltb, leb-true}
 use Rattle.forms.proofs.Tests.{by-test, and-left, and-right}
-use Rattle.sets.specs.Test.{all}
+use Rattle.sets.specs.Test.{allBelow}
 use Rattle.sets.proofs.Laws.{all-at}
 use Rattle.model.specs.declared.Tables.{Tables}
 use Rattle.model.specs.declared.Program.{Program}
@@ -17,15 +17,15 @@ use Rattle.model.specs.declared.Step.{Step}
 use Rattle.model.specs.declared.Connection.{Connection}
 use Rattle.model.specs.declared.Configuration.{Configuration}
 use Rattle.model.specs.Empty.{noConnection}
-use Rattle.model.specs.View.{typeOf, instance, connection, slot, head, withConnections, withDone}
+use Rattle.model.specs.View.{typeOf, instance, connection, slot, queueHead, withConnections, withDone}
 use Rattle.model.proofs.View.{connection-same, connection-other}
 use Rattle.reading.specs.Limits.{typeOk, maskOk}
 use Rattle.reading.specs.Lawful.{tablesLawful, programLawful, stepLawful, Lawful}
 use Rattle.rules.specs.PushB.{depthOf}
 use Rattle.rules.specs.Con.{connected}
 use Rattle.rules.specs.DCon.{placeOf, disconnected}
-use Rattle.rules.specs.Action.{Action, add, del, pushb, con, dcon, wait, fire, end, enter, finish, check, effect}
-use Rattle.rules.specs.Step.{number, after, action}
+use Rattle.rules.specs.Action.{Action, add, del, pushb, con, dcon, wait, fire, end, enter, finish, actionCheck, effect}
+use Rattle.rules.specs.Step.{stepCheck, stepTo, action}
 use Rattle.rules.proofs.Closing.{closed-outside, closed-inside, closed-last}
 use Rattle.rules.proofs.Local.{shifted, Wires, change, touches, changes, self, turn, turnedSlot, ownInstance, ownSlot, Fits, Roomy, Room, instance-own, instance-other, slot-own, slot-other, part-wires}
 use Rattle.rules.proofs.Allowed.{del-facts, pushb-facts, con-facts, dcon-facts, fire-facts, end-facts, enter-facts, finish-facts, present-in}
@@ -33,7 +33,7 @@ use Rattle.rules.proofs.Connections.{place-in}
 use Rattle.rules.proofs.Tables.{facts}
 use Rattle.rules.proofs.Proper.{Lawfully, step-lawfully}
 use Rattle.rules.proofs.Walks.{step-on, number-facts, after-cases, after-done}
-use Rattle.judged.specs.Course.{default}
+use Rattle.judged.specs.Course.{defaultDepth}
 use Rattle.lawfulness.specs.Lawful.{numbersLawful, instanceLawful, connectionsLawful, configurationLawful}
 use Rattle.hall.specs.Screen.{lentLawful, hallStep}
 use Rattle.hall.specs.Slots.{Whole, Holds, inInstance, gapClosed, slots, EverySlot}
@@ -42,7 +42,7 @@ use Rattle.hall.proofs.Screen.{step-number}
 module _ (t : Tables) (c : Configuration) (whole : Whole c) where
   -- an action on instance i
   owned : (a : Action) (i : ℕ) → ((j : ℕ) → changes a j ≡ eqb i j) → Room c a
-      → Holds (effect t c a) (inInstance c i (ownInstance t (instance c i) (head c i) a) (ownSlot (instance c i .queued) (slot c i) a))
+      → Holds (effect t c a) (inInstance c i (ownInstance t (instance c i) (queueHead c i) a) (ownSlot (instance c i .queued) (slot c i) a))
   owned a i h room = record {
     instances = λ j l. by-test (eqb j i) (λ e. rw (e, eqb-true j i e) (instance-own t c a i mine (in-array j l (eqb-true j i e)))) (λ e. rw e (instance-other t c a j (other j e)));
     queues = λ j r l g. by-test (eqb j i) (λ e. rw (e, eqb-true j i e) (slot-own t c a (whole .queue) room i mine r g)) (λ e. rw e (slot-other t c a (whole .queue) room j (other j e) r g));
@@ -97,16 +97,16 @@ module _ (t : Tables) (c : Configuration) (whole : Whole c) where
         (λ f. by-test (eqb (suc l) (c .count)) (λ g. rw (e, f, g) (freed (eqb-true (suc l) (c .count) g)))
         (λ g. rw (e, f, g) (kept (inr (past (ltb-false (suc l) (c .count) f) (eqb-false (suc l) (c .count) g)))))))
 
-  module _ (depth : depthOf default t ≤ 8) (few : c .count ≤ 64)
-      (short : (i : ℕ) → instance c i .present ≡ true → instance c i .queued ≤ depthOf default t) where
+  module _ (depth : depthOf defaultDepth t ≤ 8) (few : c .count ≤ 64)
+      (short : (i : ℕ) → instance c i .present ≡ true → instance c i .queued ≤ depthOf defaultDepth t) where
     in-array : (i : ℕ) → instance c i .present ≡ true → i < 32
     in-array i e = omega (arith, present-in c i e, whole .instances)
 
-    room : (a : Action) → Lawfully t a → check default t c a ≡ 0 → Room c a
-    unfolding check change Roomy Fits
+    room : (a : Action) → Lawfully t a → actionCheck defaultDepth t c a ≡ 0 → Room c a
+    unfolding actionCheck change Roomy Fits
     room (add i k) new e = (new i k refl .0, tt)
     room (del i) new e = (in-array i (del-facts c i e .present), tt)
-    room (pushb i b) new e = let f = pushb-facts default t c i b e in (in-array i (f .present), omega (arith, f .short))
+    room (pushb i b) new e = let f = pushb-facts defaultDepth t c i b e in (in-array i (f .present), omega (arith, f .short))
     room (con k) new e = tt
     room (dcon k) new e = tt
     room (wait i) new e = tt
@@ -118,8 +118,8 @@ module _ (t : Tables) (c : Configuration) (whole : Whole c) where
         let h = short i (f .present) in
         (in-array i (f .present), (f .queued, omega arith))
 
-    holds : (a : Action) → Lawfully t a → check default t c a ≡ 0 → Holds (effect t c a) (slots t c a)
-    unfolding check effect change touches self turn turnedSlot slots connected disconnected withConnections
+    holds : (a : Action) → Lawfully t a → actionCheck defaultDepth t c a ≡ 0 → Holds (effect t c a) (slots t c a)
+    unfolding actionCheck effect change touches self turn turnedSlot slots connected disconnected withConnections
     holds (add i k) new e = owned (add i k) i (λ j. refl) (room (add i k) new e)
     holds (del i) new e = owned (del i) i (λ j. refl) (room (del i) new e)
     holds (pushb i b) new e = owned (pushb i b) i (λ j. refl) (room (pushb i b) new e)
@@ -153,7 +153,7 @@ module _ (t : Tables) (p : Program) (c : Configuration) (s : Step) (whole : Whol
   unfolding Lawful lentLawful
   law = (and-left (tablesLawful t) _ lawful, and-left (programLawful (t .count) p) _ (and-right (tablesLawful t) _ lawful))
 
-  standing : configurationLawful default t p c ≡ true
+  standing : configurationLawful defaultDepth t p c ≡ true
   unfolding lentLawful
   standing = and-right (stepLawful s) _ (and-right (programLawful (t .count) p) _ (and-right (tablesLawful t) _ lawful))
 
@@ -161,23 +161,23 @@ module _ (t : Tables) (p : Program) (c : Configuration) (s : Step) (whole : Whol
   unfolding configurationLawful connectionsLawful
   few =
       leb-true (c .count) 64
-      (and-left (leb (c .count) 64) _ (and-right (leb (c .done) (p .count)) _ (and-right (all 32 (instanceLawful default t c)) _ standing)))
+      (and-left (leb (c .count) 64) _ (and-right (leb (c .done) (p .count)) _ (and-right (allBelow 32 (instanceLawful defaultDepth t c)) _ standing)))
 
-  short : (i : ℕ) → instance c i .present ≡ true → instance c i .queued ≤ depthOf default t
+  short : (i : ℕ) → instance c i .present ≡ true → instance c i .queued ≤ depthOf defaultDepth t
   unfolding configurationLawful instanceLawful numbersLawful
   short i here =
-      let h = all-at 32 (instanceLawful default t c) (and-left (all 32 (instanceLawful default t c)) _ standing) i (omega (arith, present-in c i here, whole .instances)) in
-      leb-true _ _ (and-left (leb (instance c i .queued) (depthOf default t)) _
+      let h = all-at 32 (instanceLawful defaultDepth t c) (and-left (allBelow 32 (instanceLawful defaultDepth t c)) _ standing) i (omega (arith, present-in c i here, whole .instances)) in
+      leb-true _ _ (and-left (leb (instance c i .queued) (depthOf defaultDepth t)) _
       (and-right (maskOk (typeOf t (instance c i .kind) .transitions) (instance c i .ended)) _
       (and-right (maskOk (typeOf t (instance c i .kind) .transitions) (instance c i .running)) _
       (and-right (maskOk (typeOf t (instance c i .kind) .places) (instance c i .marked)) _
       (and-right (typeOk (t .count) (instance c i .kind)) _ (rw here at h))))))
 
-  each : number default t p c s ≡ 0 → Holds (after t p c s) (slots t c (action p c s))
+  each : stepCheck defaultDepth t p c s ≡ 0 → Holds (stepTo t p c s) (slots t c (action p c s))
   unfolding withDone
   each e =
-      let l = facts default t p (omega arith) law in
-      let h = holds t c whole (l .depth) few short (action p c s) (step-lawfully default t p l c s e) (number-facts default t p c s e .0) in
+      let l = facts defaultDepth t p (omega arith) law in
+      let h = holds t c whole (l .depth) few short (action p c s) (step-lawfully defaultDepth t p l c s e) (number-facts defaultDepth t p c s e .0) in
       after-cases t p (λ (d : Configuration). Holds d (slots t c (action p c s))) c s
       (λ _. record { instances = h .instances; queues = h .queues; connections = h .connections; count = h .count }) (λ _. h)
 
@@ -186,6 +186,6 @@ unfolding EverySlot hallStep
 every-slot t p c s whole ok =
     by-test (lentLawful t p c s)
     (λ lawful.
-    let e : number default t p c s ≡ 0 = sym (step-number t p c s) ∙ (rw lawful at ok) in
-    rw (lawful, step-on default t p c s e) (each t p c s whole lawful e, after-done t p c s))
+    let e : stepCheck defaultDepth t p c s ≡ 0 = sym (step-number t p c s) ∙ (rw lawful at ok) in
+    rw (lawful, step-on defaultDepth t p c s e) (each t p c s whole lawful e, after-done t p c s))
     (λ broken. absurd (omega (arith, rw broken at ok)))

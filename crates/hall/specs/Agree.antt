@@ -17,7 +17,7 @@ use Rattle.reading.specs.Texts.{sheet, answer}
 use Rattle.reading.specs.Lawful.{stepLawful}
 use Rattle.rules.specs.Proper.{Proper}
 use Rattle.rules.specs.Walk.{walkBy, walkAnswer}
-use Rattle.judged.specs.Course.{default}
+use Rattle.judged.specs.Course.{defaultDepth}
 use Rattle.lawfulness.specs.Lawful.{configurationLawful}
 use Rattle.hall.specs.Screen.{limitBroken, lentLawful, hallStep}
 
@@ -40,11 +40,11 @@ unfoldable pub SheetsBreakNone : Type 0
 SheetsBreakNone =
     (x r : List ℕ) (t : Tables) (p : Program) (c : Configuration) (s : Step)
     → sheet x ≡ on (t, p) r
-    → lentLawful t p c s ≡ (stepLawful s && configurationLawful default t p c)
+    → lentLawful t p c s ≡ (stepLawful s && configurationLawful defaultDepth t p c)
 
 -- what every point of a walk keeps is lawful to the screen
 unfoldable pub ProperIsLawful : Type 0
-ProperIsLawful = (t : Tables) (p : Program) (c : Configuration) → Proper default t p c → configurationLawful default t p c ≡ true
+ProperIsLawful = (t : Tables) (p : Program) (c : Configuration) → Proper defaultDepth t p c → configurationLawful defaultDepth t p c ≡ true
 
 -- the tables, program and steps that the readers give, stepped by the screen from the empty start: the walk's verdict, count and configuration
 unfoldable pub HallWalksAlike : Type 0
@@ -52,4 +52,4 @@ HallWalksAlike =
     (x r y q : List ℕ) (t : Tables) (p : Program) (a : Answer)
     → sheet x ≡ on (t, p) r
     → answer y ≡ on a q
-    → hallWalk t p start (stepsOf a) ≡ walkAnswer default t p a
+    → hallWalk t p start (stepsOf a) ≡ walkAnswer defaultDepth t p a

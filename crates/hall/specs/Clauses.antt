@@ -17,7 +17,7 @@ use Rattle.model.specs.declared.Instance.{Instance}
 use Rattle.model.specs.declared.Configuration.{Configuration}
 use Rattle.model.specs.Empty.{noInstruction, absent, noConnection}
 use Rattle.model.specs.Verb.{addVerb, delVerb, pushbVerb, conVerb, dconVerb, waitVerb, fireVerb, endVerb, enterVerb, finishVerb}
-use Rattle.reading.specs.Kinds.{instruction}
+use Rattle.reading.specs.Kinds.{anInstruction}
 use Rattle.hall.specs.Screen.{limitBroken, lentLawful, hallStep}
 
 -- ---- what is lent, with a number changed
@@ -35,8 +35,8 @@ but f changed k name n = cond (eqt name changed) k (f name n)
 
 -- two places, the first initial, one transition between them and one behavior of it;
 -- port 0 uses and has the second place, port 1 provides and has the first and the transition
-abbrev pub type : Numbers → ComponentType
-type f = record {
+abbrev pub typeWith : Numbers → ComponentType
+typeWith f = record {
   places = f "places" 2;
   initial = f "initial" 1;
   transitions = f "transitions" 1;
@@ -49,7 +49,7 @@ abbrev pub tables : Numbers → Tables
 tables f = record {
   depth = f "depth" 0;
   count = f "types" 1;
-  types = type f ∷ replicate 15 (type base);
+  types = typeWith f ∷ replicate 15 (typeWith base);
   transitions = record { source = f "source" 0 ∷ replicate 511 0; destination = f "destination" 1 ∷ replicate 511 1 };
   behaviors = f "behavior" 1 ∷ replicate 127 1;
   ports = record {
@@ -63,12 +63,12 @@ tables f = record {
 abbrev pub program : Numbers → Program
 program f = record {
   instructions =
-      instruction addVerb (f "add id" 0) (f "add type" 0) 0 0
-      ∷ instruction delVerb (f "del id" 0) 0 0 0
-      ∷ instruction pushbVerb (f "pushb id" 0) (f "pushb behavior" 0) 0 0
-      ∷ instruction conVerb (f "con user" 0) (f "con useport" 0) (f "con provider" 0) (f "con provideport" 0)
-      ∷ instruction dconVerb (f "dcon user" 0) (f "dcon useport" 0) (f "dcon provider" 0) (f "dcon provideport" 0)
-      ∷ instruction (f "verb" waitVerb) (f "wait id" 0) 0 0 0
+      anInstruction addVerb (f "add id" 0) (f "add type" 0) 0 0
+      ∷ anInstruction delVerb (f "del id" 0) 0 0 0
+      ∷ anInstruction pushbVerb (f "pushb id" 0) (f "pushb behavior" 0) 0 0
+      ∷ anInstruction conVerb (f "con user" 0) (f "con useport" 0) (f "con provider" 0) (f "con provideport" 0)
+      ∷ anInstruction dconVerb (f "dcon user" 0) (f "dcon useport" 0) (f "dcon provider" 0) (f "dcon provideport" 0)
+      ∷ anInstruction (f "verb" waitVerb) (f "wait id" 0) 0 0 0
       ∷ replicate 250 noInstruction;
   count = f "program" 6;
 }
@@ -98,8 +98,8 @@ configuration f = record {
 }
 
 -- the first place of instance 0 may be left
-abbrev pub step : Numbers → Step
-step f = record { verb = f "step" fireVerb; id = f "step id" 0; number = f "step number" 0 }
+abbrev pub stepWith : Numbers → Step
+stepWith f = record { verb = f "step" fireVerb; id = f "step id" 0; number = f "step number" 0 }
 
 -- ---- the rows
 
@@ -110,8 +110,8 @@ pub record Row : Type 0 where
   pub lawful : ℕ
   pub broken : ℕ
 
-abbrev pub row : String → ℕ → ℕ → Row
-row name n m = record { from = base; name = name; lawful = n; broken = m }
+abbrev pub clauseRow : String → ℕ → ℕ → Row
+clauseRow name n m = record { from = base; name = name; lawful = n; broken = m }
 
 -- the same with another verb of the step
 abbrev pub moving : ℕ → String → ℕ → ℕ → Row
@@ -121,50 +121,50 @@ moving verb name n m = record { from = but base "step" verb; name = name; lawful
 -- group has an initial place"
 abbrev pub tableRows : List Row
 tableRows =
-    row "depth" 8 9
-    ∷ row "types" 1 0
-    ∷ row "types" 16 17
-    ∷ row "places" 2 0
-    ∷ row "places" 16 17
-    ∷ row "initial" 1 4
-    ∷ row "transitions" 32 33
-    ∷ row "source" 0 2
-    ∷ row "destination" 1 2
-    ∷ row "behaviors" 8 9
-    ∷ row "behavior" 1 2
-    ∷ row "ports" 16 17
-    ∷ row "port 1" 0 2
-    ∷ row "port 1 places" 1 4
-    ∷ row "port 1 transitions" 1 2
-    ∷ row "initial" 1 0
-    ∷ row "source" 0 1
-    ∷ row "port 0 places" 2 1
+    clauseRow "depth" 8 9
+    ∷ clauseRow "types" 1 0
+    ∷ clauseRow "types" 16 17
+    ∷ clauseRow "places" 2 0
+    ∷ clauseRow "places" 16 17
+    ∷ clauseRow "initial" 1 4
+    ∷ clauseRow "transitions" 32 33
+    ∷ clauseRow "source" 0 2
+    ∷ clauseRow "destination" 1 2
+    ∷ clauseRow "behaviors" 8 9
+    ∷ clauseRow "behavior" 1 2
+    ∷ clauseRow "ports" 16 17
+    ∷ clauseRow "port 1" 0 2
+    ∷ clauseRow "port 1 places" 1 4
+    ∷ clauseRow "port 1 transitions" 1 2
+    ∷ clauseRow "initial" 1 0
+    ∷ clauseRow "source" 0 1
+    ∷ clauseRow "port 0 places" 2 1
     ∷ []
 
 abbrev pub programRows : List Row
 programRows =
-    row "program" 256 257
-    ∷ row "verb" waitVerb 6
-    ∷ row "add id" 31 32
-    ∷ row "add type" 0 1
-    ∷ row "del id" 31 32
-    ∷ row "pushb id" 31 32
-    ∷ row "pushb behavior" 7 8
-    ∷ row "con user" 31 32
-    ∷ row "con useport" 15 16
-    ∷ row "con provider" 31 32
-    ∷ row "con provideport" 15 16
-    ∷ row "dcon user" 31 32
-    ∷ row "dcon useport" 15 16
-    ∷ row "dcon provider" 31 32
-    ∷ row "dcon provideport" 15 16
-    ∷ row "wait id" 31 32
+    clauseRow "program" 256 257
+    ∷ clauseRow "verb" waitVerb 6
+    ∷ clauseRow "add id" 31 32
+    ∷ clauseRow "add type" 0 1
+    ∷ clauseRow "del id" 31 32
+    ∷ clauseRow "pushb id" 31 32
+    ∷ clauseRow "pushb behavior" 7 8
+    ∷ clauseRow "con user" 31 32
+    ∷ clauseRow "con useport" 15 16
+    ∷ clauseRow "con provider" 31 32
+    ∷ clauseRow "con provideport" 15 16
+    ∷ clauseRow "dcon user" 31 32
+    ∷ clauseRow "dcon useport" 15 16
+    ∷ clauseRow "dcon provider" 31 32
+    ∷ clauseRow "dcon provideport" 15 16
+    ∷ clauseRow "wait id" 31 32
     ∷ []
 
 -- "the step breaks an answer line's"
 abbrev pub stepRows : List Row
 stepRows =
-    row "step" finishVerb 5
+    clauseRow "step" finishVerb 5
     ∷ moving fireVerb "step id" 31 32
     ∷ moving fireVerb "step number" 15 16
     ∷ moving endVerb "step id" 31 32
@@ -178,43 +178,43 @@ stepRows =
 abbrev pub configurationRows : List Row
 configurationRows =
     -- "a number of a present instance outside its type or the limits above"
-    row "instance type" 0 1
-    ∷ row "marked" 3 4
-    ∷ row "running" 1 2
-    ∷ row "ended" 1 2
-    ∷ row "queue" 0 1
+    clauseRow "instance type" 0 1
+    ∷ clauseRow "marked" 3 4
+    ∷ clauseRow "running" 1 2
+    ∷ clauseRow "ended" 1 2
+    ∷ clauseRow "queue" 0 1
     -- "more instructions done than the program has", "a queue past the depth", "over 64 connections"
-    ∷ row "done" 6 7
-    ∷ row "queued" 4 5
-    ∷ row "connections" 2 65
+    ∷ clauseRow "done" 6 7
+    ∷ clauseRow "queued" 4 5
+    ∷ clauseRow "connections" 2 65
     -- "or one with an absent end"
-    ∷ row "user" 1 3
-    ∷ row "provider" 0 3
+    ∷ clauseRow "user" 1 3
+    ∷ clauseRow "provider" 0 3
     -- "a wrong port": of the other kind, and outside its type
-    ∷ row "useport" 0 1
-    ∷ row "useport" 0 2
-    ∷ row "provideport" 1 0
-    ∷ row "provideport" 1 2
+    ∷ clauseRow "useport" 0 1
+    ∷ clauseRow "useport" 0 2
+    ∷ clauseRow "provideport" 1 0
+    ∷ clauseRow "provideport" 1 2
     -- "a single instance at both ends", "a use port already connected"
-    ∷ row "provider" 0 1
-    ∷ row "second user" 2 1
+    ∷ clauseRow "provider" 0 1
+    ∷ clauseRow "second user" 2 1
     ∷ []
 
 -- one table
-abbrev pub rows : List Row
-rows = tableRows ++ programRows ++ stepRows ++ configurationRows
+abbrev pub clauseRows : List Row
+clauseRows = tableRows ++ programRows ++ stepRows ++ configurationRows
 
 -- ---- the claim
 
-abbrev pub answered : Numbers → ℕ
-answered f = hallStep (tables f) (program f) (configuration f) (step f) .refused
+abbrev pub hallAnswer : Numbers → ℕ
+hallAnswer f = hallStep (tables f) (program f) (configuration f) (stepWith f) .refused
 
 abbrev pub isLawful : Numbers → Bool
-isLawful f = lentLawful (tables f) (program f) (configuration f) (step f)
+isLawful f = lentLawful (tables f) (program f) (configuration f) (stepWith f)
 
 -- the one number makes it 7
 abbrev pub breaks : Row → Bool
-breaks r = isLawful (but (r .from) (r .name) (r .lawful)) && eqb (answered (but (r .from) (r .name) (r .broken))) limitBroken
+breaks r = isLawful (but (r .from) (r .name) (r .lawful)) && eqb (hallAnswer (but (r .from) (r .name) (r .broken))) limitBroken
 
 unfoldable pub every : List Row → Bool
 every [] = true
@@ -222,4 +222,4 @@ every (r ∷ rs) = breaks r && every rs
 
 -- the base gets its step's answer, and each clause by itself makes it 7
 unfoldable pub ClausesBreak : Type 0
-ClausesBreak = (answered base ≡ 0) × (every rows ≡ true)
+ClausesBreak = (hallAnswer base ≡ 0) × (every clauseRows ≡ true)

@@ -10,7 +10,7 @@ use Rattle.model.specs.declared.Configuration.{Configuration}
 use Rattle.model.specs.declared.Stepped.{Stepped}
 use Rattle.reading.specs.Lawful.{tablesLawful, programLawful, stepLawful}
 use Rattle.rules.specs.Step.{step}
-use Rattle.judged.specs.Course.{default}
+use Rattle.judged.specs.Course.{defaultDepth}
 use Rattle.lawfulness.specs.Lawful.{configurationLawful}
 
 -- hall screen only: the lent tables, configuration or step break a limit
@@ -20,11 +20,11 @@ limitBroken = 7
 -- "tables or program break a sheet's rules (its length aside), the step breaks an answer line's, or the configuration" one of its own
 unfoldable pub lentLawful : Tables → Program → Configuration → Step → Bool
 lentLawful t p c s =
-    tablesLawful t && (programLawful (t .count) p && (stepLawful s && configurationLawful default t p c))
+    tablesLawful t && (programLawful (t .count) p && (stepLawful s && configurationLawful defaultDepth t p c))
 
 -- "it lends its configuration and finds it moved on afterwards, or untouched on a refusal"
 unfoldable pub hallStep : Tables → Program → Configuration → Step → Stepped
-hallStep t p c s = cond (lentLawful t p c s) (step default t p c s) (record { refused = limitBroken; configuration = c })
+hallStep t p c s = cond (lentLawful t p c s) (step defaultDepth t p c s) (record { refused = limitBroken; configuration = c })
 
 -- what the screen promises of a lent configuration c: it answers n and leaves d
 abbrev pub Left : Tables → Program → Configuration → Step → ℕ → Configuration → Type 0

@@ -11,7 +11,7 @@ use Rattle.model.specs.declared.Step.{Step}
 use Rattle.model.specs.declared.Instance.{Instance}
 use Rattle.model.specs.declared.Connection.{Connection}
 use Rattle.model.specs.declared.Configuration.{Configuration}
-use Rattle.model.specs.Empty.{absent, noConnection}
+use Rattle.model.specs.Empty.{absent, noConnection, mostConnections}
 use Rattle.model.specs.View.{instance, connection, slot}
 use Rattle.rules.specs.Instance.{endedBy, withQueued}
 use Rattle.rules.specs.Add.{fresh}
@@ -64,14 +64,14 @@ slots t c (finish i) =
 pub record Holds (d : Configuration) (x : Slots) : Type 0 where
   pub instances : (j : ℕ) → j < 32 → instance d j ≡ x .instances j
   pub queues : (j r : ℕ) → j < 32 → r < 8 → slot d j r ≡ x .queues j r
-  pub connections : (l : ℕ) → l < 64 → connection d l ≡ x .connections l
+  pub connections : (l : ℕ) → l < mostConnections → connection d l ≡ x .connections l
   pub count : d .count ≡ x .count
 
 -- as long as its arrays are
 pub record Whole (c : Configuration) : Type 0 where
   pub instances : length (c .instances) ≡ 32
   pub queue : length (c .queue) ≡ 256
-  pub connections : length (c .connections) ≡ 64
+  pub connections : length (c .connections) ≡ mostConnections
 
 unfoldable pub EverySlot : Type 0
 EverySlot =

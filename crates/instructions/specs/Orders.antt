@@ -6,7 +6,7 @@ use Rattle.model.specs.declared.Tables.{Tables}
 use Rattle.model.specs.declared.Instance.{Instance}
 use Rattle.model.specs.declared.Connection.{Connection}
 use Rattle.model.specs.declared.Configuration.{Configuration}
-use Rattle.model.specs.Empty.{absent}
+use Rattle.model.specs.Empty.{absent, mostConnections}
 use Rattle.model.specs.View.{isUse}
 use Rattle.rules.specs.Refusal.{_⇒_∣_, allowed, idAbsent, idPresent, noSuch, oneInstance, alreadyConnected, noMoreConnections, noSuchConnection, stillConnected, queueFull, queueNotEmpty, usePortActive}
 use Rattle.rules.specs.Instance.{active, withQueued}
@@ -57,7 +57,7 @@ conPlan ports others t c v w k = joining (
     ∣ not (ltb (k .provideport) others && not (isUse t (w .kind) (k .provideport))) ⇒ noSuch
     ∣ eqb (k .user) (k .provider) ⇒ oneInstance
     ∣ someConnection c (isOf (k .user) (k .useport)) ⇒ alreadyConnected
-    ∣ not (ltb (c .count) 64) ⇒ noMoreConnections
+    ∣ not (ltb (c .count) mostConnections) ⇒ noMoreConnections
     ∣ allowed) v (Joins.With k)
 
 abbrev pub dconPlan : Tables → Configuration → Instance → Connection → Plan

@@ -18,7 +18,7 @@ use Rattle.reading.specs.Texts.{sheet, answer}
 use Rattle.reading.proofs.Rests.{StopsAt}
 use Rattle.reading.proofs.Lawful.{sheet-stops, answer-stops}
 use Rattle.rules.specs.Walk.{walkAnswer}
-use Rattle.judged.specs.Course.{Course, faulty, reached, goOn, short, read, default, both, course}
+use Rattle.judged.specs.Course.{Course, faulty, reached, goOn, short, read, defaultDepth, both, course}
 
 -- a text is refused with 1 to 5, or what is reached has P
 data Ends {A : Type 0} (P : A → Type 0) : Course A → Type 0 where
@@ -50,7 +50,7 @@ pub record BothRead (s a : List ℕ) (w : Walked) : Type 0 where
   pub answer-rest : List ℕ
   pub sheet-is : sheet s ≡ on (tables, program) sheet-rest
   pub answer-is : answer a ≡ on steps answer-rest
-  pub walked : w ≡ walkAnswer default tables program steps
+  pub walked : w ≡ walkAnswer defaultDepth tables program steps
 
 -- what the two texts say
 record Said (s a : List ℕ) (x : Tables × Program × Answer) : Type 0 where

@@ -25,7 +25,7 @@ use Rattle.rules.proofs.Proper.{walks-are-proper}
 use Rattle.rules.proofs.Numbers.{Numbered, walk-numbers}
 use Rattle.report.specs.Report.{report}
 use Rattle.report.proofs.Bound.{report-le}
-use Rattle.judged.specs.Course.{Course, faulty, reached, default, course}
+use Rattle.judged.specs.Course.{Course, faulty, reached, defaultDepth, course}
 use Rattle.judged.specs.Judged.{Judgement, afterFault, afterWalk, noRoom, inRoom, ending, judged}
 use Rattle.judged.specs.Room.{ReportsFit, SixNever}
 use Rattle.judged.proofs.Read.{both-read, fault-numbered}
@@ -46,14 +46,14 @@ six-in-room w a room h = go (leb (length (report w)) room) refl
 in-range : {n : ℕ} → Numbered n → (n < 100) × (n ≢ 6)
 in-range {n} h = ⊎-elim (λ e. (omega arith, omega arith)) (λ e. (omega arith, omega arith)) (h .range)
 
-walk-fits : (t : Tables) (p : Program) (y : Answer) → Lawful t p → answerLawful y ≡ true → Fits (walkAnswer default t p y)
+walk-fits : (t : Tables) (p : Program) (y : Answer) → Lawful t p → answerLawful y ≡ true → Fits (walkAnswer defaultDepth t p y)
 unfolding walkAnswer answerLawful WalksAreProper
 walk-fits t p y law e =
     let ss = stepsOf y in
-    let n = walk-numbers default t p ss start in
+    let n = walk-numbers defaultDepth t p ss start in
     let few = leb-true (y .count) 1024 (and-left (stepsOk (y .count)) _ e) in
     let (small, not-six) = in-range (n .refused) in
-    (report-le default t p (walk default t p start ss) (omega arith) law (walks-are-proper default t p ss (omega arith) law) (omega (arith, n .accepted, length-take (y .count) (y .steps))) small, not-six)
+    (report-le defaultDepth t p (walk defaultDepth t p start ss) (omega arith) law (walks-are-proper defaultDepth t p ss (omega arith) law) (omega (arith, n .accepted, length-take (y .count) (y .steps))) small, not-six)
 
 pub read-fits : (s a : List ℕ) (w : Walked) → course s a ≡ reached w → Fits w
 unfolding SheetsAreLawful AnswersAreLawful

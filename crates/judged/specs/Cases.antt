@@ -5,7 +5,7 @@ use mathlib.Core.List.{List, [], _∷_, _++_}
 use mathlib.Core.Path.{_≡_}
 use Rattle.forms.specs.Reader.{bytes}
 use Rattle.forms.specs.Write.{oneText}
-use Rattle.judged.specs.Judged.{judged, printed}
+use Rattle.judged.specs.Judged.{judged, printed, lentBytes}
 
 -- the pair used in examples, then the program
 abbrev pub pair : List ℕ
@@ -28,8 +28,8 @@ nexts zero = []
 nexts (suc n) = bytes "step=next\n" ++ nexts n
 
 -- an answer of k steps: n times `next`, and further steps
-abbrev pub steps : ℕ → ℕ → String → List ℕ
-steps k n further = bytes "answer=1\nsteps=" ++ oneText k ++ nexts n ++ bytes further
+abbrev pub answerWith : ℕ → ℕ → String → List ℕ
+answerWith k n further = bytes "answer=1\nsteps=" ++ oneText k ++ nexts n ++ bytes further
 
 -- what a case must come to: the whole print, or the two counts
 pub data Expected : Type 0 where
@@ -49,23 +49,23 @@ wholeReport = bytes "accepted=13\nrefused=0\nnext=5\ninstances=2\ninstance=0,0,1
 
 abbrev pub table : List Case
 table =
-    case P (steps 13 5 "step=fire,0,0\nstep=end,0,0\nstep=enter,0,1\nstep=fire,1,0\nstep=end,1,0\nstep=enter,1,1\nstep=finish,0\nstep=finish,1\n") (prints wholeReport)
-    ∷ case P (steps 13 5 "step=fire,0,0\nstep=end,0,0\nstep=enter,0,1\nstep=finish,0\nstep=fire,1,0\nstep=end,1,0\nstep=enter,1,1\nstep=finish,1\n") (prints wholeReport)
-    ∷ case P (steps 6 5 "step=fire,1,0\n") (ends 5 34)
-    ∷ case P+ (steps 11 6 "step=fire,0,0\nstep=end,0,0\nstep=enter,0,1\nstep=finish,0\nstep=fire,1,0\n") (ends 10 35)
-    ∷ case P+ (steps 12 6 "step=fire,0,0\nstep=end,0,0\nstep=enter,0,1\nstep=fire,1,0\nstep=finish,0\nstep=fire,0,1\n") (ends 11 36)
-    ∷ case P (steps 6 6 "") (ends 5 10)
-    ∷ case P (steps 6 5 "step=finish,1\n") (ends 5 37)
-    ∷ case P (steps 6 5 "step=fire,2,0\n") (ends 5 11)
-    ∷ case P (steps 6 5 "step=end,0,0\n") (ends 5 31)
-    ∷ case P (steps 6 5 "step=enter,0,1\n") (ends 5 31)
-    ∷ case P (steps 6 5 "step=enter,0,0\n") (ends 5 32)
+    case P (answerWith 13 5 "step=fire,0,0\nstep=end,0,0\nstep=enter,0,1\nstep=fire,1,0\nstep=end,1,0\nstep=enter,1,1\nstep=finish,0\nstep=finish,1\n") (prints wholeReport)
+    ∷ case P (answerWith 13 5 "step=fire,0,0\nstep=end,0,0\nstep=enter,0,1\nstep=finish,0\nstep=fire,1,0\nstep=end,1,0\nstep=enter,1,1\nstep=finish,1\n") (prints wholeReport)
+    ∷ case P (answerWith 6 5 "step=fire,1,0\n") (ends 5 34)
+    ∷ case P+ (answerWith 11 6 "step=fire,0,0\nstep=end,0,0\nstep=enter,0,1\nstep=finish,0\nstep=fire,1,0\n") (ends 10 35)
+    ∷ case P+ (answerWith 12 6 "step=fire,0,0\nstep=end,0,0\nstep=enter,0,1\nstep=fire,1,0\nstep=finish,0\nstep=fire,0,1\n") (ends 11 36)
+    ∷ case P (answerWith 6 6 "") (ends 5 10)
+    ∷ case P (answerWith 6 5 "step=finish,1\n") (ends 5 37)
+    ∷ case P (answerWith 6 5 "step=fire,2,0\n") (ends 5 11)
+    ∷ case P (answerWith 6 5 "step=end,0,0\n") (ends 5 31)
+    ∷ case P (answerWith 6 5 "step=enter,0,1\n") (ends 5 31)
+    ∷ case P (answerWith 6 5 "step=enter,0,0\n") (ends 5 32)
     ∷ []
 
 -- a case is met
 abbrev pub Met : List ℕ → List ℕ → Expected → Type 0
 Met s a (prints r) = printed s a ≡ r
-Met s a (ends n k) = (judged s a 8192 .verdict .accepted ≡ n) × (judged s a 8192 .verdict .refused ≡ k)
+Met s a (ends n k) = (judged s a lentBytes .verdict .accepted ≡ n) × (judged s a lentBytes .verdict .refused ≡ k)
 
 abbrev pub AllMet : List Case → Type 0
 AllMet [] = Unit

@@ -3,6 +3,7 @@ use Prim.Native.Nat.{ℕ, _-_}
 use mathlib.Core.List.{List}
 use mathlib.Core.Bool.{true, false}
 use lib.ListN.{length}
+use Rattle.forms.specs.Refusal.{tooLong}
 use Rattle.model.specs.declared.Text.{Text}
 use Rattle.model.specs.declared.Text.the-variants as text
 use Rattle.model.specs.declared.Tables.{Tables}
@@ -33,15 +34,15 @@ _>>_ m f = goOn m (λ _. f)
 
 -- "a text is too long": 1
 unfoldable pub short : Text → List ℕ → Course (Unit {0})
-short x s = elim (lengthOk (length s)) [ true ↦ reached tt | false ↦ faulty x 1 0 ]
+short x s = elim (lengthOk (length s)) [ true ↦ reached tt | false ↦ faulty x tooLong 0 ]
 
 -- a text's lines, read by m; at a fault the place is that of the line at fault
 unfoldable pub read : {A : Type 0} → Text → Lines A → List ℕ → Course A
 read x m s = elim (m s) [ on a r ↦ reached a | stop n r ↦ faulty x n (length s - length r) ]
 
 -- "0 stands for the default, 4"
-abbrev pub default : ℕ
-default = 4
+abbrev pub defaultDepth : ℕ
+defaultDepth = 4
 
 -- what the two texts say, where both are read
 unfoldable pub both : List ℕ → List ℕ → Course (Tables × Program × Answer)
@@ -55,4 +56,4 @@ both s a = do
 unfoldable pub course : List ℕ → List ℕ → Course Walked
 course s a = do
   (t, p, y) ← both s a
-  reached (walkAnswer default t p y)
+  reached (walkAnswer defaultDepth t p y)

@@ -4,6 +4,7 @@ use mathlib.Core.List.{List, [], _++_}
 use mathlib.Core.Bool.{true, false}
 use lib.Dec.{leb, eqb}
 use lib.ListN.{length, drop}
+use Rattle.forms.specs.Refusal.{tooLong, bufferShort}
 use Rattle.model.specs.declared.Text.{Text}
 use Rattle.model.specs.declared.Text.the-variants as text
 use Rattle.model.specs.declared.Walked.{Walked}
@@ -35,11 +36,11 @@ emptyAt x at = record { text = x; start = at; size = 0 }
 
 -- "`line=` (from 1; one past the last when the text ended early; 0 for number 1)"
 unfoldable pub faultLine : ℕ → ℕ → List ℕ → ℕ
-faultLine n at s = elim (eqb n 1) [ true ↦ 0 | false ↦ lineNumber s at ]
+faultLine n at s = elim (eqb n tooLong) [ true ↦ 0 | false ↦ lineNumber s at ]
 
 -- "for 1, the empty start of that text"
 unfoldable pub faultPlace : Text → ℕ → ℕ → List ℕ → Place
-faultPlace x n at s = elim (eqb n 1) [ true ↦ emptyAt x 0 | false ↦ lineAt x at s ]
+faultPlace x n at s = elim (eqb n tooLong) [ true ↦ emptyAt x 0 | false ↦ lineAt x at s ]
 
 -- "After 1 to 6 the counts in the result are 0 and the report buffer holds its old bytes."
 unfoldable pub afterFault : Text → ℕ → ℕ → List ℕ → Judgement
@@ -52,7 +53,7 @@ afterFault x n at s = record {
 -- "for 6, the empty start of the answer"
 unfoldable pub noRoom : Judgement
 noRoom = record {
-  verdict = record { refused = 6; accepted = 0; next = 0; written = 0; text = text.Neither; line = 0 };
+  verdict = record { refused = bufferShort; accepted = 0; next = 0; written = 0; text = text.Neither; line = 0 };
   bytes = [];
   place = emptyAt text.Answer 0;
 }
@@ -96,10 +97,14 @@ over new old = new ++ drop (length new) old
 abbrev pub buffer : List ℕ → List ℕ → List ℕ → List ℕ
 buffer s a old = over (judged s a (length old) .bytes) old
 
+-- "It lends 8,192 bytes"
+abbrev pub lentBytes : ℕ
+lentBytes = 8192
+
 -- what the `judge` program prints: "It lends 8,192 bytes."
 unfoldable pub printing : List ℕ → List ℕ → Course Walked → List ℕ
 printing s a (faulty x n at) = faultText x (faultLine n at (textOf x s a)) n
-printing s a (reached w) = inRoom 8192 w (report w) a .bytes
+printing s a (reached w) = inRoom lentBytes w (report w) a .bytes
 
 unfoldable pub printed : List ℕ → List ℕ → List ℕ
 printed s a = printing s a (course s a)

@@ -4,19 +4,20 @@ use mathlib.Core.List.{List}
 use mathlib.Core.Path.{_≡_}
 use mathlib.Core.Logic.{_≢_}
 use lib.ListN.{length}
+use Rattle.forms.specs.Refusal.{bufferShort}
 use Rattle.model.specs.declared.Walked.{Walked}
 use Rattle.report.specs.Report.{report}
 use Rattle.judged.specs.Course.{reached, course}
-use Rattle.judged.specs.Judged.{judged}
-use Rattle.judged.specs.Cases.{P, steps}
+use Rattle.judged.specs.Judged.{judged, lentBytes}
+use Rattle.judged.specs.Cases.{P, answerWith}
 
 -- whatever the two texts are: if they are read, the report has room
 unfoldable pub ReportsFit : Type 0
-ReportsFit = (s a : List ℕ) (w : Walked) → course s a ≡ reached w → length (report w) ≤ 8192
+ReportsFit = (s a : List ℕ) (w : Walked) → course s a ≡ reached w → length (report w) ≤ lentBytes
 
 unfoldable pub SixNever : Type 0
-SixNever = (s a : List ℕ) → judged s a 8192 .verdict .refused ≢ 6
+SixNever = (s a : List ℕ) → judged s a lentBytes .verdict .refused ≢ bufferShort
 
 -- "a report that doesn't fit gives 6 in place of the steps' number": that of six `next` on P has 116 bytes, and its last step gets 10
 unfoldable pub SixWhereShort : Type 0
-SixWhereShort = (judged P (steps 6 6 "") 116 .verdict .refused ≡ 10) × (judged P (steps 6 6 "") 115 .verdict .refused ≡ 6)
+SixWhereShort = (judged P (answerWith 6 6 "") 116 .verdict .refused ≡ 10) × (judged P (answerWith 6 6 "") 115 .verdict .refused ≡ 6)

@@ -18,8 +18,8 @@ use Rattle.reading.specs.Texts.{answer}
 use Rattle.rules.specs.Step.{step}
 use Rattle.judged.specs.declared.Verdict.{Verdict}
 use Rattle.judged.specs.declared.Place.{Place}
-use Rattle.judged.specs.Course.{Course, reached, _>>=_, both, default}
-use Rattle.judged.specs.Judged.{Judgement, judged, ending, over, printed}
+use Rattle.judged.specs.Course.{Course, reached, _>>=_, both, defaultDepth}
+use Rattle.judged.specs.Judged.{Judgement, judged, ending, over, printed, lentBytes}
 use Rattle.judged.specs.Once.{Promised}
 
 -- what any judge gives: the verdict, the lent buffer afterwards, the place of the line at fault
@@ -37,7 +37,7 @@ Keeps j s a old = Promised s a old (j s a old .verdict) (j s a old .after) (j s 
 
 -- whatever 8,192 bytes are lent, there are two texts for which the promise isn't kept
 abbrev pub Caught : Judge → Type 0
-Caught j = (old : List ℕ) → length old ≡ 8192 → (s : List ℕ) × (a : List ℕ) × (Keeps j s a old → ⊥)
+Caught j = (old : List ℕ) → length old ≡ lentBytes → (s : List ℕ) × (a : List ℕ) × (Keeps j s a old → ⊥)
 
 abbrev pub given : Judgement → List ℕ → Given
 given j old = record { verdict = j .verdict; after = over (j .bytes) old; place = j .place }
@@ -65,9 +65,9 @@ FixedPrint = (r : List ℕ) → (s : List ℕ) × (a : List ℕ) × (printed s a
 unfoldable pub countOn : Tables → Program → List Step → Walked
 countOn t p [] = record { accepted = 0; refused = 0; configuration = start }
 countOn t p (s ∷ ss) =
-    elim (eqb (step default t p start s .refused) 0) [
-      | true ↦ record { accepted = suc (length ss); refused = 0; configuration = step default t p start s .configuration }
-      | false ↦ record { accepted = 0; refused = step default t p start s .refused; configuration = start }
+    elim (eqb (step defaultDepth t p start s .refused) 0) [
+      | true ↦ record { accepted = suc (length ss); refused = 0; configuration = step defaultDepth t p start s .configuration }
+      | false ↦ record { accepted = 0; refused = step defaultDepth t p start s .refused; configuration = start }
     ]
 
 unfoldable pub countingCourse : List ℕ → List ℕ → Course Walked

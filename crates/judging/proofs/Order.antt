@@ -32,7 +32,7 @@ use Rattle.sheets.specs.declared.Sheet.{Sheet}
 use Rattle.sheets.specs.Sheet.{answered as sheetAnswered, sheetRead}
 use Rattle.answers.specs.declared.AnswerRead.{AnswerRead}
 use Rattle.answers.specs.Answer.{answered as answerAnswered, answerRead}
-use Rattle.judged.specs.Course.{Course, faulty, reached, goOn, short, read, default, both, course}
+use Rattle.judged.specs.Course.{Course, faulty, reached, goOn, short, read, defaultDepth, both, course}
 use Rattle.judged.specs.Judged.{faultLine}
 use Rattle.judged.proofs.Read.{both-read}
 use Rattle.judging.specs.declared.pairs.Outcome.{Outcome}
@@ -117,7 +117,7 @@ module _ (s a : List ℕ) where
     outcome-comes e f = rw (is, also) (h s a (rw is at e) (rw also at f))
 
   -- the course goes on with the walk of what they say
-  pub outcome-walks : (o : Outcome) (t : Tables) (p : Program) (y : Answer) {w : Walked} → came o (t, p, y) ≡ both s a → w ≡ walkAnswer default t p y → came o w ≡ course s a
+  pub outcome-walks : (o : Outcome) (t : Tables) (p : Program) (y : Answer) {w : Walked} → came o (t, p, y) ≡ both s a → w ≡ walkAnswer defaultDepth t p y → came o w ≡ course s a
   unfolding course
   outcome-walks (InSheet n at) t p y e f = rw (← e)
   outcome-walks (InAnswer n at) t p y e f = rw (← e)
@@ -131,7 +131,7 @@ unfolding walkAnswer answerLawful AnswersAreLawful
 walked-numbers s a w e =
     let b = both-read s a w e in
     let y = b .steps in
-    let n = walk-numbers default (b .tables) (b .program) (stepsOf y) start in
+    let n = walk-numbers defaultDepth (b .tables) (b .program) (stepsOf y) start in
     let few = leb-true (y .count) 1024 (and-left (stepsOk (y .count)) _ (answers-are-lawful a _ _ (b .answer-is))) in
     rw (b .walked) (record { refused = n .refused; accepted = omega (arith, n .accepted, few, length-take (y .count) (y .steps)) })
 

@@ -5,21 +5,21 @@ use mathlib.Core.Bool.{Bool, true, false, not}
 use Prim.Native.Nat.{ℕ, _+_, _≤_, _<_}
 use native.Mathlib.Omega.{arith}
 use borrow.Author.Tests.{not-true, not-false}
-use Rattle.sets.specs.Test.{all}
+use Rattle.sets.specs.Test.{allBelow}
 use Rattle.sets.proofs.Laws.{all-start, all-more, all-miss, all-end}
 
 abbrev pub Passed : ℕ → (ℕ → Bool) → ℕ → Type 0
-Passed n test i = (i ≤ n) × (all i test ≡ true)
+Passed n test i = (i ≤ n) × (allBelow i test ≡ true)
 
 module _ (n : ℕ) (test : ℕ → Bool) where
   pub none-yet : Passed n test 0
   none-yet = (omega arith, all-start test)
 
-  pub all-passed : (i : ℕ) → Passed n test i → n ≤ i → true ≡ all n test
+  pub all-passed : (i : ℕ) → Passed n test i → n ≤ i → true ≡ allBelow n test
   all-passed i h l = sym (all-end n i test (h .0) l (h .1))
 
   module _ (i : ℕ) (r : Bool) (l : i < n) (is : r ≡ test i) where
-    pub one-fails : not r ≡ true → false ≡ all n test
+    pub one-fails : not r ≡ true → false ≡ allBelow n test
     one-fails e = sym (all-miss n test i l (sym is ∙ not-true r e))
 
     pub one-more : Passed n test i → not r ≡ false → Passed n test (i + 1)

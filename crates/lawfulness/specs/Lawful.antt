@@ -3,7 +3,8 @@
 use Prim.Native.Nat.{ℕ}
 use mathlib.Core.Bool.{Bool, not, _&&_, _||_}
 use lib.Dec.{eqb, leb}
-use Rattle.sets.specs.Test.{all, any}
+use Rattle.sets.specs.Test.{allBelow, anyBelow}
+use Rattle.model.specs.Empty.{mostConnections}
 use Rattle.model.specs.declared.ComponentType.{ComponentType}
 use Rattle.model.specs.declared.Tables.{Tables}
 use Rattle.model.specs.declared.Program.{Program}
@@ -29,14 +30,14 @@ numbersLawful default t c i =
     && (maskOk (typeOf t (instance c i .kind) .transitions) (instance c i .running)
     && (maskOk (typeOf t (instance c i .kind) .transitions) (instance c i .ended)
     && (leb (instance c i .queued) (depthOf default t)
-    && all (instance c i .queued) (queuedLawful t c i)))))
+    && allBelow (instance c i .queued) (queuedLawful t c i)))))
 
 unfoldable pub instanceLawful : ℕ → Tables → Configuration → ℕ → Bool
 instanceLawful default t c i = not (instance c i .present) || numbersLawful default t c i
 
 -- "a use port already connected": one of the first l connections is of the same use port
 unfoldable pub connectedBefore : Configuration → Connection → ℕ → Bool
-connectedBefore c k l = any l (λ m. isOf (k .user) (k .useport) (connection c m))
+connectedBefore c k l = anyBelow l (λ m. isOf (k .user) (k .useport) (connection c m))
 
 -- "one with an absent end, a wrong port, a single instance at both ends"
 unfoldable pub endsLawful : Tables → Configuration → Connection → Bool
@@ -52,9 +53,9 @@ connectionLawful t c l = endsLawful t c (connection c l) && not (connectedBefore
 
 -- "over 64 connections"
 unfoldable pub connectionsLawful : Tables → Configuration → Bool
-connectionsLawful t c = leb (c .count) 64 && all (c .count) (connectionLawful t c)
+connectionsLawful t c = leb (c .count) mostConnections && allBelow (c .count) (connectionLawful t c)
 
 -- "more instructions done than the program has"
 unfoldable pub configurationLawful : ℕ → Tables → Program → Configuration → Bool
 configurationLawful default t p c =
-    all 32 (instanceLawful default t c) && (leb (c .done) (p .count) && connectionsLawful t c)
+    allBelow 32 (instanceLawful default t c) && (leb (c .done) (p .count) && connectionsLawful t c)

@@ -15,7 +15,7 @@ use model::wide;
 ghost use mathlib.Core.Path.{_≡_};
 ghost use Prim.Native.Nat.{_≤_};
 ghost use lib.Dec.{ltb};
-ghost use Rattle.sets.specs.Test.{all};
+ghost use Rattle.sets.specs.Test.{allBelow};
 ghost use Rattle.rules.specs.Instance.{portsOf};
 ghost use Rattle.lawfulness.specs.Lent.{queuedLent};
 ghost use Rattle.lawfulness.specs.Lawful.{numbersLawful, instanceLawful, connectedBefore, endsLawful, connectionLawful, connectionsLawful};
@@ -28,7 +28,7 @@ fn queued_lawful(queue: &[u8; 256], v: ComponentType, i: u8, r: u8) -> bool
 
 // The first n slots alone: what a queue had before is not looked at.
 fn queue_lawful(queue: &[u8; 256], v: ComponentType, i: u8, n: u8) -> bool
-    ensures { λ b. ⌜ b ≡ all n (queuedLent (now (queue .entry)) v i) ⌝ }
+    ensures { λ b. ⌜ b ≡ allBelow n (queuedLent (now (queue .entry)) v i) ⌝ }
 {
     let mut r: u8 = 0;
     while r < n {
@@ -61,7 +61,7 @@ fn instance_lawful(default: u8, t: Tables, c: Configuration, i: u8) -> bool
 }
 
 pub fn instances_lawful(default: u8, t: Tables, c: Configuration) -> bool
-    ensures { λ r. ⌜ r ≡ all 32 (instanceLawful default t c) ⌝ }
+    ensures { λ r. ⌜ r ≡ allBelow 32 (instanceLawful default t c) ⌝ }
 {
     let mut i: u8 = 0;
     while i < 32 {

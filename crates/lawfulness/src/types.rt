@@ -7,7 +7,7 @@ use model::type_of;
 use model::wide;
 use sets::overlaps;
 ghost use mathlib.Core.Path.{_≡_};
-ghost use Rattle.sets.specs.Test.{all};
+ghost use Rattle.sets.specs.Test.{allBelow};
 ghost use Rattle.reading.specs.Limits.{maskOk};
 ghost use Rattle.reading.specs.Lawful.{typeLawful};
 ghost use Rattle.lawfulness.specs.Lent.{transitionLent, behaviorLent, portLent};
@@ -41,7 +41,7 @@ fn transitions_lawful<'a>(
     v: ComponentType,
     i: u8,
 ) -> bool
-    ensures { λ r. ⌜ r ≡ all (v .transitions) (transitionLent (now (source .entry)) (now (destination .entry)) v i) ⌝ }
+    ensures { λ r. ⌜ r ≡ allBelow (v .transitions) (transitionLent (now (source .entry)) (now (destination .entry)) v i) ⌝ }
 {
     let n = v.transitions;
     let mut x: u8 = 0;
@@ -61,7 +61,7 @@ fn behavior_lawful(behaviors: &[u32; 128], v: ComponentType, i: u8, b: u8) -> bo
 }
 
 fn behaviors_lawful(behaviors: &[u32; 128], v: ComponentType, i: u8) -> bool
-    ensures { λ r. ⌜ r ≡ all (v .behaviors) (behaviorLent (now (behaviors .entry)) v i) ⌝ }
+    ensures { λ r. ⌜ r ≡ allBelow (v .behaviors) (behaviorLent (now (behaviors .entry)) v i) ⌝ }
 {
     let n = v.behaviors;
     let mut b: u8 = 0;
@@ -100,7 +100,7 @@ fn ports_lawful<'a>(
     v: ComponentType,
     i: u8,
 ) -> bool
-    ensures { λ r. ⌜ r ≡ all (v .ports) (portLent (now (uses .entry)) (now (places .entry)) (now (transitions .entry)) v i) ⌝ }
+    ensures { λ r. ⌜ r ≡ allBelow (v .ports) (portLent (now (uses .entry)) (now (places .entry)) (now (transitions .entry)) v i) ⌝ }
 {
     let n = v.ports;
     let mut q: u8 = 0;
@@ -130,7 +130,7 @@ fn type_lawful(t: Tables, i: u8) -> bool
 }
 
 pub fn types_lawful(t: Tables) -> bool
-    ensures { λ r. ⌜ r ≡ all (t .count) (typeLawful t) ⌝ }
+    ensures { λ r. ⌜ r ≡ allBelow (t .count) (typeLawful t) ⌝ }
 {
     let n = t.count;
     let mut i: u8 = 0;

@@ -9,7 +9,7 @@ use lib.Dec.{leb, leb·zero}
 use lib.ListN.{length, take, drop, length-drop, drop-of-length-le}
 use lib.Seq.{take-all, drop-drop, drop-cons}
 use Rattle.forms.specs.Reader.{Reply, Reader}
-use Rattle.reading.specs.Limits.{digits}
+use Rattle.reading.specs.Limits.{fiveDigits}
 use Rattle.reading.specs.Kinds.{countLineIn, countLine}
 use Rattle.reading.specs.Lines.{on, stop, atEnd}
 use Rattle.texts.specs.Reads.{Outcome, past, fault, Reads}
@@ -17,7 +17,7 @@ use Rattle.texts.proofs.Laws.{from-end, told}
 use Rattle.lines.specs.declared.Limit.{Limit}
 use Rattle.lines.specs.declared.Limit.the-variants as limit
 use Rattle.lines.specs.declared.Line.{Line}
-use Rattle.lines.specs.Counts.{limitOk, least, greatest, between, CountsIn, Counts}
+use Rattle.lines.specs.Counts.{limitOk, least, greatest, inRange, CountsIn, Counts}
 
 -- ---- a line read at the part of s from start on
 -- the outcome's place, counted from the text's start
@@ -52,10 +52,10 @@ module _ {A R : Type 0} (says : R → Outcome A) (m : Reader A) (s : List ℕ) (
       rw (same-rest s at start e) at (moved s start l (says v) (told says v (rw (rest-is start s) at h) q))
 
 -- ---- a count's limit
-from-none : (b a : ℕ) → leb a b ≡ between 0 b a
+from-none : (b a : ℕ) → leb a b ≡ inRange 0 b a
 from-none b a = rw (leb·zero a)
 
-limit-is : (l : Limit) (a : ℕ) → limitOk l a ≡ between (least l) (greatest l) a
+limit-is : (l : Limit) (a : ℕ) → limitOk l a ≡ inRange (least l) (greatest l) a
 limit-is limit.Depth a = from-none 8 a
 limit-is limit.Types a = refl
 limit-is limit.Places a = refl
@@ -66,11 +66,11 @@ limit-is limit.Program a = from-none 256 a
 limit-is limit.Steps a = from-none 1024 a
 
 -- a count line by the numbers that its limit lies between
-pub count-to : (d b : ℕ) (k s : List ℕ) → countLineIn d k (λ a. leb a b) s ≡ countLineIn d k (between 0 b) s
+pub count-to : (d b : ℕ) (k s : List ℕ) → countLineIn d k (λ a. leb a b) s ≡ countLineIn d k (inRange 0 b) s
 count-to d b k s = ap (λ (f : ℕ → Bool). countLineIn d k f s) (fun-ext (from-none b))
 
 pub count-limit : (l : Limit) (k t : List ℕ) {s : List ℕ} {a b : ℕ} {r : Line} → a ≡ least l → b ≡ greatest l
-    → CountsIn s a b r (countLineIn digits k (between a b) t) → Counts s l r (countLine k (limitOk l) t)
+    → CountsIn s a b r (countLineIn fiveDigits k (inRange a b) t) → Counts s l r (countLine k (limitOk l) t)
 count-limit l k t e f h = rw (fun-ext (limit-is l)) (rw (e, f) at h)
 
 -- ---- the end of the text

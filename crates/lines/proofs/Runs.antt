@@ -8,7 +8,7 @@ use native.Mathlib.Omega.{arith}
 use lib.ListN.{length, drop, length-drop}
 use lib.Seq.{drop-drop}
 use Rattle.forms.specs.Reader.{Reply, Reader}
-use Rattle.reading.specs.Lines.{Run, Lines, on, stop, next, give, lineOf, line, each}
+use Rattle.reading.specs.Lines.{Run, Lines, on, stop, runOn, handOn, lineOf, line, each}
 use Rattle.texts.specs.Reads.{Outcome, past, fault, refusal, Reads}
 use Rattle.texts.proofs.Laws.{told}
 use Rattle.lines.specs.declared.Went.{Went}
@@ -25,16 +25,16 @@ went-on h e = record { within = h; same = sym e }
 
 -- ---- a line, of which x was replied at the text t, then f
 module _ {A B : Type 0} (x : Reply A) (t : List ℕ) (f : A → Lines B) {s : List ℕ} {b : B} where
-  pub line-refused : {k at : ℕ} → at ≤ length s → drop at s ≡ t → Reads s (fault k) x → RunsTo s (Stop k) at b (next (lineOf x t) f)
+  pub line-refused : {k at : ℕ} → at ≤ length s → drop at s ≡ t → Reads s (fault k) x → RunsTo s (Stop k) at b (runOn (lineOf x t) f)
   line-refused h e r = stopped h (rw (sym (r .same), e))
 
-  pub line-then : {a : A} {n : ℕ} {w : Went} {at : ℕ} → Reads s (past a n) x → RunsTo s w at b (f a (drop n s)) → RunsTo s w at b (next (lineOf x t) f)
+  pub line-then : {a : A} {n : ℕ} {w : Went} {at : ℕ} → Reads s (past a n) x → RunsTo s w at b (f a (drop n s)) → RunsTo s w at b (runOn (lineOf x t) f)
   line-then r l = rw (sym (r .same)) l
 
 -- the same of an answer r to the text from the place start on, which is v, and whose number is n
 module _ {A B R : Type 0} (says : R → Outcome A) (x : Reply A) (f : A → Lines B) (s : List ℕ) (start at : ℕ) {b : B} {r : R} (v : R) where
   pub head-refused : {n k : ℕ} → at ≡ min start (length s) → Reads s (says r) x → r ≡ v → says v ≡ fault k → n ≡ refusal (says r)
-      → RunsTo s (Stop n) at b (next (lineOf x (drop start s)) f)
+      → RunsTo s (Stop n) at b (runOn (lineOf x (drop start s)) f)
   head-refused e h q g p =
       rw (p ∙ ap (λ (y : R). refusal (says y)) q ∙ ap refusal g)
       (line-refused x (drop start s) f (omega arith) (same-rest s start at e) (rw g at (told says v h q)))
@@ -48,10 +48,10 @@ module _ {A : Type 0} {s : List ℕ} {w : Went} {at : ℕ} {a : A} {m : Run A} (
   run-stop e = sym (r .same) ∙ ap (λ (v : Went). run v a (drop at s)) e
 
 module _ {A B : Type 0} (m : Run A) (f : A → Lines B) {s : List ℕ} {w : Went} {at : ℕ} {a : A} {b : B} (r : RunsTo s w at a m) where
-  pub run-refused : {k : ℕ} → w ≡ Stop k → RunsTo s w at b (next m f)
+  pub run-refused : {k : ℕ} → w ≡ Stop k → RunsTo s w at b (runOn m f)
   run-refused e = rw e (stopped (r .within) (rw (run-stop r e)))
 
-  pub run-then : {v : Went} {to : ℕ} → w ≡ On → RunsTo s v to b (f a (drop at s)) → RunsTo s v to b (next m f)
+  pub run-then : {v : Went} {to : ℕ} → w ≡ On → RunsTo s v to b (f a (drop at s)) → RunsTo s v to b (runOn m f)
   run-then e l = rw (run-on r e) l
 
 -- the end of the text, of which w was answered
@@ -102,7 +102,7 @@ module _ {A : Type 0} (f : ℕ → A → Lines A) (n base : ℕ) (old : A) (s : 
 
 -- ---- the same where each line m gives a value that is put into a slot
 abbrev pub filling : {A B : Type 0} → Reader A → (B → ℕ → A → B) → ℕ → B → Lines B
-filling m put j b = λ s. next (line m s) (λ x. give (put b j x))
+filling m put j b = λ s. runOn (line m s) (λ x. handOn (put b j x))
 
 module _ {A B R : Type 0} (says : R → Outcome A) (m : Reader A) (put : B → ℕ → A → B) (n base : ℕ) (old : B) (s : List ℕ) (start : ℕ)
     {i at : ℕ} {b : B} (h : Upto (filling m put) n base old s start i at b) (l : i < n) (j : ℕ) (q : j ≡ base + i)
@@ -119,25 +119,25 @@ module _ {A B R : Type 0} (says : R → Outcome A) (m : Reader A) (put : B → �
       (upto-stop (filling m put) n base old s start h l j q {b = b} (stopped (h .within) (rw (sym (t .same)))) refl)
 
 -- ---- runs one after the other: by what follows, from the left or from the right, and as many of them seen through h
-pub next-same : {A B : Type 0} (x : Run A) (f g : A → Lines B) → ((a : A) (r : List ℕ) → f a r ≡ g a r) → next x f ≡ next x g
+pub next-same : {A B : Type 0} (x : Run A) (f g : A → Lines B) → ((a : A) (r : List ℕ) → f a r ≡ g a r) → runOn x f ≡ runOn x g
 next-same (on a r) f g h = h a r
 next-same (stop n r) f g h = refl
 
-pub next-next : {A B C : Type 0} (x : Run A) (f : A → Lines B) (g : B → Lines C) → next (next x f) g ≡ next x (λ a r. next (f a r) g)
+pub next-next : {A B C : Type 0} (x : Run A) (f : A → Lines B) (g : B → Lines C) → runOn (runOn x f) g ≡ runOn x (λ a r. runOn (f a r) g)
 next-next (on a r) f g = refl
 next-next (stop n r) f g = refl
 
 module _ {A B : Type 0} (h : A → B) where
-  pub run-seen : {s : List ℕ} (w : Went) {at : ℕ} {a : A} {m : Run A} → RunsTo s w at a m → RunsTo s w at (h a) (next m (λ x. give (h x)))
+  pub run-seen : {s : List ℕ} (w : Went) {at : ℕ} {a : A} {m : Run A} → RunsTo s w at a m → RunsTo s w at (h a) (runOn m (λ x. handOn (h x)))
   run-seen On r = went-on (r .within) (rw (sym (r .same)))
   run-seen (Stop k) r = stopped (r .within) (rw (sym (r .same)))
 
-  module _ (f : ℕ → A → Lines A) (g : ℕ → B → Lines B) (same : (j : ℕ) (a : A) (s : List ℕ) → g j (h a) s ≡ next (f j a s) (λ x. give (h x))) where
-    pub each-seen : (n j : ℕ) (a : A) (s : List ℕ) → each g n j (h a) s ≡ next (each f n j a s) (λ x. give (h x))
+  module _ (f : ℕ → A → Lines A) (g : ℕ → B → Lines B) (same : (j : ℕ) (a : A) (s : List ℕ) → g j (h a) s ≡ runOn (f j a s) (λ x. handOn (h x))) where
+    pub each-seen : (n j : ℕ) (a : A) (s : List ℕ) → each g n j (h a) s ≡ runOn (each f n j a s) (λ x. handOn (h x))
     unfolding each
     each-seen zero j a s = refl
     each-seen (suc n) j a s =
-        ap (λ (x : Run B). next x (λ b. each g n (suc j) b)) (same j a s)
+        ap (λ (x : Run B). runOn x (λ b. each g n (suc j) b)) (same j a s)
         ∙ next-next (f j a s) _ _
         ∙ next-same (f j a s) _ _ (λ b r. each-seen n (suc j) b r)
         ∙ sym (next-next (f j a s) _ _)

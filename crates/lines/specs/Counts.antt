@@ -43,8 +43,8 @@ greatest limit.Program = 256
 greatest limit.Steps = 1024
 
 -- a number from a to b
-abbrev pub between : ℕ → ℕ → ℕ → Bool
-between a b n = leb a n && leb n b
+abbrev pub inRange : ℕ → ℕ → ℕ → Bool
+inRange a b n = leb a n && leb n b
 
 abbrev pub lineSays : Line → Outcome ℕ
 lineSays (line.Got a n) = past a n

@@ -10,7 +10,7 @@ ghost use Rattle.texts.specs.Says.{most, dueSays};
 ghost use Rattle.reading.specs.Kinds.{dueLine, countLineIn, countLine};
 ghost use Rattle.reading.specs.Lines.{atEnd};
 ghost use Rattle.reading.specs.Place.{upToLf, lineNumber, lineStart};
-ghost use Rattle.lines.specs.Counts.{lineSays, limitOk, least, greatest, between, CountsIn, Counts};
+ghost use Rattle.lines.specs.Counts.{lineSays, limitOk, least, greatest, inRange, CountsIn, Counts};
 ghost use Rattle.lines.specs.Runs.{run, refusalOf};
 
 // "Each text has at most 32,768 bytes."
@@ -85,7 +85,7 @@ fn greatest(limit: Limit) -> u32
 
 // The line of a key and a number from the least to the greatest.
 fn within_line(s: &[u8], key: &[u8], digits: Digits, least: u32, greatest: u32) -> Line
-    ensures { λ r. ⌜ CountsIn (now (s .entry)) least greatest r (countLineIn (most digits) (now (key .entry)) (between least greatest) (now (s .entry))) ⌝ }
+    ensures { λ r. ⌜ CountsIn (now (s .entry)) least greatest r (countLineIn (most digits) (now (key .entry)) (inRange least greatest) (now (s .entry))) ⌝ }
 {
     let Number::Got(a, used) = texts::number_line(s, key, digits) else {
         return Line::Refused(2);
@@ -119,7 +119,7 @@ pub fn within_at(
     least: u32,
     greatest: u32,
 ) -> Line
-    ensures { λ r. ⌜ CountsIn (now (text .entry)) least greatest r (countLineIn (most digits) (now (key .entry)) (between least greatest) (drop at (now (text .entry)))) ⌝ }
+    ensures { λ r. ⌜ CountsIn (now (text .entry)) least greatest r (countLineIn (most digits) (now (key .entry)) (inRange least greatest) (drop at (now (text .entry)))) ⌝ }
 {
     let start = texts::place_in(text, at);
     let line = within_line(&text[start..], key, digits, least, greatest);

@@ -1,5 +1,6 @@
 -- What stands in a slot that nothing was written to, and the tables, program, answer and configuration with nothing in them.
 use mathlib.Core.Bool.{false}
+use Prim.Native.Nat.{ℕ}
 use lib.ListN.{replicate}
 use Rattle.model.specs.declared.ComponentType.{ComponentType}
 use Rattle.model.specs.declared.Tables.{Tables}
@@ -42,6 +43,10 @@ noProgram = record { instructions = replicate 256 noInstruction; count = 0 }
 unfoldable pub noAnswer : Answer
 noAnswer = record { steps = replicate 1024 noStep; count = 0 }
 
+-- "fewer than 64 connections now"
+abbrev pub mostConnections : ℕ
+mostConnections = 64
+
 -- where every walk starts
 unfoldable pub start : Configuration
-start = record { instances = replicate 32 absent; queue = replicate 256 0; connections = replicate 64 noConnection; count = 0; done = 0 }
+start = record { instances = replicate 32 absent; queue = replicate 256 0; connections = replicate mostConnections noConnection; count = 0; done = 0 }

@@ -52,8 +52,8 @@ connection c l = getD (c .connections) l noConnection
 abbrev pub slot : Configuration → ℕ → ℕ → ℕ
 slot c i r = getD (c .queue) (i * 8 + r) 0
 
-abbrev pub head : Configuration → ℕ → ℕ
-head c i = slot c i 0
+abbrev pub queueHead : Configuration → ℕ → ℕ
+queueHead c i = slot c i 0
 
 -- f 0, f 1, .., n of them
 unfoldable pub listOf : {A : Type 0} → ℕ → (ℕ → A) → List A

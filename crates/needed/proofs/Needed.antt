@@ -18,17 +18,17 @@ use Rattle.model.specs.declared.Configuration.{Configuration}
 use Rattle.model.specs.declared.Stepped.{Stepped}
 use Rattle.model.specs.declared.Walked.{Walked}
 use Rattle.sets.specs.Mask.{member, collect}
-use Rattle.sets.specs.Test.{all, any}
+use Rattle.sets.specs.Test.{allBelow, anyBelow}
 use Rattle.model.specs.Empty.{noTables, noProgram, noAnswer, start}
 use Rattle.model.specs.View.{listOf, queueOf, put, withQueue, withConnections, withDone}
 use Rattle.forms.specs.Reader.{byte}
-use Rattle.forms.specs.Read.{key, digit, numberFrom, membersFrom, list, one, two, four, set, sets}
+use Rattle.forms.specs.Read.{key, digit, numberFrom, membersFrom, list, oneForm, twoForm, fourForm, listForm, listsForm}
 use Rattle.forms.specs.Write.{digitsIn, numberText, membersBelow, moreText, listText, maskText, inTurn, oneText}
 use Rattle.reading.specs.Fill.{headed, withType, withTransition, withPort, programOf, withInstruction, answerOf, withStep}
 use Rattle.reading.specs.Kinds.{dueLine, countLineIn, initialLine, tranLine, behaviorLine, group, portLine, doId, doNumber, doEnds, doLine, stepId, stepNumber, stepLine}
 use Rattle.reading.specs.Lines.{each}
-use Rattle.reading.specs.Texts.{tran, behavior, port, type, instruct, sheet, stepAt, answer}
-use Rattle.rules.specs.Action.{instruction, move, checkBy, check, effect}
+use Rattle.reading.specs.Texts.{tranAt, behaviorAt, portAt, typeLines, instructionAt, sheet, stepAt, answer}
+use Rattle.rules.specs.Action.{instructionAction, moveAction, checkBy, actionCheck, effect}
 use Rattle.rules.specs.Add.{addCheck, added}
 use Rattle.rules.specs.Closing.{down, closed, zeroed, renewed}
 use Rattle.rules.specs.Con.{isOf, isUsePort, isProvidePort, conCheck, connected}
@@ -39,7 +39,7 @@ use Rattle.rules.specs.Fire.{fireRow, fireCheckBy, fireCheck, fireTo}
 use Rattle.rules.specs.Instance.{active, current, endsAt, leaving, entering, fired, endedBy, entered, withQueued}
 use Rattle.rules.specs.Ports.{someConnection, wouldLeave, refusing, serves, blocks, employs, failsUnserved, failsRefusing, failsInUse, PortCheck, portCheck}
 use Rattle.rules.specs.PushB.{pushbCheck, pushed}
-use Rattle.rules.specs.Step.{line, action, numberBy, number, after, step}
+use Rattle.rules.specs.Step.{actionAt, action, numberBy, stepCheck, stepTo, step}
 use Rattle.rules.specs.Wait.{waitCheck}
 use Rattle.rules.specs.Walk.{oneMore, walkBy, walk, walkAnswer}
 use Rattle.report.specs.Report.{tally, countText, instanceText, instanceAt, connectionAt, instancesText, connectionsText, report}
@@ -53,7 +53,7 @@ use Rattle.rules.specs.Instance.{portsOf}
 use Rattle.judged.specs.Cases.{P+}
 use Rattle.demands.specs.Agree.{names, deeds, naming}
 use Rattle.demands.specs.Exchange.{between}
-use Rattle.demands.specs.OnTexts.{tablesIn, programIn, stepsIn, AllAllowed}
+use Rattle.demands.specs.OnTexts.{sheetTables, sheetProgram, answerSteps, AllAllowed}
 use Rattle.demands.specs.Safe.{Safe}
 use Rattle.needed.specs.Needed.{Variant, portCheckBy, variantStep, variantWalk, asRuled, AsRuledIsTheRule, walkedBy, withoutInUse, leftInUse, endedNotHeld, leftAfterEnd, isWait, withoutWaits, addWait, onward, Unsafe, InUseIsNeeded, EndedHeldIsNeeded, WaitIsNeeded, TokensAloneIsNeeded}
 
@@ -65,11 +65,11 @@ port-check-as-ruled t c i v w = refl
 
 -- so the two step and walk alike
 step-as-ruled : (default : ℕ) (t : Tables) (p : Program) → variantStep asRuled default t p ≡ step default t p
-unfolding step number check fireCheck enterCheck
+unfolding step stepCheck actionCheck fireCheck enterCheck
 step-as-ruled default t p = ap by (λ i t c j v w. port-check-as-ruled t c j v w i)
   where
     by : PortCheck → Configuration → Step → Stepped
-    by x c s = settle (numberBy (checkBy (fireCheckBy x t c) (enterCheckBy x t c) default t c) p c s) c (after t p c s)
+    by x c s = settle (numberBy (checkBy (fireCheckBy x t c) (enterCheckBy x t c) default t c) p c s) c (stepTo t p c s)
 
 walk-as-ruled : (default : ℕ) (t : Tables) (p : Program) (c : Configuration) (ss : List Step) → variantWalk asRuled default t p c ss ≡ walk default t p c ss
 unfolding walk
@@ -86,13 +86,13 @@ record Leaves (x : Variant) (a : List ℕ) : Type 0 where
   ruled : walkedBy asRuled P+ a .refused ≡ serviceInUse
   allows : walkedBy x P+ a .refused ≡ 0
   present : instance (walkedBy x P+ a .configuration) 1 .present ≡ true
-  port : ltb 0 (portsOf (tablesIn P+) (instance (walkedBy x P+ a .configuration) 1)) ≡ true
-  fails : failsUnserved (tablesIn P+) (walkedBy x P+ a .configuration) 1 (instance (walkedBy x P+ a .configuration) 1) 0 ≡ true
+  port : ltb 0 (portsOf (sheetTables P+) (instance (walkedBy x P+ a .configuration) 1)) ≡ true
+  fails : failsUnserved (sheetTables P+) (walkedBy x P+ a .configuration) 1 (instance (walkedBy x P+ a .configuration) 1) 0 ≡ true
 
 -- so many times `next` on the sheet addWait are allowed, carry this out, and print `accepted=` and this digit
 record Waits (n : ℕ) (did : List Action) (digit : ℕ) : Type 0 where
   allows : AllAllowed addWait (onward n)
-  does : deeds (programIn addWait) 0 (stepsIn (onward n)) ≡ did
+  does : deeds (sheetProgram addWait) 0 (answerSteps (onward n)) ≡ did
   prints : getD (printed addWait (onward n)) 9 0 ≡ digit
 
 record Computed : Type 0 where
@@ -103,7 +103,7 @@ record Computed : Type 0 where
   tokens : TokensAloneIsNeeded
 
 computed : Computed
-unfolding member collect all any noTables noProgram noAnswer start listOf queueOf put withQueue withConnections withDone key digit numberFrom membersFrom list one two four set sets digitsIn numberText membersBelow moreText listText maskText inTurn oneText headed withType withTransition withPort programOf withInstruction answerOf withStep dueLine countLineIn initialLine tranLine behaviorLine group portLine doId doNumber doEnds doLine stepId stepNumber stepLine each tran behavior port type instruct sheet stepAt answer instruction move check effect addCheck added down closed zeroed renewed isOf isUsePort isProvidePort conCheck connected endCheck endTo enterRow enterTo mayLeave finishRow finishCheck finished fireRow fireTo active current endsAt leaving entering fired endedBy entered withQueued someConnection wouldLeave refusing serves blocks employs failsUnserved failsRefusing failsInUse portCheck pushbCheck pushed line action number after step waitCheck oneMore walk walkAnswer tally countText instanceText instanceAt connectionAt instancesText connectionsText report nexts short read both course afterWalk inRoom ending judged printing printed deeds between portCheckBy tablesIn programIn stepsIn TokensAloneIsNeeded
+unfolding member collect allBelow anyBelow noTables noProgram noAnswer start listOf queueOf put withQueue withConnections withDone key digit numberFrom membersFrom list oneForm twoForm fourForm listForm listsForm digitsIn numberText membersBelow moreText listText maskText inTurn oneText headed withType withTransition withPort programOf withInstruction answerOf withStep dueLine countLineIn initialLine tranLine behaviorLine group portLine doId doNumber doEnds doLine stepId stepNumber stepLine each tranAt behaviorAt portAt typeLines instructionAt sheet stepAt answer instructionAction moveAction actionCheck effect addCheck added down closed zeroed renewed isOf isUsePort isProvidePort conCheck connected endCheck endTo enterRow enterTo mayLeave finishRow finishCheck finished fireRow fireTo active current endsAt leaving entering fired endedBy entered withQueued someConnection wouldLeave refusing serves blocks employs failsUnserved failsRefusing failsInUse portCheck pushbCheck pushed actionAt action stepCheck stepTo step waitCheck oneMore walk walkAnswer tally countText instanceText instanceAt connectionAt instancesText connectionsText report nexts short read both course afterWalk inRoom ending judged printing printed deeds between portCheckBy sheetTables sheetProgram answerSteps TokensAloneIsNeeded
 computed = record {
   in-use = record { ruled = refl; allows = refl; present = refl; port = refl; fails = refl };
   ended = record { ruled = refl; allows = refl; present = refl; port = refl; fails = refl };

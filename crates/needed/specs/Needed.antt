@@ -6,7 +6,7 @@ use mathlib.Core.Path.{_≡_}
 use mathlib.Core.Logic.{_≢_}
 use lib.Dec.{eqb}
 use Rattle.sets.specs.Mask.{overlaps}
-use Rattle.sets.specs.Test.{any}
+use Rattle.sets.specs.Test.{anyBelow}
 use Rattle.forms.specs.Reader.{bytes}
 use Rattle.model.specs.declared.Tables.{Tables}
 use Rattle.model.specs.declared.Program.{Program}
@@ -23,14 +23,14 @@ use Rattle.rules.specs.Ports.{someConnection, behavior, wouldLeave, refusing, P
 use Rattle.rules.specs.Fire.{afterFire, fireCheckBy}
 use Rattle.rules.specs.Enter.{enterCheckBy}
 use Rattle.rules.specs.Action.{Action, add, del, pushb, con, dcon, wait, fire, end, enter, finish, checkBy}
-use Rattle.rules.specs.Step.{numberBy, after}
+use Rattle.rules.specs.Step.{numberBy, stepTo}
 use Rattle.rules.specs.Walk.{walkBy, walk}
-use Rattle.judged.specs.Cases.{P+, steps}
-use Rattle.judged.specs.Course.{default}
+use Rattle.judged.specs.Cases.{P+, answerWith}
+use Rattle.judged.specs.Course.{defaultDepth}
 use Rattle.judged.specs.Judged.{printed}
 use Rattle.demands.specs.Safe.{Safe}
 use Rattle.demands.specs.Exchange.{between}
-use Rattle.demands.specs.OnTexts.{tablesIn, programIn, stepsIn, AllAllowed, projectionOn}
+use Rattle.demands.specs.OnTexts.{sheetTables, sheetProgram, answerSteps, AllAllowed, projectionOn}
 
 -- ---- the rules with one notion changed
 
@@ -54,9 +54,9 @@ portCheckBy x t c i v w =
     let before : ℕ → Bool = x .active t v in
     let after : ℕ → Bool = x .active t w in
     let active : ℕ → ℕ → Bool = λ j. x .active t (instance c j) in
-    any (portsOf t v) (λ q. uses q && (after q && not (someProvider c i q active))) ⇒ unserved
-    ∣ any (portsOf t v) (λ q. uses q && (after q && (not (before q) && someProvider c i q (x .refusing t c)))) ⇒ providerRefusing
-    ∣ x .third && any (portsOf t v) (λ q. not (uses q) && (before q && (not (after q) && someUser c i q active))) ⇒ serviceInUse
+    anyBelow (portsOf t v) (λ q. uses q && (after q && not (someProvider c i q active))) ⇒ unserved
+    ∣ anyBelow (portsOf t v) (λ q. uses q && (after q && (not (before q) && someProvider c i q (x .refusing t c)))) ⇒ providerRefusing
+    ∣ x .third && anyBelow (portsOf t v) (λ q. not (uses q) && (before q && (not (after q) && someUser c i q active))) ⇒ serviceInUse
     ∣ allowed
 
 -- the rules' own walk with that check in the place of 34, 35 and 36
@@ -64,7 +64,7 @@ abbrev pub variantCheck : Variant → ℕ → Tables → Configuration → Actio
 variantCheck x default t c a = checkBy (fireCheckBy (portCheckBy x) t c) (enterCheckBy (portCheckBy x) t c) default t c a
 
 abbrev pub variantStep : Variant → ℕ → Tables → Program → Configuration → Step → Stepped
-variantStep x default t p c s = settle (numberBy (variantCheck x default t c) p c s) c (after t p c s)
+variantStep x default t p c s = settle (numberBy (variantCheck x default t c) p c s) c (stepTo t p c s)
 
 abbrev pub variantWalk : Variant → ℕ → Tables → Program → Configuration → List Step → Walked
 variantWalk x default t p c ss = walkBy (variantStep x default t p) c ss
@@ -81,19 +81,19 @@ AsRuledIsTheRule =
 
 -- a sheet and an answer walked by a variant
 abbrev pub walkedBy : Variant → List ℕ → List ℕ → Walked
-walkedBy x s a = variantWalk x default (tablesIn s) (programIn s) start (stepsIn a)
+walkedBy x s a = variantWalk x defaultDepth (sheetTables s) (sheetProgram s) start (answerSteps a)
 
 -- demand 2 fails: the rules refuse a step with 36, the variant allows all steps and comes to a point that is not safe
 abbrev pub Unsafe : Variant → List ℕ → List ℕ → Type 0
 Unsafe x s a =
-    (walkedBy asRuled s a .refused ≡ serviceInUse) × (walkedBy x s a .refused ≡ 0) × ¬ Safe (tablesIn s) (walkedBy x s a .configuration)
+    (walkedBy asRuled s a .refused ≡ serviceInUse) × (walkedBy x s a .refused ≡ 0) × ¬ Safe (sheetTables s) (walkedBy x s a .configuration)
 
 -- ---- without check 36: the provider leaves while its service is in use
 abbrev pub withoutInUse : Variant
 withoutInUse = record { active = active; refusing = asRuled .refusing; third = false }
 
 abbrev pub leftInUse : List ℕ
-leftInUse = steps 12 6 "step=fire,0,0\nstep=end,0,0\nstep=enter,0,1\nstep=fire,1,0\nstep=finish,0\nstep=fire,0,1\n"
+leftInUse = answerWith 12 6 "step=fire,0,0\nstep=end,0,0\nstep=enter,0,1\nstep=fire,1,0\nstep=finish,0\nstep=fire,0,1\n"
 
 unfoldable pub InUseIsNeeded : Type 0
 InUseIsNeeded = Unsafe withoutInUse P+ leftInUse
@@ -107,7 +107,7 @@ endedNotHeld = record {
 }
 
 abbrev pub leftAfterEnd : List ℕ
-leftAfterEnd = steps 13 6 "step=fire,0,0\nstep=end,0,0\nstep=enter,0,1\nstep=fire,1,0\nstep=end,1,0\nstep=finish,0\nstep=fire,0,1\n"
+leftAfterEnd = answerWith 13 6 "step=fire,0,0\nstep=end,0,0\nstep=enter,0,1\nstep=fire,1,0\nstep=end,1,0\nstep=finish,0\nstep=fire,0,1\n"
 
 unfoldable pub EndedHeldIsNeeded : Type 0
 EndedHeldIsNeeded = Unsafe endedNotHeld P+ leftAfterEnd
@@ -136,7 +136,7 @@ addWait = bytes "sheet=1\ndepth=0\ntypes=1\n"
 
 -- an answer of n times `next`
 abbrev pub onward : ℕ → List ℕ
-onward n = steps n n ""
+onward n = answerWith n n ""
 
 -- demand 3 fails: both answers are allowed, they have the same projections, and their reports differ
 unfoldable pub WaitIsNeeded : Type 0
@@ -153,7 +153,7 @@ refusingIfAllowed = record {
   active = active;
   refusing = λ t c j q.
       active t (instance c j) q
-      && any 16 (λ p. wouldLeave t (instance c j) (behavior t c j) q p && eqb (portCheck t c j (instance c j) (afterFire t c j p)) allowed);
+      && anyBelow 16 (λ p. wouldLeave t (instance c j) (behavior t c j) q p && eqb (portCheck t c j (instance c j) (afterFire t c j p)) allowed);
   third = true;
 }
 
@@ -168,6 +168,6 @@ chain = bytes "sheet=1\ndepth=0\ntypes=3\n"
 -- demand 3 fails: while 2 does not provide, 1 could not leave, so 0 may begin; once 2 provides, 0 may not; and 0 and 2 are not connected
 unfoldable pub TokensAloneIsNeeded : Type 0
 TokensAloneIsNeeded =
-    (walkedBy refusingIfAllowed chain (steps 12 8 "step=fire,2,0\nstep=end,2,0\nstep=fire,0,0\nstep=enter,2,1\n") .refused ≡ 0)
-    × (walkedBy refusingIfAllowed chain (steps 12 8 "step=fire,2,0\nstep=end,2,0\nstep=enter,2,1\nstep=fire,0,0\n") .refused ≡ providerRefusing)
-    × (someConnection (walkedBy refusingIfAllowed chain (steps 10 8 "step=fire,2,0\nstep=end,2,0\n") .configuration) (between 0 2) ≡ false)
+    (walkedBy refusingIfAllowed chain (answerWith 12 8 "step=fire,2,0\nstep=end,2,0\nstep=fire,0,0\nstep=enter,2,1\n") .refused ≡ 0)
+    × (walkedBy refusingIfAllowed chain (answerWith 12 8 "step=fire,2,0\nstep=end,2,0\nstep=enter,2,1\nstep=fire,0,0\n") .refused ≡ providerRefusing)
+    × (someConnection (walkedBy refusingIfAllowed chain (answerWith 10 8 "step=fire,2,0\nstep=end,2,0\n") .configuration) (between 0 2) ≡ false)

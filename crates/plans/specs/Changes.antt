@@ -9,7 +9,7 @@ use Rattle.model.specs.declared.Configuration.{Configuration}
 use Rattle.model.specs.Empty.{noConnection}
 use Rattle.model.specs.View.{put, withQueue, withConnections}
 use Rattle.rules.specs.Closing.{closed, zeroed}
-use Rattle.rules.specs.DCon.{sameConnection, first}
+use Rattle.rules.specs.DCon.{sameConnection, firstBelow}
 use Rattle.plans.specs.declared.Slots.{Slots}
 use Rattle.plans.specs.declared.Joins.{Joins}
 use Rattle.plans.specs.declared.Plan.{Plan}
@@ -34,7 +34,7 @@ abbrev pub joined : List Connection → ℕ → Joins → Listed
 joined ks n Joins.Kept = record { connections = ks; count = n }
 joined ks n (Joins.With k) = record { connections = set ks n k; count = min 255 (suc n) }
 joined ks n (Joins.Without k) =
-    record { connections = closed noConnection ks (first n (λ l. sameConnection k (getD ks l noConnection))) n; count = n - 1 }
+    record { connections = closed noConnection ks (firstBelow n (λ l. sameConnection k (getD ks l noConnection))) n; count = n - 1 }
 
 -- the list of connections is this one
 abbrev pub relisted : Configuration → Listed → Configuration

@@ -9,7 +9,7 @@ ghost use mathlib.Core.Path.{_≡_};
 ghost use lib.ListN.{getD, set};
 ghost use Rattle.model.specs.Empty.{noConnection};
 ghost use Rattle.rules.specs.Closing.{closed};
-ghost use Rattle.rules.specs.DCon.{sameConnection, first};
+ghost use Rattle.rules.specs.DCon.{sameConnection, firstBelow};
 ghost use Rattle.plans.specs.declared.Joins.{Joins};
 ghost use Rattle.plans.specs.Changes.{joined};
 
@@ -46,7 +46,7 @@ fn put_at(ks: [Connection; 64], l: usize, k: Connection) -> [Connection; 64]
 
 // The first place at which k stands, and the last of the list where it stands at none.
 fn place_of(ks: [Connection; 64], count: u8, k: Connection) -> usize
-    ensures { λ r. ⌜ r ≡ first count (λ l. sameConnection k (getD ks l noConnection)) ⌝ }
+    ensures { λ r. ⌜ r ≡ firstBelow count (λ l. sameConnection k (getD ks l noConnection)) ⌝ }
 {
     let n = wide(count);
     let mut l: usize = 0;

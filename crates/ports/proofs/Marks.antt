@@ -13,7 +13,7 @@ use lib.Dec.{eqb}
 use lib.ListN.{length, getD, set, replicate, length-set, length-replicate, getD-replicate}
 use lib.Seq.{getD-set-same, getD-set-other}
 use borrow.Author.Tests.{eq-eqb, ne-eqb}
-use Rattle.sets.specs.Test.{any}
+use Rattle.sets.specs.Test.{anyBelow}
 use Rattle.sets.proofs.Laws.{any-none, none-any, any-same}
 use Rattle.model.specs.declared.Tables.{Tables}
 use Rattle.model.specs.declared.Instance.{Instance}
@@ -75,8 +75,8 @@ module _ (test : ConnectionTest) (t : Tables) (c : Configuration) (i : ℕ) (fou
 
   -- where none is marked at first, a port is marked that has a connection that passes
   pub marked-at : (q : ℕ) → q < length found → getD found q 0 ≡ 0 → (n : ℕ)
-      → eqb (getD (marked test t c i found n) q 0) 1 ≡ any n (λ l. passes test t c i q (connection c l))
-  unfolding marked any
+      → eqb (getD (marked test t c i found n) q 0) 1 ≡ anyBelow n (λ l. passes test t c i q (connection c l))
+  unfolding marked anyBelow
   marked-at q h none zero = rw none
   marked-at q h none (suc n) =
       marks-at (reaches test t c i (connection c n)) (marked test t c i found n) (endsOf test (connection c n) .nearport) q (rw (marked-length n) h)
@@ -84,13 +84,13 @@ module _ (test : ConnectionTest) (t : Tables) (c : Configuration) (i : ℕ) (fou
 
 module _ (test : PortTest) (n : ℕ) (t : Tables) (c : Configuration) (i : ℕ) (v w : Instance) where
   -- a port that fails is wanted
-  pub fails-wanted : any n (wantsPort test t v w) ≡ false → any n (fails test t c i v w) ≡ false
+  pub fails-wanted : anyBelow n (wantsPort test t v w) ≡ false → anyBelow n (fails test t c i v w) ≡ false
   fails-wanted e = none-any n _ (λ q h. rw (fails-split t c i q test v w, any-none n (wantsPort test t v w) e q h))
 
   abbrev lent : Tables
   lent = rows (t .transitions .source) (t .behaviors) [] (t .ports .places) (t .ports .transitions)
 
-  pub fails-marked : n ≤ 256 → any n (failsBy test t v w (marked (askedBy test) lent c i (replicate 256 0) (c .count))) ≡ any n (fails test t c i v w)
+  pub fails-marked : n ≤ 256 → anyBelow n (failsBy test t v w (marked (askedBy test) lent c i (replicate 256 0) (c .count))) ≡ anyBelow n (fails test t c i v w)
   unfolding someConnection
   fails-marked m =
       any-same n _ _

@@ -4,12 +4,12 @@ use mathlib.Core.List.{List}
 use Prim.Native.Nat.{ℕ, zero, suc}
 use lib.Dec.{eqb}
 use lib.ListN.{getD, set}
-use Rattle.sets.specs.Test.{any}
+use Rattle.sets.specs.Test.{anyBelow}
 use Rattle.model.specs.declared.Tables.{Tables}
 use Rattle.model.specs.declared.Instance.{Instance}
 use Rattle.model.specs.declared.Connection.{Connection}
 use Rattle.model.specs.declared.Configuration.{Configuration}
-use Rattle.model.specs.View.{isUse, instance, connection, head}
+use Rattle.model.specs.View.{isUse, instance, connection, queueHead}
 use Rattle.rules.specs.Instance.{active, current}
 use Rattle.rules.specs.Ports.{wouldLeave, refusing, serves, blocks, employs, failsUnserved, failsRefusing, failsInUse}
 use Rattle.rules.specs.Finish.{mayLeave}
@@ -45,7 +45,7 @@ farPasses ConnectionTest.Employs t v head q = active t v q
 -- the connection is one of i, and its other end passes
 abbrev pub reaches : ConnectionTest → Tables → Configuration → ℕ → Connection → Bool
 reaches test t c i k =
-    eqb (endsOf test k .near) i && farPasses test t (instance c (endsOf test k .far)) (head c (endsOf test k .far)) (endsOf test k .farport)
+    eqb (endsOf test k .near) i && farPasses test t (instance c (endsOf test k .far)) (queueHead c (endsOf test k .far)) (endsOf test k .farport)
 
 -- each of the first connections that does marks its port with 1
 unfoldable pub marked : ConnectionTest → Tables → Configuration → ℕ → List ℕ → ℕ → List ℕ
@@ -100,7 +100,7 @@ numberOf PortTest.InUse = serviceInUse
 
 unfoldable pub portsCheck : ℕ → Tables → Configuration → ℕ → Instance → Instance → ℕ
 portsCheck n t c i v w =
-    any n (failsUnserved t c i w) ⇒ unserved
-    ∣ any n (failsRefusing t c i v w) ⇒ providerRefusing
-    ∣ any n (failsInUse t c i v w) ⇒ serviceInUse
+    anyBelow n (failsUnserved t c i w) ⇒ unserved
+    ∣ anyBelow n (failsRefusing t c i v w) ⇒ providerRefusing
+    ∣ anyBelow n (failsInUse t c i v w) ⇒ serviceInUse
     ∣ allowed

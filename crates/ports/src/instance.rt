@@ -4,7 +4,7 @@ use model::mask_at;
 use model::number_at;
 ghost use mathlib.Core.Path.{_≡_};
 ghost use mathlib.Core.List.{[]};
-ghost use Rattle.sets.specs.Test.{any};
+ghost use Rattle.sets.specs.Test.{anyBelow};
 ghost use Rattle.sets.specs.Mask.{collect};
 ghost use Rattle.rules.specs.Instance.{held, active, current, endsAt, fired};
 ghost use Rattle.rules.specs.Ports.{wouldLeave, refusing};
@@ -118,7 +118,7 @@ pub fn some_place<'a>(
     v: Instance,
     m: u32,
 ) -> bool
-    ensures { λ r. ⌜ r ≡ any 16 (leaves test (rows (now (source .entry)) [] [] (now (places .entry)) (now (transitions .entry))) v m) ⌝ }
+    ensures { λ r. ⌜ r ≡ anyBelow 16 (leaves test (rows (now (source .entry)) [] [] (now (places .entry)) (now (transitions .entry))) v m) ⌝ }
 {
     let mut p: u32 = 0;
     while p < 16 {

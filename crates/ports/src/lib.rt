@@ -13,7 +13,7 @@ use model::no_instance;
 use model::number_at;
 ghost use mathlib.Core.Path.{_≡_};
 ghost use mathlib.Core.List.{[]};
-ghost use Rattle.sets.specs.Test.{any};
+ghost use Rattle.sets.specs.Test.{anyBelow};
 ghost use Rattle.model.specs.View.{instance, put};
 ghost use Rattle.rules.specs.Refusal.{_⇒_∣_};
 ghost use Rattle.ports.specs.Rows.{rows, parts};
@@ -106,7 +106,7 @@ fn some_wanted<'a>(
     v: Instance,
     w: Instance,
 ) -> bool
-    ensures { λ r. ⌜ r ≡ any n (wantsPort test (rows [] [] (now (uses .entry)) (now (places .entry)) (now (transitions .entry))) v w) ⌝ }
+    ensures { λ r. ⌜ r ≡ anyBelow n (wantsPort test (rows [] [] (now (uses .entry)) (now (places .entry)) (now (transitions .entry))) v w) ⌝ }
 {
     let mut q: u8 = 0;
     while q < n {
@@ -145,7 +145,7 @@ fn some_port<'a>(
     w: Instance,
     found: &'a [u8; 256],
 ) -> bool
-    ensures { λ r. ⌜ r ≡ any n (failsBy test (rows [] [] (now (uses .entry)) (now (places .entry)) (now (transitions .entry))) v w (now (found .entry))) ⌝ }
+    ensures { λ r. ⌜ r ≡ anyBelow n (failsBy test (rows [] [] (now (uses .entry)) (now (places .entry)) (now (transitions .entry))) v w (now (found .entry))) ⌝ }
 {
     let mut q: u8 = 0;
     while q < n {
@@ -174,7 +174,7 @@ fn port_fails<'a>(
     v: Instance,
     w: Instance,
 ) -> bool
-    ensures { λ r. ⌜ r ≡ any n (fails test (rows (now (source .entry)) (now (behaviors .entry)) (now (uses .entry)) (now (places .entry)) (now (transitions .entry))) (parts instances (now (queue .entry)) connections count) i v w) ⌝ }
+    ensures { λ r. ⌜ r ≡ anyBelow n (fails test (rows (now (source .entry)) (now (behaviors .entry)) (now (uses .entry)) (now (places .entry)) (now (transitions .entry))) (parts instances (now (queue .entry)) connections count) i v w) ⌝ }
 {
     if !some_wanted(test, n, uses, places, transitions, v, w) {
         return false;

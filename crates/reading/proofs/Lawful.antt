@@ -7,7 +7,7 @@ use mathlib.Core.Path.{_≡_, refl, ap, ap₂, _∙_}
 use native.Mathlib.Omega.{arith}
 use lib.Dec.{leb}
 use borrow.Author.Tests.{leb-true}
-use Rattle.sets.specs.Test.{all}
+use Rattle.sets.specs.Test.{allBelow}
 use Rattle.sets.proofs.Laws.{all-of}
 use Rattle.forms.specs.Reader.{bytes}
 use Rattle.forms.proofs.Tests.{and-right}
@@ -22,7 +22,7 @@ use Rattle.reading.specs.Limits.{depthOk, typesOk, placesOk, transitions
 use Rattle.reading.specs.Lines.{stop}
 use Rattle.reading.specs.Fill.{headed, withType, programOf, answerOf}
 use Rattle.reading.specs.Kinds.{tranLine, behaviorLine, portLine, doLine, stepLine}
-use Rattle.reading.specs.Texts.{tran, behavior, port, type, instruct, sheet, stepAt, answer}
+use Rattle.reading.specs.Texts.{tranAt, behaviorAt, portAt, typeLines, instructionAt, sheet, stepAt, answer}
 use Rattle.reading.specs.Lawful.{transitionLawful, behaviorLawful, portLawful, typeLawful, tablesLawful, programLawful, answerLawful, Lawful, SheetsAreLawful, AnswersAreLawful}
 use Rattle.reading.proofs.Rests.{Runs, runs-then, runs-give, runs-line, runs-each, runs-end, StopsAt, run-stops, run-gives}
 use Rattle.reading.proofs.Kept.{InitialLawful, SetLawful, EndsLawful, PortLawful, reads-due, reads-count, reads-initial, reads-tran, reads-behavior, reads-port, reads-do, reads-step}
@@ -87,8 +87,8 @@ typed-more d n i t k xs bs qs h w c fx fb fq =
       ports = rows-more portSlots 16 _ _ (t .types) k (t .ports) qs i z h (λ q l. leb-true _ 16 (counted q l .ports)) (w .ports) fq;
     }
 
-runs-type : (d N i : ℕ) (t : Tables) → i < 16 → Typed d N i t → Runs (Typed d N (suc i)) (type i t)
-unfolding type tran behavior port
+runs-type : (d N i : ℕ) (t : Tables) → i < 16 → Typed d N i t → Runs (Typed d N (suc i)) (typeLines i t)
+unfolding typeLines tranAt behaviorAt portAt
 runs-type d N i t h w =
     runs-then (runs-line (reads-due (bytes "type=") i)) (λ _ _.
     runs-then (runs-line (reads-count (bytes "places=") placesOk)) (λ n cn.
@@ -107,7 +107,7 @@ runs-type d N i t h w =
 
 -- ---- the tests of the tables, the program and the answer
 -- a count within its limit, and every line below it
-lines-lawful : (limit test : ℕ → Bool) (n k : ℕ) → n ≡ k → limit k ≡ true → ((j : ℕ) → j < k → test j ≡ true) → limit n && all n test ≡ true
+lines-lawful : (limit test : ℕ → Bool) (n k : ℕ) → n ≡ k → limit k ≡ true → ((j : ℕ) → j < k → test j ≡ true) → limit n && allBelow n test ≡ true
 lines-lawful limit test n k e l h = rw e (ap₂ _&&_ l (all-of k test h))
 
 type-lawful : (d n i : ℕ) (t : Tables) → Typed d n i t → (q : ℕ) → q < i → typeLawful t q ≡ true
@@ -121,13 +121,13 @@ type-lawful d n i t w q l =
 
 -- ---- the two texts
 pub runs-sheet : Runs (λ (x : Tables × Program). Lawful (x .0) (x .1)) sheet
-unfolding sheet instruct programOf noProgram Lawful tablesLawful programLawful
+unfolding sheet instructionAt programOf noProgram Lawful tablesLawful programLawful
 runs-sheet =
     runs-then (runs-line (reads-due (bytes "sheet=") 1)) (λ _ _.
     runs-then (runs-line (reads-count (bytes "depth=") depthOk)) (λ d cd.
     runs-then (runs-line (reads-count (bytes "types=") typesOk)) (λ n cn.
     let ln = sixteen-le n cn in
-    runs-then (runs-each type (Typed d n) n (λ i t l w. runs-type d n i t (omega arith) w) n 0 (headed d n) (omega arith) (typed-none d n)) (λ t w.
+    runs-then (runs-each typeLines (Typed d n) n (λ i t l w. runs-type d n i t (omega arith) w) n 0 (headed d n) (omega arith) (typed-none d n)) (λ t w.
     runs-then (runs-line (reads-count (bytes "program=") programOk)) (λ k ck.
     let lk = leb-true k 256 ck in
     runs-then (runs-fill (instructionSlots k) (instructions-sound k) _ (doLine n) (reads-do n) k 0 (programOf k) (omega arith) (refl, refl)) (λ p fp.

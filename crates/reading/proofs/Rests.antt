@@ -9,10 +9,10 @@ use native.Mathlib.Omega.{arith}
 use lib.Dec.{eqb}
 use lib.ListN.{length, drop, length-append}
 use lib.Seq.{drop-at}
-use Rattle.forms.specs.Reader.{Reply, got, refused, Reader, bind, give, check, none}
-use Rattle.forms.specs.Read.{key, on as onKey}
-use Rattle.reading.specs.Lines.{Run, on, stop, Lines, next, line, lineOf, each, atEnd}
-use Rattle.reading.specs.Lines.{give as yield}
+use Rattle.forms.specs.Reader.{Reply, got, refused, Reader, readOn, give, check, noLine}
+use Rattle.forms.specs.Read.{key, upon}
+use Rattle.reading.specs.Lines.{Run, on, stop, Lines, runOn, line, lineOf, each, atEnd}
+use Rattle.reading.specs.Lines.{handOn}
 
 -- ---- rests of a text
 pub record Rest (s r : List ℕ) : Type 0 where
@@ -71,12 +71,12 @@ pub bad-form : {A : Type 0} {P : A → Type 0} {s : List ℕ} → Told P s (refu
 bad-form = refuses form-fault
 
 told-then : {A B : Type 0} {P : A → Type 0} {Q : B → Type 0} {s : List ℕ} {x : Reply A} (f : A → Reader B) →
-    Told P s x → ((a : A) → P a → Reads Q (f a)) → Told Q s (bind x f)
+    Told P s x → ((a : A) → P a → Reads Q (f a)) → Told Q s (readOn x f)
 told-then f (gives {a} {r} h p) g = told-from h (g a p r)
 told-then f (refuses u) g = refuses u
 
 pub reads-then : {A B : Type 0} {P : A → Type 0} {Q : B → Type 0} {m : Reader A} {f : A → Reader B} →
-    Reads P m → ((a : A) → P a → Reads Q (f a)) → Reads Q (λ s. bind (m s) f)
+    Reads P m → ((a : A) → P a → Reads Q (f a)) → Reads Q (λ s. readOn (m s) f)
 reads-then {f = f} h g s = told-then f (h s) g
 
 pub reads-give : {A : Type 0} {P : A → Type 0} {a : A} → P a → Reads P (give a)
@@ -109,10 +109,10 @@ told-on : {A : Type 0} {P : A → Type 0} {m other : Reader A} {s : List ℕ} {x
 told-on (gives {r = r} h p) f g = told-from h (f r)
 told-on {s = s} (refuses u) f g = g s
 
-pub reads-on : {A : Type 0} {P : A → Type 0} {m other : Reader A} (k : List ℕ) → Reads P m → Reads P other → Reads P (onKey k m other)
+pub reads-on : {A : Type 0} {P : A → Type 0} {m other : Reader A} (k : List ℕ) → Reads P m → Reads P other → Reads P (upon k m other)
 reads-on k f g s = told-on (reads-key k s) f g
 
-pub reads-none : {A : Type 0} {P : A → Type 0} → Reads P (none {A = A})
+pub reads-none : {A : Type 0} {P : A → Type 0} → Reads P (noLine {A = A})
 reads-none s = bad-form
 
 -- ---- runs of lines
@@ -128,15 +128,15 @@ went-from h (goes g p) = goes (far h g) p
 went-from h (stops g u) = stops (far h g) u
 
 went-then : {A B : Type 0} {P : A → Type 0} {Q : B → Type 0} {s : List ℕ} {x : Run A} (f : A → Lines B) →
-    Went P s x → ((a : A) → P a → Runs Q (f a)) → Went Q s (next x f)
+    Went P s x → ((a : A) → P a → Runs Q (f a)) → Went Q s (runOn x f)
 went-then f (goes {a} {r} h p) g = went-from h (g a p r)
 went-then f (stops h u) g = stops h u
 
 pub runs-then : {A B : Type 0} {P : A → Type 0} {Q : B → Type 0} {m : Lines A} {f : A → Lines B} →
-    Runs P m → ((a : A) → P a → Runs Q (f a)) → Runs Q (λ s. next (m s) f)
+    Runs P m → ((a : A) → P a → Runs Q (f a)) → Runs Q (λ s. runOn (m s) f)
 runs-then {f = f} h g s = went-then f (h s) g
 
-pub runs-give : {A : Type 0} {P : A → Type 0} {a : A} → P a → Runs P (yield a)
+pub runs-give : {A : Type 0} {P : A → Type 0} {a : A} → P a → Runs P (handOn a)
 runs-give p s = goes here p
 
 went-line : {A : Type 0} {P : A → Type 0} {s : List ℕ} {x : Reply A} → Told P s x → Went P s (lineOf x s)

@@ -5,7 +5,7 @@ use mathlib.Core.List.{List, [], _∷_}
 use lib.Dec.{eqb}
 use Rattle.sets.specs.Mask.{with}
 use Rattle.forms.specs.Reader.{byte}
-use Rattle.forms.specs.Read.{digit, number, numberFrom, Set, follows, membersFrom, list, one, two, three, four, set, sets}
+use Rattle.forms.specs.Read.{digit, number, numberFrom, Set, follows, membersFrom, list, oneForm, twoForm, threeForm, fourForm, listForm, listsForm}
 use Rattle.forms.proofs.Back.{Topped, list-back}
 use Rattle.reading.proofs.Rests.{past, Told, gives, Reads, Any, told-from, bad-form, told-known, told-if, reads-then, reads-give, reads-key}
 
@@ -20,20 +20,20 @@ number-told d e (c ∷ s) k v =
 reads-number : (d e : ℕ) → Reads Any (number d e)
 reads-number d e s = number-told d e s 0 0
 
-pub reads-one : (d : ℕ) → Reads Any (one d)
-unfolding one
+pub reads-one : (d : ℕ) → Reads Any (oneForm d)
+unfolding oneForm
 reads-one d = reads-number d _
 
-pub reads-two : (d : ℕ) → Reads Any (two d)
-unfolding two
+pub reads-two : (d : ℕ) → Reads Any (twoForm d)
+unfolding twoForm
 reads-two d = reads-then (reads-number d _) (λ _ _. reads-then (reads-number d _) (λ _ _. reads-give tt))
 
-pub reads-three : (d : ℕ) → Reads Any (three d)
-unfolding three
+pub reads-three : (d : ℕ) → Reads Any (threeForm d)
+unfolding threeForm
 reads-three d = reads-then (reads-number d _) (λ _ _. reads-then (reads-number d _) (λ _ _. reads-then (reads-number d _) (λ _ _. reads-give tt)))
 
-pub reads-four : (d : ℕ) → Reads Any (four d)
-unfolding four
+pub reads-four : (d : ℕ) → Reads Any (fourForm d)
+unfolding fourForm
 reads-four d =
     reads-then (reads-number d _) (λ _ _. reads-then (reads-number d _) (λ _ _. reads-then (reads-number d _) (λ _ _. reads-then (reads-number d _) (λ _ _. reads-give tt))))
 
@@ -62,10 +62,10 @@ Masked x = x .top ≤ 32 → Topped x
 reads-list : (d e : ℕ) → d ≤ 7 → Reads Masked (list d e)
 reads-list d e l s = told-known (list-told d e s) (λ x r q h. list-back d l e s q h .1)
 
-pub reads-set : (d : ℕ) → d ≤ 7 → Reads Masked (set d)
-unfolding set
+pub reads-set : (d : ℕ) → d ≤ 7 → Reads Masked (listForm d)
+unfolding listForm
 reads-set d l = reads-list d _ l
 
-pub reads-sets : (d : ℕ) → d ≤ 7 → Reads (λ (x : Set × Set). Masked (x .0) × Masked (x .1)) (sets d)
-unfolding sets
+pub reads-sets : (d : ℕ) → d ≤ 7 → Reads (λ (x : Set × Set). Masked (x .0) × Masked (x .1)) (listsForm d)
+unfolding listsForm
 reads-sets d l = reads-then (reads-list d _ l) (λ _ p. reads-then (reads-list d _ l) (λ _ q. reads-give (p, q)))

@@ -19,7 +19,7 @@ use Rattle.model.specs.declared.Program.{Program}
 use Rattle.model.specs.declared.Step.{Step}
 use Rattle.model.specs.declared.Answer.{Answer}
 use Rattle.model.specs.Empty.{noType, noInstruction, noStep}
-use Rattle.reading.specs.Lines.{next, line, each, give}
+use Rattle.reading.specs.Lines.{runOn, line, each, handOn}
 use Rattle.reading.specs.Fill.{withTransition, withPort, withInstruction, withStep}
 use Rattle.reading.proofs.Rests.{Reads, Runs, runs-then, runs-give, runs-line, runs-each}
 
@@ -60,7 +60,7 @@ module _ {G A : Type 0} (S : Slots G A) (ok : Sound S) (Q : A → Type 0) where
 
   -- as many lines as there are slots from lo up to lo + n
   pub runs-fill : (m : Reader A) → Reads Q m → (n lo : ℕ) (g : G) → lo + n ≤ S .size → S .Sized g →
-      Runs (Filled S Q g lo (lo + n)) (each (λ j h. λ s. next (line m s) (λ v. give (S .put h j v))) n lo g)
+      Runs (Filled S Q g lo (lo + n)) (each (λ j h. λ s. runOn (line m s) (λ v. handOn (S .put h j v))) n lo g)
   runs-fill m reads n lo g l z =
       runs-each _ (λ j h. Filled S Q g lo j h) (lo + n)
       (λ j h b w. runs-then (runs-line reads) (λ v q. runs-give (filled-more lo j g h v (omega arith) q w)))

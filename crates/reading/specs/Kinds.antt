@@ -3,133 +3,134 @@ use Prim.Native.Nat.{ℕ}
 use mathlib.Core.List.{List}
 use mathlib.Core.Bool.{Bool, _&&_}
 use lib.Dec.{eqb}
-use Rattle.forms.specs.Reader.{Reader, bytes, _or_, none, _>>=_, _>>_, give, check}
-use Rattle.forms.specs.Read.{key, on, one, two, four, set, sets}
+use Rattle.forms.specs.Refusal.{badForm, beyondLimit, badClause}
+use Rattle.forms.specs.Reader.{Reader, bytes, _or_, noLine, _>>=_, _>>_, give, check}
+use Rattle.forms.specs.Read.{key, upon, oneForm, twoForm, fourForm, listForm, listsForm}
 use Rattle.model.specs.declared.Instruction.{Instruction}
 use Rattle.model.specs.declared.Step.{Step}
 use Rattle.model.specs.Verb.{addVerb, delVerb, pushbVerb, conVerb, dconVerb, waitVerb, nextVerb, fireVerb, endVerb, enterVerb, finishVerb}
-use Rattle.reading.specs.Limits.{digits, listOk, endOk, idOk, placeOk, portOk, transitionOk, behaviorOk, typeOk, initialOk, endsOk, useOk}
+use Rattle.reading.specs.Limits.{fiveDigits, listOk, endOk, idOk, placeOk, portOk, transitionOk, behaviorOk, typeOk, initialOk, endsOk, useOk}
 
 -- key=number, where the number is the one due: `sheet=1`, `answer=1`, `type=`; another number is a form fault
 unfoldable pub dueLine : List ℕ → ℕ → Reader (Unit {0})
 dueLine k n = do
   key k
-  a ← one digits
-  check (eqb a n) 2
+  a ← oneForm fiveDigits
+  check (eqb a n) badForm
 
 -- key=number with its limit, of at most d digits
 unfoldable pub countLineIn : ℕ → List ℕ → (ℕ → Bool) → Reader ℕ
 countLineIn d k limit = do
   key k
-  a ← one d
-  check (limit a) 3
+  a ← oneForm d
+  check (limit a) beyondLimit
   give a
 
 -- `depth=`, `types=`, `places=`, `transitions=`, `behaviors=`, `ports=`, `program=`, `steps=`
 abbrev pub countLine : List ℕ → (ℕ → Bool) → Reader ℕ
-countLine k limit = countLineIn digits k limit
+countLine k limit = countLineIn fiveDigits k limit
 
 -- `initial=` list, in a type of n places
 unfoldable pub initialLine : ℕ → Reader ℕ
 initialLine n = do
   key (bytes "initial=")
-  l ← set digits
-  check (listOk n (l .top)) 3
-  check (initialOk (l .top)) 4
+  l ← listForm fiveDigits
+  check (listOk n (l .top)) beyondLimit
+  check (initialOk (l .top)) badClause
   give (l .mask)
 
 -- `tran=source,destination`, in a type of n places
 unfoldable pub tranLine : ℕ → Reader (ℕ × ℕ)
 tranLine n = do
   key (bytes "tran=")
-  (a, b) ← two digits
-  check (endOk n a && endOk n b) 3
-  check (endsOk a b) 4
+  (a, b) ← twoForm fiveDigits
+  check (endOk n a && endOk n b) beyondLimit
+  check (endsOk a b) badClause
   give (a, b)
 
 -- `behavior=` list of transitions, in a type of k transitions
 unfoldable pub behaviorLine : ℕ → Reader ℕ
 behaviorLine k = do
   key (bytes "behavior=")
-  l ← set digits
-  check (listOk k (l .top)) 3
+  l ← listForm fiveDigits
+  check (listOk k (l .top)) beyondLimit
   give (l .mask)
 
 -- a port's group: its places and transitions, in a type of n places and k transitions
 unfoldable pub group : ℕ → ℕ → Reader (ℕ × ℕ)
 group n k = do
-  (a, b) ← sets digits
-  check (listOk n (a .top) && listOk k (b .top)) 3
+  (a, b) ← listsForm fiveDigits
+  check (listOk n (a .top) && listOk k (b .top)) beyondLimit
   give (a .mask, b .mask)
 
 -- `port=use,places,transitions` or `port=provide,places,transitions`, in a type whose initial places are m; 1 for use, 0 for provide
 unfoldable pub portLine : ℕ → ℕ → ℕ → Reader (ℕ × ℕ × ℕ)
 portLine n k m =
-    on (bytes "port=use,") (do
+    upon (bytes "port=use,") (do
       (a, b) ← group n k
-      check (useOk m a) 4
+      check (useOk m a) badClause
       give (1, a, b))
-    or on (bytes "port=provide,") (do
+    or upon (bytes "port=provide,") (do
       (a, b) ← group n k
       give (0, a, b))
-    or none
+    or noLine
 
 -- an instruction with the numbers that its line has, and 0 for those that it has not
-abbrev pub instruction : ℕ → ℕ → ℕ → ℕ → ℕ → Instruction
-instruction v a b c d = record { verb = v; id = a; number = b; provider = c; provideport = d }
+abbrev pub anInstruction : ℕ → ℕ → ℕ → ℕ → ℕ → Instruction
+anInstruction v a b c d = record { verb = v; id = a; number = b; provider = c; provideport = d }
 
 -- what follows the verb of a `do` line: an id; an id and a number; user, useport, provider, provideport
 unfoldable pub doId : ℕ → Reader Instruction
 doId v = do
-  a ← one digits
-  check (idOk a) 3
-  give (instruction v a 0 0 0)
+  a ← oneForm fiveDigits
+  check (idOk a) beyondLimit
+  give (anInstruction v a 0 0 0)
 
 unfoldable pub doNumber : ℕ → (ℕ → Bool) → Reader Instruction
 doNumber v limit = do
-  (a, b) ← two digits
-  check (idOk a && limit b) 3
-  give (instruction v a b 0 0)
+  (a, b) ← twoForm fiveDigits
+  check (idOk a && limit b) beyondLimit
+  give (anInstruction v a b 0 0)
 
 unfoldable pub doEnds : ℕ → Reader Instruction
 doEnds v = do
-  (a, b, c, d) ← four digits
-  check (idOk a && (portOk b && (idOk c && portOk d))) 3
-  give (instruction v a b c d)
+  (a, b, c, d) ← fourForm fiveDigits
+  check (idOk a && (portOk b && (idOk c && portOk d))) beyondLimit
+  give (anInstruction v a b c d)
 
 -- `do=`, in a sheet of n types
 unfoldable pub doLine : ℕ → Reader Instruction
 doLine n =
-    on (bytes "do=add,") (doNumber addVerb (typeOk n))
-    or on (bytes "do=del,") (doId delVerb)
-    or on (bytes "do=pushb,") (doNumber pushbVerb behaviorOk)
-    or on (bytes "do=con,") (doEnds conVerb)
-    or on (bytes "do=dcon,") (doEnds dconVerb)
-    or on (bytes "do=wait,") (doId waitVerb)
-    or none
+    upon (bytes "do=add,") (doNumber addVerb (typeOk n))
+    or upon (bytes "do=del,") (doId delVerb)
+    or upon (bytes "do=pushb,") (doNumber pushbVerb behaviorOk)
+    or upon (bytes "do=con,") (doEnds conVerb)
+    or upon (bytes "do=dcon,") (doEnds dconVerb)
+    or upon (bytes "do=wait,") (doId waitVerb)
+    or noLine
 
-abbrev pub step : ℕ → ℕ → ℕ → Step
-step v a b = record { verb = v; id = a; number = b }
+abbrev pub aStep : ℕ → ℕ → ℕ → Step
+aStep v a b = record { verb = v; id = a; number = b }
 
 -- what follows the verb of a `step` line: an id; an id and a number
 unfoldable pub stepId : ℕ → Reader Step
 stepId v = do
-  a ← one digits
-  check (idOk a) 3
-  give (step v a 0)
+  a ← oneForm fiveDigits
+  check (idOk a) beyondLimit
+  give (aStep v a 0)
 
 unfoldable pub stepNumber : ℕ → (ℕ → Bool) → Reader Step
 stepNumber v limit = do
-  (a, b) ← two digits
-  check (idOk a && limit b) 3
-  give (step v a b)
+  (a, b) ← twoForm fiveDigits
+  check (idOk a && limit b) beyondLimit
+  give (aStep v a b)
 
 -- `step=`
 unfoldable pub stepLine : Reader Step
 stepLine =
-    on (bytes "step=next\n") (give (step nextVerb 0 0))
-    or on (bytes "step=fire,") (stepNumber fireVerb placeOk)
-    or on (bytes "step=end,") (stepNumber endVerb transitionOk)
-    or on (bytes "step=enter,") (stepNumber enterVerb placeOk)
-    or on (bytes "step=finish,") (stepId finishVerb)
-    or none
+    upon (bytes "step=next\n") (give (aStep nextVerb 0 0))
+    or upon (bytes "step=fire,") (stepNumber fireVerb placeOk)
+    or upon (bytes "step=end,") (stepNumber endVerb transitionOk)
+    or upon (bytes "step=enter,") (stepNumber enterVerb placeOk)
+    or upon (bytes "step=finish,") (stepId finishVerb)
+    or noLine

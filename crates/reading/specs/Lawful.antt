@@ -6,7 +6,7 @@ use mathlib.Core.Bool.{Bool, true, not, _&&_, _||_, cond}
 use mathlib.Core.Path.{_≡_}
 use lib.Dec.{eqb}
 use lib.ListN.{getD}
-use Rattle.sets.specs.Test.{all}
+use Rattle.sets.specs.Test.{allBelow}
 use Rattle.model.specs.declared.ComponentType.{ComponentType}
 use Rattle.model.specs.declared.Tables.{Tables}
 use Rattle.model.specs.declared.Instruction.{Instruction}
@@ -46,12 +46,12 @@ portLawful t i q = portIn (typeOf t i) (portKind t i q) (groupPlaces t i q) (gro
 unfoldable pub typeLawful : Tables → ℕ → Bool
 typeLawful t i =
     placesOk (typeOf t i .places) && (maskOk (typeOf t i .places) (typeOf t i .initial) && (initialOk (typeOf t i .initial)
-    && (transitionsOk (typeOf t i .transitions) && (all (typeOf t i .transitions) (transitionLawful t i)
-    && (behaviorsOk (typeOf t i .behaviors) && (all (typeOf t i .behaviors) (behaviorLawful t i)
-    && (portsOk (typeOf t i .ports) && all (typeOf t i .ports) (portLawful t i))))))))
+    && (transitionsOk (typeOf t i .transitions) && (allBelow (typeOf t i .transitions) (transitionLawful t i)
+    && (behaviorsOk (typeOf t i .behaviors) && (allBelow (typeOf t i .behaviors) (behaviorLawful t i)
+    && (portsOk (typeOf t i .ports) && allBelow (typeOf t i .ports) (portLawful t i))))))))
 
 unfoldable pub tablesLawful : Tables → Bool
-tablesLawful t = depthOk (t .depth) && (typesOk (t .count) && all (t .count) (typeLawful t))
+tablesLawful t = depthOk (t .depth) && (typesOk (t .count) && allBelow (t .count) (typeLawful t))
 
 -- what an instruction's verb asks of its other numbers, in a sheet of n types
 abbrev pub verbLawful : ℕ → Instruction → Bool
@@ -65,7 +65,7 @@ unfoldable pub instructionLawful : ℕ → Instruction → Bool
 instructionLawful n x = idOk (x .id) && verbLawful n x
 
 unfoldable pub programLawful : ℕ → Program → Bool
-programLawful n p = programOk (p .count) && all (p .count) (λ j. instructionLawful n (getD (p .instructions) j noInstruction))
+programLawful n p = programOk (p .count) && allBelow (p .count) (λ j. instructionLawful n (getD (p .instructions) j noInstruction))
 
 unfoldable pub stepLawful : Step → Bool
 stepLawful s =
@@ -76,7 +76,7 @@ stepLawful s =
     (eqb (s .verb) finishVerb)))
 
 unfoldable pub answerLawful : Answer → Bool
-answerLawful a = stepsOk (a .count) && all (a .count) (λ j. stepLawful (getD (a .steps) j noStep))
+answerLawful a = stepsOk (a .count) && allBelow (a .count) (λ j. stepLawful (getD (a .steps) j noStep))
 
 -- a sheet's rules, its length aside
 unfoldable pub Lawful : Tables → Program → Type 0

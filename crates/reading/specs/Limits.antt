@@ -5,8 +5,8 @@ use lib.Dec.{ltb, leb, eqb}
 use Rattle.sets.specs.Mask.{overlaps}
 
 -- "Numbers are decimal, one to five digits"; "Each text has at most 32,768 bytes"
-abbrev pub digits : ℕ
-digits = 5
+abbrev pub fiveDigits : ℕ
+fiveDigits = 5
 
 abbrev pub lengthOk : ℕ → Bool
 lengthOk n = leb n 32768

@@ -4,7 +4,7 @@ use mathlib.Core.List.{List, [], _++_}
 use mathlib.Core.Bool.{Bool, true, false, _&&_}
 use lib.Dec.{eqb}
 use Rattle.forms.specs.Reader.{bytes}
-use Rattle.forms.specs.Write.{when, numberText, listText, maskText, inTurn, oneText, fourText}
+use Rattle.forms.specs.Write.{onlyIf, numberText, listText, maskText, inTurn, oneText, fourText}
 use Rattle.model.specs.declared.Instance.{Instance}
 use Rattle.model.specs.declared.Connection.{Connection}
 use Rattle.model.specs.declared.Configuration.{Configuration}
@@ -32,7 +32,7 @@ connectionText k = bytes "connection=" ++ fourText (k .user) (k .useport) (k .pr
 
 -- instance i's line, nothing where it is absent
 unfoldable pub instanceAt : Configuration → ℕ → List ℕ
-instanceAt c i = when (instance c i .present) (instanceText i (instance c i) (queueOf c i))
+instanceAt c i = onlyIf (instance c i .present) (instanceText i (instance c i) (queueOf c i))
 
 -- among the first n connections: the line of the one with the user u and its port q, nothing where there is none
 unfoldable pub connectionAt : Configuration → ℕ → ℕ → ℕ → List ℕ

@@ -7,12 +7,12 @@ use lib.Dec.{eqb}
 use Rattle.model.specs.declared.Instruction.{Instruction}
 use Rattle.model.specs.declared.Step.{Step}
 use Rattle.model.specs.Verb.{addVerb, delVerb, pushbVerb, conVerb, dconVerb, fireVerb, endVerb, enterVerb}
-use Rattle.rules.specs.Action.{Action, add, del, pushb, con, dcon, wait, fire, end, enter, finish, named, instruction, move}
+use Rattle.rules.specs.Action.{Action, add, del, pushb, con, dcon, wait, fire, end, enter, finish, named, instructionAction, moveAction}
 
 module _ (P : Action → Type 0) where
   pub instruction-cases : (n : Instruction) → (eqb (n .verb) addVerb ≡ true → P (add (n .id) (n .number))) → P (del (n .id)) → P (pushb (n .id) (n .number))
-      → P (con (named n)) → P (dcon (named n)) → P (wait (n .id)) → P (instruction n)
-  unfolding instruction
+      → P (con (named n)) → P (dcon (named n)) → P (wait (n .id)) → P (instructionAction n)
+  unfolding instructionAction
   instruction-cases n a d b k l w =
       go (eqb (n .verb) addVerb) a (eqb (n .verb) delVerb) (eqb (n .verb) pushbVerb) (eqb (n .verb) conVerb) (eqb (n .verb) dconVerb)
     where
@@ -25,8 +25,8 @@ module _ (P : Action → Type 0) where
       go false a false false false true = l
       go false a false false false false = w
 
-  pub move-cases : (s : Step) → P (fire (s .id) (s .number)) → P (end (s .id) (s .number)) → P (enter (s .id) (s .number)) → P (finish (s .id)) → P (move s)
-  unfolding move
+  pub move-cases : (s : Step) → P (fire (s .id) (s .number)) → P (end (s .id) (s .number)) → P (enter (s .id) (s .number)) → P (finish (s .id)) → P (moveAction s)
+  unfolding moveAction
   move-cases s a b c d = go (eqb (s .verb) fireVerb) (eqb (s .verb) endVerb) (eqb (s .verb) enterVerb)
     where
       go : (x y z : Bool) → P (cond x (fire (s .id) (s .number)) (cond y (end (s .id) (s .number)) (cond z (enter (s .id) (s .number)) (finish (s .id)))))
@@ -51,6 +51,6 @@ pub not-add : {a : Action} {i k : ℕ} → isAdd a ≡ false → a ≡ add i k �
 unfolding isAdd
 not-add e q = false≢true (sym e ∙ ap isAdd q)
 
-pub move-no-add : (s : Step) → isAdd (move s) ≡ false
+pub move-no-add : (s : Step) → isAdd (moveAction s) ≡ false
 unfolding isAdd
 move-no-add s = move-cases (λ a. isAdd a ≡ false) s refl refl refl refl

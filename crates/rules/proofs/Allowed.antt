@@ -9,7 +9,7 @@ use native.Mathlib.Decide.{ℕ-discrete, decLt}
 use lib.Dec.{eqb, ltb}
 use lib.ListN.{length, List·getD-eq-default}
 use borrow.Author.Tests.{eqb-true, eqb-false, eq-eqb, ne-eqb, not-false, ltb-true}
-use Rattle.sets.specs.Test.{any}
+use Rattle.sets.specs.Test.{anyBelow}
 use Rattle.sets.specs.Mask.{member, overlaps, within}
 use Rattle.sets.proofs.Laws.{any-none}
 use Rattle.model.specs.declared.Tables.{Tables}
@@ -18,7 +18,7 @@ use Rattle.model.specs.declared.Connection.{Connection}
 use Rattle.model.specs.declared.Configuration.{Configuration}
 use Rattle.model.specs.Empty.{absent}
 use Rattle.model.specs.View.{typeOf, isUse, instance}
-use Rattle.rules.specs.Refusal.{_⇒_∣_, allowed, idAbsent, queueEmpty, noTransition, notReady, heldOrMarked, orElse}
+use Rattle.rules.specs.Refusal.{_⇒_∣_, allowed, idAbsent, queueEmpty, noTransition, notReady, heldOrMarked, orNumber}
 use Rattle.rules.specs.Instance.{held, active, portsOf}
 use Rattle.rules.specs.Ports.{someConnection, serves, employs, failsUnserved, failsRefusing, failsInUse, portCheck}
 use Rattle.rules.specs.Add.{addCheck}
@@ -30,7 +30,7 @@ use Rattle.rules.specs.Fire.{fireRow, fireCheck, leavers, afterFire}
 use Rattle.rules.specs.End.{endCheck}
 use Rattle.rules.specs.Enter.{enterRow, enterCheck, enterers, afterEnter}
 use Rattle.rules.specs.Finish.{finishRow, finishCheck}
-use Rattle.rules.specs.Action.{Action, add, del, pushb, con, dcon, wait, fire, end, enter, finish, check}
+use Rattle.rules.specs.Action.{Action, add, del, pushb, con, dcon, wait, fire, end, enter, finish, actionCheck}
 use Rattle.rules.proofs.Local.{change, touches, changes, owner, ownerOf}
 
 -- ---- a row
@@ -45,7 +45,7 @@ meets : (b : Bool) (n : ℕ) {m : ℕ} → (not b ⇒ suc n ∣ m) ≡ 0 → (b 
 meets true n e = (refl, e)
 meets false n e = absurd (omega arith)
 
-or-else : (a b : ℕ) → orElse a b ≡ 0 → (a ≡ 0) × (b ≡ 0)
+or-else : (a b : ℕ) → orNumber a b ≡ 0 → (a ≡ 0) × (b ≡ 0)
 or-else a b = by-cases (ℕ-discrete a 0) (λ e. rw (eq-eqb a 0 e) (λ q. (e, q))) (λ n. rw (ne-eqb a 0 n) (λ q. absurd (n q)))
 
 positive : (n : ℕ) → eqb n 0 ≡ false → 0 < n
@@ -141,7 +141,7 @@ moveRow v xs ready busy =
     ∣ allowed
 
 move-facts : (t : Tables) (c : Configuration) (i xs : ℕ) (ready busy : Bool) (w : Instance)
-    → orElse (moveRow (instance c i) xs ready busy) (portCheck t c i (instance c i) w) ≡ 0 → MoveFacts t c i xs ready busy w
+    → orNumber (moveRow (instance c i) xs ready busy) (portCheck t c i (instance c i) w) ≡ 0 → MoveFacts t c i xs ready busy w
 unfolding moveRow
 move-facts t c i xs ready busy w e =
     let (row, ports) = or-else (moveRow (instance c i) xs ready busy) (portCheck t c i (instance c i) w) e in
@@ -197,24 +197,24 @@ module _ (t : Tables) (c : Configuration) (i : ℕ) (v w : Instance) (ok : portC
   pub served : isUse t (w .kind) q ≡ true → active t w q ≡ true → someConnection c (serves t c i q) ≡ true
   unfolding portCheck failsUnserved
   served u a =
-      let (none, _) = passes (any (portsOf t v) (failsUnserved t c i w)) _ ok in
+      let (none, _) = passes (anyBelow (portsOf t v) (failsUnserved t c i w)) _ ok in
       not-false (someConnection c (serves t c i q)) (rw (u, a) at (any-none (portsOf t v) (failsUnserved t c i w) none q h))
 
   -- 36: no active use port is connected to a provide port that falls inactive
   pub unused : isUse t (w .kind) q ≡ false → active t v q ≡ true → active t w q ≡ false → someConnection c (employs t c i q) ≡ false
   unfolding portCheck failsInUse
   unused u a b =
-      let (_, e₁) = passes (any (portsOf t v) (failsUnserved t c i w)) _ ok in
-      let (_, e₂) = passes (any (portsOf t v) (failsRefusing t c i v w)) _ e₁ in
-      let (none, _) = passes (any (portsOf t v) (failsInUse t c i v w)) _ e₂ in
+      let (_, e₁) = passes (anyBelow (portsOf t v) (failsUnserved t c i w)) _ ok in
+      let (_, e₂) = passes (anyBelow (portsOf t v) (failsRefusing t c i v w)) _ e₁ in
+      let (none, _) = passes (anyBelow (portsOf t v) (failsInUse t c i v w)) _ e₂ in
       rw (u, a, b) at (any-none (portsOf t v) (failsInUse t c i v w) none q h)
 
 -- ---- who is present
 
 -- an allowed action that changes an instance's part adds the instance, or the instance is present
-pub owner-known : (default : ℕ) (t : Tables) (c : Configuration) (a : Action) → check default t c a ≡ 0 → changes a (ownerOf a) ≡ true
+pub owner-known : (default : ℕ) (t : Tables) (c : Configuration) (a : Action) → actionCheck default t c a ≡ 0 → changes a (ownerOf a) ≡ true
     → ((i : ℕ) × (k : ℕ) × (a ≡ add i k)) ⊎ (instance c (ownerOf a) .present ≡ true)
-unfolding check change touches owner
+unfolding actionCheck change touches owner
 owner-known default t c (add i k) e q = inl (i, k, refl)
 owner-known default t c (del i) e q = inr (del-facts c i e .present)
 owner-known default t c (pushb i b) e q = inr (pushb-facts default t c i b e .present)

@@ -9,22 +9,22 @@ use native.Mathlib.Decide.{decLt}
 use lib.Dec.{eqb, ltb}
 use lib.ListN.{length, getD, length-set}
 use borrow.Author.Tests.{eqb-true, eq-eqb, not-true, ltb-true}
-use Rattle.sets.specs.Test.{any}
+use Rattle.sets.specs.Test.{anyBelow}
 use Rattle.sets.proofs.Laws.{any-none, any-hit, any-some}
 use Rattle.model.specs.declared.Tables.{Tables}
 use Rattle.model.specs.declared.Instance.{Instance}
 use Rattle.model.specs.declared.Connection.{Connection}
 use Rattle.model.specs.declared.Configuration.{Configuration}
 use Rattle.model.specs.Empty.{noConnection}
-use Rattle.model.specs.View.{isUse, instance, connection, head, withConnections}
+use Rattle.model.specs.View.{isUse, instance, connection, queueHead, withConnections}
 use Rattle.model.proofs.View.{connection-same, connection-other}
 use Rattle.forms.proofs.Tests.{by-test}
 use Rattle.rules.specs.Instance.{portsOf, fired, endedBy, entered, withQueued}
 use Rattle.rules.specs.Ports.{someConnection}
 use Rattle.rules.specs.Del.{namedBy}
 use Rattle.rules.specs.Con.{isOf, isUsePort, isProvidePort, connected}
-use Rattle.rules.specs.DCon.{sameConnection, first, placeOf, disconnected}
-use Rattle.rules.specs.Action.{Action, add, del, pushb, con, dcon, wait, fire, end, enter, finish, check, effect}
+use Rattle.rules.specs.DCon.{sameConnection, firstBelow, placeOf, disconnected}
+use Rattle.rules.specs.Action.{Action, add, del, pushb, con, dcon, wait, fire, end, enter, finish, actionCheck, effect}
 use Rattle.rules.specs.Proper.{Joins, WellFormed}
 use Rattle.rules.proofs.Closing.{closed-outside, closed-inside, length-closed}
 use Rattle.rules.proofs.Local.{Wiring, kept, made, cut, Wires, wires, rewired, wiringOf, change, touches, changes, owner, ownerOf, at-owner, self, ownInstance, rest-after, part-kept, instance-own, instance-other}
@@ -101,12 +101,12 @@ module _ (c : Configuration) (k : Connection) where
 
 -- ---- dcon
 
-first-is : (n : ℕ) (p : ℕ → Bool) → any n p ≡ true → (first n p < n) × (p (first n p) ≡ true)
-unfolding any first
+first-is : (n : ℕ) (p : ℕ → Bool) → anyBelow n p ≡ true → (firstBelow n p < n) × (p (firstBelow n p) ≡ true)
+unfolding anyBelow firstBelow
 first-is zero p e = absurd (false≢true e)
-first-is (suc n) p e = go (any n p) refl (first-is n p)
+first-is (suc n) p e = go (anyBelow n p) refl (first-is n p)
   where
-    go : (b : Bool) → any n p ≡ b → (any n p ≡ true → (first n p < n) × (p (first n p) ≡ true)) → (cond b (first n p) n < suc n) × (p (cond b (first n p) n) ≡ true)
+    go : (b : Bool) → anyBelow n p ≡ b → (anyBelow n p ≡ true → (firstBelow n p < n) × (p (firstBelow n p) ≡ true)) → (cond b (firstBelow n p) n < suc n) × (p (cond b (firstBelow n p) n) ≡ true)
     go true q f = let r = f q in let h = r .0 in (omega arith, r .1)
     go false q f = (omega arith, rw q at e)
 
@@ -184,8 +184,8 @@ Passed t c kept = Unit {0}
 Passed t c (made k) = ConFacts t c k
 Passed t c (cut k) = DconFacts t c k
 
-pub passed : (default : ℕ) (t : Tables) (c : Configuration) (a : Action) → check default t c a ≡ 0 → Passed t c (wiringOf (change a))
-unfolding check change wiringOf Passed
+pub passed : (default : ℕ) (t : Tables) (c : Configuration) (a : Action) → actionCheck default t c a ≡ 0 → Passed t c (wiringOf (change a))
+unfolding actionCheck change wiringOf Passed
 passed default t c (con k) e = con-facts t c k e
 passed default t c (dcon k) e = dcon-facts t c k e
 passed default t c (add i k) e = tt
@@ -218,9 +218,9 @@ joins-alike t c d k (up, uk) (pp, pk) j =
     }
 
 -- an instance that a connection names stays present and of its type
-own-alike : (default : ℕ) (t : Tables) (c : Configuration) (a : Action) → check default t c a ≡ 0 → instance c (ownerOf a) .present ≡ true → someConnection c (namedBy (ownerOf a)) ≡ true
-    → changes a (ownerOf a) ≡ true → Alike (ownInstance t (instance c (ownerOf a)) (head c (ownerOf a)) a) (instance c (ownerOf a))
-unfolding check change touches owner self fired endedBy entered withQueued
+own-alike : (default : ℕ) (t : Tables) (c : Configuration) (a : Action) → actionCheck default t c a ≡ 0 → instance c (ownerOf a) .present ≡ true → someConnection c (namedBy (ownerOf a)) ≡ true
+    → changes a (ownerOf a) ≡ true → Alike (ownInstance t (instance c (ownerOf a)) (queueHead c (ownerOf a)) a) (instance c (ownerOf a))
+unfolding actionCheck change touches owner self fired endedBy entered withQueued
 own-alike default t c (add i k) e here on q = absurd (false≢true (sym (add-facts c i e) ∙ here))
 own-alike default t c (del i) e here on q = absurd (false≢true (sym (del-facts c i e .unnamed) ∙ on))
 own-alike default t c (pushb i b) e here on q = (refl, refl)
@@ -288,12 +288,12 @@ module _ (default : ℕ) (t : Tables) (c : Configuration) (now : Wired t c) wher
   full-after (made k) = length-set (c .connections) (c .count) k ∙ now .full
   full-after (cut k) = length-closed noConnection (c .connections) (placeOf c k) (c .count) ∙ now .full
 
-  module _ (a : Action) (ok : check default t c a ≡ 0) where
+  module _ (a : Action) (ok : actionCheck default t c a ≡ 0) where
     alike-after : (j : ℕ) → instance c j .present ≡ true → (changes a j ≡ true → someConnection c (namedBy j) ≡ true) → Alike (instance (effect t c a) j) (instance c j)
     alike-after j here on =
         by-test (changes a j)
         (λ q. subst⁻¹ (λ (v : Instance). Alike v (instance c j)) (instance-own t c a j q (present-in c j here))
-        (at-owner (λ (n : ℕ). instance c n .present ≡ true → someConnection c (namedBy n) ≡ true → Alike (ownInstance t (instance c n) (head c n) a) (instance c n)) a j q
+        (at-owner (λ (n : ℕ). instance c n .present ≡ true → someConnection c (namedBy n) ≡ true → Alike (ownInstance t (instance c n) (queueHead c n) a) (instance c n)) a j q
         (λ r h s. own-alike default t c a ok h s r) here (on q)))
         (λ q. same-alike (instance-other t c a j q))
 

@@ -16,7 +16,7 @@ use Rattle.model.specs.declared.Instance.{Instance}
 use Rattle.model.specs.declared.Connection.{Connection}
 use Rattle.model.specs.declared.Configuration.{Configuration}
 use Rattle.model.specs.Empty.{absent}
-use Rattle.model.specs.View.{instance, slot, head, put, withQueue, withConnections}
+use Rattle.model.specs.View.{instance, slot, queueHead, put, withQueue, withConnections}
 use Rattle.model.proofs.View.{put-same, put-other, apart, outside, slot-set}
 use Rattle.rules.specs.Closing.{closed, zeroed, renewed}
 use Rattle.rules.specs.Instance.{current, leaving, entering, fired, endedBy, entered, withQueued}
@@ -148,7 +148,7 @@ turned (appended b) q i n = set q (i * 8 + n) b
 turned shifted q i n = closed 0 q (i * 8) (i * 8 + n)
 
 unfoldable changed : Tables → Configuration → Change → Configuration
-changed t c (part i u f) = put (withQueue c (turned u (c .queue) i (instance c i .queued))) i (f t (instance c i) (head c i))
+changed t c (part i u f) = put (withQueue c (turned u (c .queue) i (instance c i .queued))) i (f t (instance c i) (queueHead c i))
 changed t c (wiring w) = withConnections c (rewired w (wires c) .list) (rewired w (wires c) .count)
 
 effect-is : (t : Tables) (c : Configuration) (a : Action) → effect t c a ≡ changed t c (change a)
@@ -259,13 +259,13 @@ module _ (t : Tables) (c : Configuration) (a : Action) where
       go (part i u f) = record { instances = length-set (c .instances) i _; queue = turned-length c i u _; connections = refl; done = refl }
       go (wiring w) = record { instances = refl; queue = refl; connections = refl; done = refl }
 
-  pub instance-own : (j : ℕ) → changes a j ≡ true → j < length (c .instances) → instance (effect t c a) j ≡ ownInstance t (instance c j) (head c j) a
+  pub instance-own : (j : ℕ) → changes a j ≡ true → j < length (c .instances) → instance (effect t c a) j ≡ ownInstance t (instance c j) (queueHead c j) a
   unfolding changed touches self withQueue
   instance-own j e h = ap (λ (d : Configuration). instance d j) (effect-is t c a) ∙ go (change a) e
     where
-      go : (x : Change) → touches x j ≡ true → instance (changed t c x) j ≡ self x t (instance c j) (head c j)
+      go : (x : Change) → touches x j ≡ true → instance (changed t c x) j ≡ self x t (instance c j) (queueHead c j)
       go (part i u f) e =
-          subst (λ (n : ℕ). instance (changed t c (part i u f)) n ≡ f t (instance c n) (head c n)) (eqb-true i j e)
+          subst (λ (n : ℕ). instance (changed t c (part i u f)) n ≡ f t (instance c n) (queueHead c n)) (eqb-true i j e)
           (put-same (withQueue c (turned u (c .queue) i (instance c i .queued))) i _ (rw (eqb-true i j e) h))
       go (wiring w) e = absurd (false≢true e)
 

@@ -13,7 +13,7 @@ use Rattle.model.specs.declared.Program.{Program}
 use Rattle.model.specs.declared.Step.{Step}
 use Rattle.model.specs.declared.Configuration.{Configuration}
 use Rattle.model.specs.declared.Walked.{Walked}
-use Rattle.rules.specs.Refusal.{_⇒_∣_, noInstructionLeft, orElse}
+use Rattle.rules.specs.Refusal.{_⇒_∣_, noInstructionLeft, orNumber}
 use Rattle.rules.specs.Ports.{portCheck}
 use Rattle.rules.specs.Add.{addCheck}
 use Rattle.rules.specs.Del.{delCheck}
@@ -25,8 +25,8 @@ use Rattle.rules.specs.Fire.{fireRow, fireCheck}
 use Rattle.rules.specs.End.{endCheck}
 use Rattle.rules.specs.Enter.{enterRow, enterCheck}
 use Rattle.rules.specs.Finish.{finishRow, finishCheck}
-use Rattle.rules.specs.Action.{Action, add, del, pushb, con, dcon, wait, fire, end, enter, finish, check}
-use Rattle.rules.specs.Step.{isNext, action, number, after}
+use Rattle.rules.specs.Action.{Action, add, del, pushb, con, dcon, wait, fire, end, enter, finish, actionCheck}
+use Rattle.rules.specs.Step.{isNext, action, stepCheck, stepTo}
 use Rattle.rules.specs.Walk.{oneMore, walk}
 use Rattle.rules.proofs.Walks.{walk-cases}
 
@@ -41,7 +41,7 @@ row : (b : Bool) (n m : ℕ) → T (leb 10 n) → T (leb n 37) → Numbered m �
 row true n m h g f = record { range = inr (lit≤ h, lit≤ g) }
 row false n m h g f = f
 
-or-else : (a b : ℕ) → Numbered a → Numbered b → Numbered (orElse a b)
+or-else : (a b : ℕ) → Numbered a → Numbered b → Numbered (orNumber a b)
 or-else a b f g = go (eqb a 0)
   where
     go : (t : Bool) → Numbered (cond t b a)
@@ -50,8 +50,8 @@ or-else a b f g = go (eqb a 0)
 
 ruleset rows = (row, or-else, none)
 
-check-numbered : (default : ℕ) (t : Tables) (c : Configuration) (a : Action) → Numbered (check default t c a)
-unfolding check addCheck delCheck pushbCheck conCheck dconCheck waitCheck fireCheck fireRow endCheck enterCheck enterRow finishCheck finishRow portCheck
+check-numbered : (default : ℕ) (t : Tables) (c : Configuration) (a : Action) → Numbered (actionCheck default t c a)
+unfolding actionCheck addCheck delCheck pushbCheck conCheck dconCheck waitCheck fireCheck fireRow endCheck enterCheck enterRow finishCheck finishRow portCheck
 check-numbered default t c (add i k) = search rows
 check-numbered default t c (del i) = search rows
 check-numbered default t c (pushb i b) = search rows
@@ -63,8 +63,8 @@ check-numbered default t c (end i x) = search rows
 check-numbered default t c (enter i p) = search rows depth 8
 check-numbered default t c (finish i) = search rows
 
-pub step-numbered : (default : ℕ) (t : Tables) (p : Program) (c : Configuration) (s : Step) → Numbered (number default t p c s)
-unfolding number
+pub step-numbered : (default : ℕ) (t : Tables) (p : Program) (c : Configuration) (s : Step) → Numbered (stepCheck default t p c s)
+unfolding stepCheck
 step-numbered default t p c s = row (isNext s && leb (p .count) (c .done)) noInstructionLeft _ tt tt (check-numbered default t c (action p c s))
 
 -- a walk over n steps
@@ -77,5 +77,5 @@ unfolding walk oneMore
 walk-numbers default t p [] c = record { refused = none; accepted = omega arith }
 walk-numbers default t p (s ∷ ss) c =
     walk-cases default t p (WalkNumbers (suc (length ss))) c s ss
-    (λ e. let h = walk-numbers default t p ss (after t p c s) in record { refused = h .refused; accepted = omega (arith, h .accepted) })
+    (λ e. let h = walk-numbers default t p ss (stepTo t p c s) in record { refused = h .refused; accepted = omega (arith, h .accepted) })
     (λ n. record { refused = step-numbered default t p c s; accepted = omega arith })

@@ -18,13 +18,13 @@ use Rattle.model.specs.declared.Step.{Step}
 use Rattle.model.specs.declared.Instance.{Instance}
 use Rattle.model.specs.declared.Configuration.{Configuration}
 use Rattle.model.specs.Empty.{start}
-use Rattle.model.specs.View.{typeOf, destination, instance, connection, slot, head, withDone}
+use Rattle.model.specs.View.{typeOf, destination, instance, connection, slot, queueHead, withDone}
 use Rattle.model.proofs.View.{start-instance, start-lengths}
 use Rattle.rules.specs.Instance.{held, current, endsAt, leaving, entering, fired, endedBy, entered, withQueued}
 use Rattle.rules.specs.Add.{fresh}
 use Rattle.rules.specs.PushB.{depthOf}
-use Rattle.rules.specs.Action.{Action, add, del, pushb, con, dcon, wait, fire, end, enter, finish, move, check, effect}
-use Rattle.rules.specs.Step.{isNext, line, action, number, after}
+use Rattle.rules.specs.Action.{Action, add, del, pushb, con, dcon, wait, fire, end, enter, finish, moveAction, actionCheck, effect}
+use Rattle.rules.specs.Step.{isNext, actionAt, action, stepCheck, stepTo}
 use Rattle.rules.specs.Walk.{walk}
 use Rattle.rules.specs.Proper.{ProperInstance, Proper, WalksAreProper}
 use Rattle.rules.proofs.Masks.{in-collect, none-in-zero, neither, in-without, in-joined, in-with}
@@ -153,8 +153,8 @@ module _ (default : ℕ) (t : Tables) (p : Program) (law : Facts default t p) wh
 
   -- ---- every instance's part after an action
   module _ (c : Configuration) (now : Proper default t p c) where
-    own-fits : (a : Action) → check default t c a ≡ 0 → Fits (turn (change a)) (instance c (ownerOf a) .queued)
-    unfolding check change turn owner Fits
+    own-fits : (a : Action) → actionCheck default t c a ≡ 0 → Fits (turn (change a)) (instance c (ownerOf a) .queued)
+    unfolding actionCheck change turn owner Fits
     own-fits (pushb i b) e = let x = pushb-facts default t c i b e .short in let y = law .depth in omega arith
     own-fits (finish i) e =
         let f = finish-facts t c i e in
@@ -170,10 +170,10 @@ module _ (default : ℕ) (t : Tables) (p : Program) (law : Facts default t p) wh
     own-fits (end i x) e = tt
     own-fits (enter i q) e = tt
 
-    own-proper : (a : Action) → Lawfully t a → check default t c a ≡ 0 → changes a (ownerOf a) ≡ true
-        → ownInstance t (instance c (ownerOf a)) (head c (ownerOf a)) a .present ≡ true
-        → ProperInstance default t (ownInstance t (instance c (ownerOf a)) (head c (ownerOf a)) a) (ownSlot (instance c (ownerOf a) .queued) (slot c (ownerOf a)) a)
-    unfolding check change touches owner self turn turnedSlot
+    own-proper : (a : Action) → Lawfully t a → actionCheck default t c a ≡ 0 → changes a (ownerOf a) ≡ true
+        → ownInstance t (instance c (ownerOf a)) (queueHead c (ownerOf a)) a .present ≡ true
+        → ProperInstance default t (ownInstance t (instance c (ownerOf a)) (queueHead c (ownerOf a)) a) (ownSlot (instance c (ownerOf a) .queued) (slot c (ownerOf a)) a)
+    unfolding actionCheck change touches owner self turn turnedSlot
     own-proper (add i k) new e q h = add-proper _ k (new i k refl .1)
     own-proper (del i) new e q h = absurd (false≢true h)
     own-proper (pushb i b) new e q h =
@@ -188,7 +188,7 @@ module _ (default : ℕ) (t : Tables) (p : Program) (law : Facts default t p) wh
         let f = enter-facts t c i x e in enter-proper (instance c i) (slot c i) (now .each i (f .present)) x (f .queued) (f .some)
     own-proper (finish i) new e q h = let f = finish-facts t c i e in finish-proper (instance c i) (slot c i) (now .each i (f .present))
 
-    module _ (a : Action) (new : Lawfully t a) (ok : check default t c a ≡ 0) where
+    module _ (a : Action) (new : Lawfully t a) (ok : actionCheck default t c a ≡ 0) where
       owner-in : changes a (ownerOf a) ≡ true → ownerOf a < 32
       unfolding change owner
       owner-in q =
@@ -208,8 +208,8 @@ module _ (default : ℕ) (t : Tables) (p : Program) (law : Facts default t p) wh
           own : changes a j ≡ true → ProperInstance default t (instance (effect t c a) j) (slot (effect t c a) j)
           own q =
               let w = instance-own t c a j q (rw (← rest-after t c a .instances) (present-in (effect t c a) j h)) in
-              same-proper (ownInstance t (instance c j) (head c j) a) (ownSlot (instance c j .queued) (slot c j) a)
-              (at-owner (λ (n : ℕ). ownInstance t (instance c n) (head c n) a .present ≡ true → ProperInstance default t (ownInstance t (instance c n) (head c n) a) (ownSlot (instance c n .queued) (slot c n) a)) a j q
+              same-proper (ownInstance t (instance c j) (queueHead c j) a) (ownSlot (instance c j .queued) (slot c j) a)
+              (at-owner (λ (n : ℕ). ownInstance t (instance c n) (queueHead c n) a .present ≡ true → ProperInstance default t (ownInstance t (instance c n) (queueHead c n) a) (ownSlot (instance c n .queued) (slot c n) a)) a j q
               (λ r. own-proper a new ok r) (rw w at h))
               (instance (effect t c a) j) (slot (effect t c a) j) w (slot-own t c a (now .queue-length) room j q)
 
@@ -265,15 +265,15 @@ start-proper default t p =
     }
 
 module _ (default : ℕ) (t : Tables) (p : Program) (law : Facts default t p) where
-  pub step-lawfully : (c : Configuration) (s : Step) → number default t p c s ≡ 0 → Lawfully t (action p c s)
+  pub step-lawfully : (c : Configuration) (s : Step) → stepCheck default t p c s ≡ 0 → Lawfully t (action p c s)
   unfolding action
   step-lawfully c s e i k = go (isNext s) (number-facts default t p c s e .1)
     where
-      go : (b : Bool) → (b ≡ true → c .done < p .count) → cond b (line p (c .done)) (move s) ≡ add i k → (i < 32) × (k < t .count)
+      go : (b : Bool) → (b ≡ true → c .done < p .count) → cond b (actionAt p (c .done)) (moveAction s) ≡ add i k → (i < 32) × (k < t .count)
       go true h q = law .adds (c .done) i k (h refl) q
       go false h q = absurd (not-add (move-no-add s) q)
 
-  pub step-proper : (c : Configuration) (s : Step) → Proper default t p c → number default t p c s ≡ 0 → Proper default t p (after t p c s)
+  pub step-proper : (c : Configuration) (s : Step) → Proper default t p c → stepCheck default t p c s ≡ 0 → Proper default t p (stepTo t p c s)
   step-proper c s now e =
       let (ok, left) = number-facts default t p c s e in
       let there = action-proper default t p law c now (action p c s) (step-lawfully c s e) ok in

@@ -9,7 +9,7 @@ use native.Mathlib.Decide.{decLt}
 use lib.Dec.{eqb, leb}
 use lib.ListN.{getD}
 use borrow.Author.Tests.{ltb-true, leb-true, not-true}
-use Rattle.sets.specs.Test.{all}
+use Rattle.sets.specs.Test.{allBelow}
 use Rattle.sets.specs.Mask.{member, overlaps}
 use Rattle.sets.proofs.Laws.{all-at, member-past}
 use Rattle.model.specs.declared.Tables.{Tables}
@@ -21,8 +21,8 @@ use Rattle.model.specs.Verb.{addVerb}
 use Rattle.reading.specs.Limits.{depthOk, typesOk, placesOk, transitionsOk, behaviorsOk, portsOk, programOk, kindOk, maskOk, endOk, idOk, initialOk}
 use Rattle.reading.specs.Lawful.{transitionLawful, behaviorLawful, portLawful, typeLawful, tablesLawful, instructionLawful, programLawful, Lawful}
 use Rattle.rules.specs.PushB.{depthOf}
-use Rattle.rules.specs.Action.{Action, add, instruction}
-use Rattle.rules.specs.Step.{line}
+use Rattle.rules.specs.Action.{Action, add, instructionAction}
+use Rattle.rules.specs.Step.{actionAt}
 use Rattle.rules.proofs.Actions.{instruction-cases, isAdd, not-add}
 
 -- of type k
@@ -44,7 +44,7 @@ pub record Facts (default : ℕ) (t : Tables) (p : Program) : Type 0 where
   pub types : (k : ℕ) → k < t .count → TypeFacts t k
   pub program : p .count ≤ 256
   -- an `add` has an id below 32 and a type that exists
-  pub adds : (n i k : ℕ) → n < p .count → line p n ≡ add i k → (i < 32) × (k < t .count)
+  pub adds : (n i k : ℕ) → n < p .count → actionAt p n ≡ add i k → (i < 32) × (k < t .count)
 
 -- a member of a set of members below n
 in-mask : (n m x : ℕ) → maskOk n m ≡ true → member x m ≡ true → x < n
@@ -76,9 +76,9 @@ type-facts t k e =
     let (initial, e₂) = both (maskOk (typeOf t k .places) (typeOf t k .initial)) e₁ in
     let (_, e₃) = both (initialOk (typeOf t k .initial)) e₂ in
     let (transitions, e₄) = both (transitionsOk (typeOf t k .transitions)) e₃ in
-    let (ends, e₅) = both (all (typeOf t k .transitions) (transitionLawful t k)) e₄ in
+    let (ends, e₅) = both (allBelow (typeOf t k .transitions) (transitionLawful t k)) e₄ in
     let (behaviors, e₆) = both (behaviorsOk (typeOf t k .behaviors)) e₅ in
-    let (lists, e₇) = both (all (typeOf t k .behaviors) (behaviorLawful t k)) e₆ in
+    let (lists, e₇) = both (allBelow (typeOf t k .behaviors) (behaviorLawful t k)) e₆ in
     let (ports, groups) = both (portsOk (typeOf t k .ports)) e₇ in
     record {
       places = leb-true _ 16 (both (leb 1 (typeOf t k .places)) places .1);
@@ -92,7 +92,7 @@ type-facts t k e =
       use-port = λ q h u. port-spared t k q (all-at (typeOf t k .ports) (portLawful t k) groups q h) u;
     }
 
-add-facts : (n : ℕ) (x : Instruction) (i k : ℕ) → instructionLawful n x ≡ true → instruction x ≡ add i k → (i < 32) × (k < n)
+add-facts : (n : ℕ) (x : Instruction) (i k : ℕ) → instructionLawful n x ≡ true → instructionAction x ≡ add i k → (i < 32) × (k < n)
 unfolding instructionLawful isAdd
 add-facts n x i k e = instruction-cases (λ a. a ≡ add i k → (i < 32) × (k < n)) x known (other refl) (other refl) (other refl) (other refl) (other refl)
   where
@@ -113,7 +113,7 @@ depth-of true d n h g = h
 depth-of false d n h g = g
 
 pub facts : (default : ℕ) (t : Tables) (p : Program) → default ≤ 8 → Lawful t p → Facts default t p
-unfolding Lawful tablesLawful programLawful line
+unfolding Lawful tablesLawful programLawful actionAt
 facts default t p small (tables, program) =
     let (depth, e₁) = both (depthOk (t .depth)) tables in
     let (count, types) = both (typesOk (t .count)) e₁ in

@@ -36,8 +36,8 @@ abbrev pub named : Instruction → Connection
 named n = record { user = n .id; useport = n .number; provider = n .provider; provideport = n .provideport }
 
 -- the instruction of a `do` line; a code that no line says counts as the last verb
-unfoldable pub instruction : Instruction → Action
-instruction n =
+unfoldable pub instructionAction : Instruction → Action
+instructionAction n =
     cond (eqb (n .verb) addVerb) (add (n .id) (n .number))
     (cond (eqb (n .verb) delVerb) (del (n .id))
     (cond (eqb (n .verb) pushbVerb) (pushb (n .id) (n .number))
@@ -46,8 +46,8 @@ instruction n =
     (wait (n .id))))))
 
 -- the move of a `step` line other than `next`
-unfoldable pub move : Step → Action
-move s =
+unfoldable pub moveAction : Step → Action
+moveAction s =
     cond (eqb (s .verb) fireVerb) (fire (s .id) (s .number))
     (cond (eqb (s .verb) endVerb) (end (s .id) (s .number))
     (cond (eqb (s .verb) enterVerb) (enter (s .id) (s .number))
@@ -66,8 +66,8 @@ checkBy fires enters default t c (end i x) = endCheck c i x
 checkBy fires enters default t c (enter i p) = enters i p
 checkBy fires enters default t c (finish i) = finishCheck t c i
 
-unfoldable pub check : ℕ → Tables → Configuration → Action → ℕ
-check default t c a = checkBy (fireCheck t c) (enterCheck t c) default t c a
+unfoldable pub actionCheck : ℕ → Tables → Configuration → Action → ℕ
+actionCheck default t c a = checkBy (fireCheck t c) (enterCheck t c) default t c a
 
 unfoldable pub effect : Tables → Configuration → Action → Configuration
 effect t c (add i k) = added t c i k

@@ -4,6 +4,7 @@ use mathlib.Core.Bool.{Bool, not, _&&_}
 use Prim.Native.Nat.{ℕ, suc}
 use lib.Dec.{eqb, ltb}
 use lib.ListN.{set}
+use Rattle.model.specs.Empty.{mostConnections}
 use Rattle.model.specs.declared.Tables.{Tables}
 use Rattle.model.specs.declared.Connection.{Connection}
 use Rattle.model.specs.declared.Configuration.{Configuration}
@@ -30,7 +31,7 @@ conCheck t c k =
     ∣ not (isProvidePort t c (k .provider) (k .provideport)) ⇒ noSuch
     ∣ eqb (k .user) (k .provider) ⇒ oneInstance
     ∣ someConnection c (isOf (k .user) (k .useport)) ⇒ alreadyConnected
-    ∣ not (ltb (c .count) 64) ⇒ noMoreConnections
+    ∣ not (ltb (c .count) mostConnections) ⇒ noMoreConnections
     ∣ allowed
 
 unfoldable pub connected : Configuration → Connection → Configuration

@@ -3,7 +3,7 @@
 use mathlib.Core.Bool.{Bool, not, _&&_, cond}
 use Prim.Native.Nat.{ℕ, zero, suc, _-_}
 use lib.Dec.{eqb}
-use Rattle.sets.specs.Test.{any}
+use Rattle.sets.specs.Test.{anyBelow}
 use Rattle.model.specs.declared.Tables.{Tables}
 use Rattle.model.specs.declared.Connection.{Connection}
 use Rattle.model.specs.declared.Configuration.{Configuration}
@@ -19,12 +19,12 @@ sameConnection k l =
     eqb (l .user) (k .user) && (eqb (l .useport) (k .useport) && (eqb (l .provider) (k .provider) && eqb (l .provideport) (k .provideport)))
 
 -- the first number below n that passes the test, where one does
-unfoldable pub first : ℕ → (ℕ → Bool) → ℕ
-first zero p = 0
-first (suc n) p = cond (any n p) (first n p) n
+unfoldable pub firstBelow : ℕ → (ℕ → Bool) → ℕ
+firstBelow zero p = 0
+firstBelow (suc n) p = cond (anyBelow n p) (firstBelow n p) n
 
 abbrev pub placeOf : Configuration → Connection → ℕ
-placeOf c k = first (c .count) (λ l. sameConnection k (connection c l))
+placeOf c k = firstBelow (c .count) (λ l. sameConnection k (connection c l))
 
 unfoldable pub dconCheck : Tables → Configuration → Connection → ℕ
 dconCheck t c k =

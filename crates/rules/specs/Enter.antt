@@ -8,7 +8,7 @@ use Rattle.model.specs.declared.Tables.{Tables}
 use Rattle.model.specs.declared.Instance.{Instance}
 use Rattle.model.specs.declared.Configuration.{Configuration}
 use Rattle.model.specs.View.{instance, put}
-use Rattle.rules.specs.Refusal.{_⇒_∣_, allowed, idAbsent, queueEmpty, noTransition, notReady, heldOrMarked, orElse}
+use Rattle.rules.specs.Refusal.{_⇒_∣_, allowed, idAbsent, queueEmpty, noTransition, notReady, heldOrMarked, orNumber}
 use Rattle.rules.specs.Instance.{entering, entered}
 use Rattle.rules.specs.Ports.{behavior, PortCheck, portCheck}
 
@@ -30,7 +30,7 @@ afterEnter t c i p = entered (instance c i) p (enterers t c i p)
 
 -- the row, and then a check of the ports
 abbrev pub enterCheckBy : PortCheck → Tables → Configuration → ℕ → ℕ → ℕ
-enterCheckBy ports t c i p = orElse (enterRow (instance c i) p (enterers t c i p)) (ports t c i (instance c i) (afterEnter t c i p))
+enterCheckBy ports t c i p = orNumber (enterRow (instance c i) p (enterers t c i p)) (ports t c i (instance c i) (afterEnter t c i p))
 
 unfoldable pub enterCheck : Tables → Configuration → ℕ → ℕ → ℕ
 enterCheck t c i p = enterCheckBy portCheck t c i p

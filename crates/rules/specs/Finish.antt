@@ -3,7 +3,7 @@
 use mathlib.Core.Bool.{Bool, not, _&&_, _||_}
 use Prim.Native.Nat.{ℕ, _+_, _-_, _*_}
 use lib.Dec.{eqb}
-use Rattle.sets.specs.Test.{any}
+use Rattle.sets.specs.Test.{anyBelow}
 use Rattle.sets.specs.Mask.{member}
 use Rattle.model.specs.declared.Tables.{Tables}
 use Rattle.model.specs.declared.Instance.{Instance}
@@ -22,7 +22,7 @@ unfoldable pub finishRow : Tables → Instance → ℕ → ℕ
 finishRow t v m =
     not (v .present) ⇒ idAbsent
     ∣ eqb (v .queued) 0 ⇒ queueEmpty
-    ∣ not (eqb (held v) 0) || any 16 (mayLeave t v m) ⇒ tooEarly
+    ∣ not (eqb (held v) 0) || anyBelow 16 (mayLeave t v m) ⇒ tooEarly
     ∣ allowed
 
 unfoldable pub finishCheck : Tables → Configuration → ℕ → ℕ

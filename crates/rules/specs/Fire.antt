@@ -8,7 +8,7 @@ use Rattle.model.specs.declared.Tables.{Tables}
 use Rattle.model.specs.declared.Instance.{Instance}
 use Rattle.model.specs.declared.Configuration.{Configuration}
 use Rattle.model.specs.View.{instance, put}
-use Rattle.rules.specs.Refusal.{_⇒_∣_, allowed, idAbsent, queueEmpty, noTransition, notReady, heldOrMarked, orElse}
+use Rattle.rules.specs.Refusal.{_⇒_∣_, allowed, idAbsent, queueEmpty, noTransition, notReady, heldOrMarked, orNumber}
 use Rattle.rules.specs.Instance.{held, leaving, fired}
 use Rattle.rules.specs.Ports.{behavior, PortCheck, portCheck}
 
@@ -30,7 +30,7 @@ afterFire t c i p = fired (instance c i) p (leavers t c i p)
 
 -- the row, and then a check of the ports
 abbrev pub fireCheckBy : PortCheck → Tables → Configuration → ℕ → ℕ → ℕ
-fireCheckBy ports t c i p = orElse (fireRow (instance c i) p (leavers t c i p)) (ports t c i (instance c i) (afterFire t c i p))
+fireCheckBy ports t c i p = orNumber (fireRow (instance c i) p (leavers t c i p)) (ports t c i (instance c i) (afterFire t c i p))
 
 unfoldable pub fireCheck : Tables → Configuration → ℕ → ℕ → ℕ
 fireCheck t c i p = fireCheckBy portCheck t c i p

@@ -2,23 +2,23 @@
 use mathlib.Core.Bool.{Bool, not, _&&_}
 use Prim.Native.Nat.{ℕ}
 use lib.Dec.{eqb}
-use Rattle.sets.specs.Test.{any}
+use Rattle.sets.specs.Test.{anyBelow}
 use Rattle.sets.specs.Mask.{member, overlaps}
 use Rattle.model.specs.declared.Tables.{Tables}
 use Rattle.model.specs.declared.Instance.{Instance}
 use Rattle.model.specs.declared.Connection.{Connection}
 use Rattle.model.specs.declared.Configuration.{Configuration}
-use Rattle.model.specs.View.{isUse, instance, connection, head}
+use Rattle.model.specs.View.{isUse, instance, connection, queueHead}
 use Rattle.rules.specs.Refusal.{_⇒_∣_, allowed, unserved, providerRefusing, serviceInUse}
 use Rattle.rules.specs.Instance.{held, active, portsOf, current, leaving, fired}
 
 -- some connection passes the test
 unfoldable pub someConnection : Configuration → (Connection → Bool) → Bool
-someConnection c test = any (c .count) (λ l. test (connection c l))
+someConnection c test = anyBelow (c .count) (λ l. test (connection c l))
 
 -- the current behavior of instance i
 abbrev pub behavior : Tables → Configuration → ℕ → ℕ
-behavior t c i = current t (instance c i) (head c i)
+behavior t c i = current t (instance c i) (queueHead c i)
 
 -- "some marked place [p] of its instance has leaving transitions in the current behavior [m], none held, whose firing would make the port [q] inactive"
 unfoldable pub wouldLeave : Tables → Instance → ℕ → ℕ → ℕ → Bool
@@ -28,7 +28,7 @@ wouldLeave t v m q p =
 
 -- "A provide port is *refusing* when it is active and" one of the 16 places is such a place
 unfoldable pub refusing : Tables → Instance → ℕ → ℕ → Bool
-refusing t v m q = active t v q && any 16 (wouldLeave t v m q)
+refusing t v m q = active t v q && anyBelow 16 (wouldLeave t v m q)
 
 -- the connection joins the use port q of i to an active provide port; to a refusing one
 unfoldable pub serves : Tables → Configuration → ℕ → ℕ → Connection → Bool
@@ -61,7 +61,7 @@ PortCheck = Tables → Configuration → ℕ → Instance → Instance → ℕ
 -- "Only the moving instance's own ports are tested"; "Checks 34, 35 and 36 each run over all ports before the next"
 unfoldable pub portCheck : PortCheck
 portCheck t c i v w =
-    any (portsOf t v) (failsUnserved t c i w) ⇒ unserved
-    ∣ any (portsOf t v) (failsRefusing t c i v w) ⇒ providerRefusing
-    ∣ any (portsOf t v) (failsInUse t c i v w) ⇒ serviceInUse
+    anyBelow (portsOf t v) (failsUnserved t c i w) ⇒ unserved
+    ∣ anyBelow (portsOf t v) (failsRefusing t c i v w) ⇒ providerRefusing
+    ∣ anyBelow (portsOf t v) (failsInUse t c i v w) ⇒ serviceInUse
     ∣ allowed

@@ -13,7 +13,7 @@ use Rattle.model.specs.declared.Step.{Step}
 use Rattle.model.specs.declared.Instance.{Instance}
 use Rattle.model.specs.declared.Connection.{Connection}
 use Rattle.model.specs.declared.Configuration.{Configuration}
-use Rattle.model.specs.Empty.{start}
+use Rattle.model.specs.Empty.{start, mostConnections}
 use Rattle.model.specs.View.{typeOf, isUse, instance, connection, slot}
 use Rattle.reading.specs.Lawful.{Lawful}
 use Rattle.rules.specs.Instance.{portsOf}
@@ -48,11 +48,11 @@ pub record WellFormed (t : Tables) (c : Configuration) : Type 0 where
 pub record Proper (default : ℕ) (t : Tables) (p : Program) (c : Configuration) : Type 0 where
   pub each : (i : ℕ) → instance c i .present ≡ true → ProperInstance default t (instance c i) (slot c i)
   pub connections : WellFormed t c
-  pub few : c .count ≤ 64
+  pub few : c .count ≤ mostConnections
   pub done : c .done ≤ p .count
   pub instances-length : length (c .instances) ≡ 32
   pub queue-length : length (c .queue) ≡ 256
-  pub connections-length : length (c .connections) ≡ 64
+  pub connections-length : length (c .connections) ≡ mostConnections
 
 -- a prefix of an answer is an answer, so this speaks of each accepted point
 unfoldable pub WalksAreProper : Type 0

@@ -94,8 +94,8 @@ abbrev pub tooEarly : ℕ
 tooEarly = 37
 
 -- the number a, or b where a is none
-abbrev pub orElse : ℕ → ℕ → ℕ
-orElse a b = cond (eqb a allowed) b a
+abbrev pub orNumber : ℕ → ℕ → ℕ
+orNumber a b = cond (eqb a allowed) b a
 
 -- refused with n and nothing changed, or with 0 the new configuration
 abbrev pub settle : ℕ → Configuration → Configuration → Stepped

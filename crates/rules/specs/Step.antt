@@ -12,28 +12,28 @@ use Rattle.model.specs.Empty.{noInstruction}
 use Rattle.model.specs.View.{withDone}
 use Rattle.model.specs.Verb.{nextVerb}
 use Rattle.rules.specs.Refusal.{noInstructionLeft, settle}
-use Rattle.rules.specs.Action.{Action, instruction, move, check, effect}
+use Rattle.rules.specs.Action.{Action, instructionAction, moveAction, actionCheck, effect}
 
 abbrev pub isNext : Step → Bool
 isNext s = eqb (s .verb) nextVerb
 
 -- instruction number n of the program
-unfoldable pub line : Program → ℕ → Action
-line p n = instruction (getD (p .instructions) n noInstruction)
+unfoldable pub actionAt : Program → ℕ → Action
+actionAt p n = instructionAction (getD (p .instructions) n noInstruction)
 
 -- what the step does
 unfoldable pub action : Program → Configuration → Step → Action
-action p c s = cond (isNext s) (line p (c .done)) (move s)
+action p c s = cond (isNext s) (actionAt p (c .done)) (moveAction s)
 
 -- its number, by the number of what it does
 abbrev pub numberBy : (Action → ℕ) → Program → Configuration → Step → ℕ
 numberBy checks p c s = cond (isNext s && leb (p .count) (c .done)) noInstructionLeft (checks (action p c s))
 
-unfoldable pub number : ℕ → Tables → Program → Configuration → Step → ℕ
-number default t p c s = numberBy (check default t c) p c s
+unfoldable pub stepCheck : ℕ → Tables → Program → Configuration → Step → ℕ
+stepCheck default t p c s = numberBy (actionCheck default t c) p c s
 
-unfoldable pub after : Tables → Program → Configuration → Step → Configuration
-after t p c s = cond (isNext s) (withDone (effect t c (action p c s)) (suc (c .done))) (effect t c (action p c s))
+unfoldable pub stepTo : Tables → Program → Configuration → Step → Configuration
+stepTo t p c s = cond (isNext s) (withDone (effect t c (action p c s)) (suc (c .done))) (effect t c (action p c s))
 
 unfoldable pub step : ℕ → Tables → Program → Configuration → Step → Stepped
-step default t p c s = settle (number default t p c s) c (after t p c s)
+step default t p c s = settle (stepCheck default t p c s) c (stepTo t p c s)

@@ -1,5 +1,6 @@
 -- The line of a row, by the kind of the row: the kinds of lines of crate reading, each with its values in one record.
 use Prim.Native.Nat.{ℕ}
+use Rattle.forms.specs.Refusal.{badClause}
 use Rattle.forms.specs.Reader.{Reader, _>>=_, _>>_, give, check}
 use Rattle.model.specs.declared.ComponentType.{ComponentType}
 use Rattle.reading.specs.Limits.{useOk}
@@ -33,5 +34,5 @@ rowLine Ports c = do
 unfoldable pub portAfter : ℕ → ℕ → ℕ → ℕ → Reader Row
 portAfter u n k m = do
   (a, b) ← group n k
-  check (useOk m a) 4
+  check (useOk m a) badClause
   give (portRow u a b)

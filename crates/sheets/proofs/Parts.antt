@@ -4,16 +4,16 @@ use Prim.Native.Nat.{ℕ, _+_, _*_, _<_, _≤_}
 use mathlib.Core.List.{List}
 use mathlib.Core.Path.{_≡_, refl, sym, ap, _∙_}
 use native.Mathlib.Omega.{arith}
-use Rattle.forms.specs.Reader.{Reply, got, refused, bind, bytes}
+use Rattle.forms.specs.Reader.{Reply, got, refused, readOn, bytes}
 use Rattle.forms.specs.Reader as reader
 use Rattle.model.specs.declared.ComponentType.{ComponentType}
 use Rattle.model.specs.declared.Tables.{Tables}
 use Rattle.model.specs.Empty.{noTables}
 use Rattle.reading.specs.Limits.{depthOk, typesOk, placesOk, transitionsOk, behaviorsOk, portsOk, programOk}
-use Rattle.reading.specs.Lines.{Run, Lines, next, give, lineOf, line, each, atEnd}
+use Rattle.reading.specs.Lines.{Run, Lines, runOn, handOn, lineOf, line, each, atEnd}
 use Rattle.reading.specs.Kinds.{dueLine, countLine, initialLine, tranLine, behaviorLine, portLine}
 use Rattle.reading.specs.Fill.{headed, withTransition, withPort, withType, programOf}
-use Rattle.reading.specs.Texts.{tran, behavior, port, type, instruct, sheet}
+use Rattle.reading.specs.Texts.{tranAt, behaviorAt, portAt, typeLines, instructionAt, sheet}
 use Rattle.lines.specs.declared.Went.{Went}
 use Rattle.lines.specs.Counts.{limitOk, greatest}
 use Rattle.lines.specs.Runs.{RunsTo}
@@ -44,81 +44,81 @@ rows-few rows.Ports = omega arith
 
 -- a line of which x was replied, and the row k of its value: it fills what the value fills, seen through h
 row-made : {A X : Type 0} (x : Reply A) (s : List ℕ) (k : A → Row) (fill : Row → Filled) (made : A → X) (h : X → Filled) → ((a : A) → fill (k a) ≡ h (made a))
-    → next (lineOf (bind x (λ a. reader.give (k a))) s) (λ r. give (fill r)) ≡ next (next (lineOf x s) (λ a. give (made a))) (λ y. give (h y))
-row-made (got a r) s k fill made h e = ap (λ (f : Filled). give f r) (e a)
+    → runOn (lineOf (readOn x (λ a. reader.give (k a))) s) (λ r. handOn (fill r)) ≡ runOn (runOn (lineOf x s) (λ a. handOn (made a))) (λ y. handOn (h y))
+row-made (got a r) s k fill made h e = ap (λ (f : Filled). handOn f r) (e a)
 row-made (refused n) s k fill made h e = refl
 
 -- a type with its rows of a kind, then on: as many lines of a part of what they fill, which is seen through h
 module _ (r : Rows) (i : ℕ) (c : ComponentType) {X Y : Type 0} (h : Y → Filled) (part : ℕ → Y → Lines Y)
-    (same : (j : ℕ) (y : Y) (s : List ℕ) → row r c j (h y) s ≡ next (part j y s) (λ z. give (h z))) (y : Y) (s : List ℕ)
+    (same : (j : ℕ) (y : Y) (s : List ℕ) → row r c j (h y) s ≡ runOn (part j y s) (λ z. handOn (h z))) (y : Y) (s : List ℕ)
     (on : ComponentType × Filled → Lines X) where
-  kind-then : next (withRows r i (c, h y) s) on
-      ≡ next (line (countLine (rowsKey r) (limitOk (rowsLimit r))) s) (λ n q. next (each part n (i * perType r) y q) (λ z. on (withCount r c n, h z)))
+  kind-then : runOn (withRows r i (c, h y) s) on
+      ≡ runOn (line (countLine (rowsKey r) (limitOk (rowsLimit r))) s) (λ n q. runOn (each part n (i * perType r) y q) (λ z. on (withCount r c n, h z)))
   unfolding withRows rowsOf
   kind-then =
       next-next (rowsOf r i c (h y) s) _ _
       ∙ next-next (line (countLine (rowsKey r) (limitOk (rowsLimit r))) s) _ _
       ∙ next-same (line (countLine (rowsKey r) (limitOk (rowsLimit r))) s) _ _ (λ n q.
       next-next (each (row r c) n (i * perType r) (h y) q) _ _
-      ∙ ap (λ (x : Run Filled). next x (λ g. on (withCount r c n, g))) (each-seen h part (row r c) same n (i * perType r) y q)
+      ∙ ap (λ (x : Run Filled). runOn x (λ g. on (withCount r c n, g))) (each-seen h part (row r c) same n (i * perType r) y q)
       ∙ next-next (each part n (i * perType r) y q) _ _)
 
 module _ (i : ℕ) (c : ComponentType) (f : Filled) (s : List ℕ) {X : Type 0} (on : ComponentType × Filled → Lines X) where
-  transitions-then : next (withRows rows.Transitions i (c, f) s) on
-      ≡ next (line (countLine (bytes "transitions=") transitionsOk) s) (λ k r. next (each (tran (c .places)) k (i * 32) (f .transitions) r) (λ xs.
+  transitions-then : runOn (withRows rows.Transitions i (c, f) s) on
+      ≡ runOn (line (countLine (bytes "transitions=") transitionsOk) s) (λ k r. runOn (each (tranAt (c .places)) k (i * 32) (f .transitions) r) (λ xs.
       on (withCount rows.Transitions c k, withEnds f xs)))
-  unfolding tran row rowLine withTransition
+  unfolding tranAt row rowLine withTransition
   transitions-then =
-      kind-then rows.Transitions i c (λ xs. withEnds f xs) (tran (c .places)) (λ j xs t. row-made (tranLine (c .places) t) t _ _ _ _ (λ a. refl)) (f .transitions) s on
+      kind-then rows.Transitions i c (λ xs. withEnds f xs) (tranAt (c .places)) (λ j xs t. row-made (tranLine (c .places) t) t _ _ _ _ (λ a. refl)) (f .transitions) s on
 
-  behaviors-then : next (withRows rows.Behaviors i (c, f) s) on
-      ≡ next (line (countLine (bytes "behaviors=") behaviorsOk) s) (λ b r. next (each (behavior (c .transitions)) b (i * 8) (f .behaviors) r) (λ bs.
+  behaviors-then : runOn (withRows rows.Behaviors i (c, f) s) on
+      ≡ runOn (line (countLine (bytes "behaviors=") behaviorsOk) s) (λ b r. runOn (each (behaviorAt (c .transitions)) b (i * 8) (f .behaviors) r) (λ bs.
       on (withCount rows.Behaviors c b, withBehaviors f bs)))
-  unfolding behavior row rowLine
+  unfolding behaviorAt row rowLine
   behaviors-then =
-      kind-then rows.Behaviors i c (λ bs. withBehaviors f bs) (behavior (c .transitions)) (λ j bs t. row-made (behaviorLine (c .transitions) t) t _ _ _ _ (λ a. refl))
+      kind-then rows.Behaviors i c (λ bs. withBehaviors f bs) (behaviorAt (c .transitions)) (λ j bs t. row-made (behaviorLine (c .transitions) t) t _ _ _ _ (λ a. refl))
       (f .behaviors) s on
 
-  ports-then : next (withRows rows.Ports i (c, f) s) on
-      ≡ next (line (countLine (bytes "ports=") portsOk) s) (λ p r. next (each (port (c .places) (c .transitions) (c .initial)) p (i * 16) (f .ports) r) (λ qs.
+  ports-then : runOn (withRows rows.Ports i (c, f) s) on
+      ≡ runOn (line (countLine (bytes "ports=") portsOk) s) (λ p r. runOn (each (portAt (c .places) (c .transitions) (c .initial)) p (i * 16) (f .ports) r) (λ qs.
       on (withCount rows.Ports c p, withPorts f qs)))
-  unfolding port row rowLine withPort
+  unfolding portAt row rowLine withPort
   ports-then =
-      kind-then rows.Ports i c (λ qs. withPorts f qs) (port (c .places) (c .transitions) (c .initial))
+      kind-then rows.Ports i c (λ qs. withPorts f qs) (portAt (c .places) (c .transitions) (c .initial))
       (λ j qs t. row-made (portLine (c .places) (c .transitions) (c .initial) t) t _ _ _ _ (λ a. refl)) (f .ports) s on
 
 -- the lines of a type, one kind of rows after the other
 pub type-parts : (i : ℕ) (f : Filled) (q : List ℕ)
-    → next (next (next (next (typeHead i q) (λ c. give (c, f))) (withRows rows.Transitions i)) (withRows rows.Behaviors i)) (withRows rows.Ports i) ≡ typeRun i f q
+    → runOn (runOn (runOn (runOn (typeHead i q) (λ c. handOn (c, f))) (withRows rows.Transitions i)) (withRows rows.Behaviors i)) (withRows rows.Ports i) ≡ typeRun i f q
 unfolding typeRun
 type-parts i f q =
-    let head : Run (ComponentType × Filled) = next (typeHead i q) (λ c. give (c, f)) in
-    next-next (next head (withRows rows.Transitions i)) (withRows rows.Behaviors i) (withRows rows.Ports i)
+    let head : Run (ComponentType × Filled) = runOn (typeHead i q) (λ c. handOn (c, f)) in
+    next-next (runOn head (withRows rows.Transitions i)) (withRows rows.Behaviors i) (withRows rows.Ports i)
     ∙ next-next head (withRows rows.Transitions i) _
-    ∙ next-next (typeHead i q) (λ c. give (c, f)) _
+    ∙ next-next (typeHead i q) (λ c. handOn (c, f)) _
 
 -- the lines of a type, by what they fill
 module _ (i : ℕ) (t : Tables) where
   rows-then : (n m : ℕ) (s : List ℕ)
-      → next (next (withRows rows.Transitions i (record { places = n; initial = m; transitions = 0; behaviors = 0; ports = 0 }, filledOf t) s)
-      (λ x r. next (withRows rows.Behaviors i x r) (withRows rows.Ports i))) (λ x. give (put t i x))
-      ≡ next (line (countLine (bytes "transitions=") transitionsOk) s) (λ k r. next (each (tran n) k (i * 32) (t .transitions) r) (λ xs r.
-      next (line (countLine (bytes "behaviors=") behaviorsOk) r) (λ b r. next (each (behavior k) b (i * 8) (t .behaviors) r) (λ bs r.
-      next (line (countLine (bytes "ports=") portsOk) r) (λ p r. next (each (port n k m) p (i * 16) (t .ports) r) (λ qs.
-      give (withType t i (record { places = n; initial = m; transitions = k; behaviors = b; ports = p }) xs bs qs)))))))
+      → runOn (runOn (withRows rows.Transitions i (record { places = n; initial = m; transitions = 0; behaviors = 0; ports = 0 }, filledOf t) s)
+      (λ x r. runOn (withRows rows.Behaviors i x r) (withRows rows.Ports i))) (λ x. handOn (put t i x))
+      ≡ runOn (line (countLine (bytes "transitions=") transitionsOk) s) (λ k r. runOn (each (tranAt n) k (i * 32) (t .transitions) r) (λ xs r.
+      runOn (line (countLine (bytes "behaviors=") behaviorsOk) r) (λ b r. runOn (each (behaviorAt k) b (i * 8) (t .behaviors) r) (λ bs r.
+      runOn (line (countLine (bytes "ports=") portsOk) r) (λ p r. runOn (each (portAt n k m) p (i * 16) (t .ports) r) (λ qs.
+      handOn (withType t i (record { places = n; initial = m; transitions = k; behaviors = b; ports = p }) xs bs qs)))))))
   rows-then n m s =
       let empty : ComponentType = record { places = n; initial = m; transitions = 0; behaviors = 0; ports = 0 } in
       next-next (withRows rows.Transitions i (empty, filledOf t) s) _ _
       ∙ transitions-then i empty (filledOf t) s _
-      ∙ next-same (line (countLine (bytes "transitions=") transitionsOk) s) _ _ (λ k r. next-same (each (tran n) k (i * 32) (t .transitions) r) _ _ (λ xs r.
+      ∙ next-same (line (countLine (bytes "transitions=") transitionsOk) s) _ _ (λ k r. next-same (each (tranAt n) k (i * 32) (t .transitions) r) _ _ (λ xs r.
       let ends : ComponentType = withCount rows.Transitions empty k in
       next-next (withRows rows.Behaviors i (ends, withEnds (filledOf t) xs) r) _ _
       ∙ behaviors-then i ends (withEnds (filledOf t) xs) r _
-      ∙ next-same (line (countLine (bytes "behaviors=") behaviorsOk) r) _ _ (λ b r. next-same (each (behavior k) b (i * 8) (t .behaviors) r) _ _ (λ bs r.
+      ∙ next-same (line (countLine (bytes "behaviors=") behaviorsOk) r) _ _ (λ b r. next-same (each (behaviorAt k) b (i * 8) (t .behaviors) r) _ _ (λ bs r.
       ports-then i (withCount rows.Behaviors ends b) (withBehaviors (withEnds (filledOf t) xs) bs) r _))))
 
-  pub type-lines : (s : List ℕ) → type i t s ≡ next (typeRun i (filledOf t) s) (λ x. give (put t i x))
-  unfolding type typeRun typeHead
+  pub type-lines : (s : List ℕ) → typeLines i t s ≡ runOn (typeRun i (filledOf t) s) (λ x. handOn (put t i x))
+  unfolding typeLines typeRun typeHead
   type-lines s =
       sym
       (next-next (typeHead i s) _ _
@@ -129,18 +129,18 @@ module _ (i : ℕ) (t : Tables) where
       next-next (line (initialLine n) r) _ _
       ∙ next-same (line (initialLine n) r) _ _ (λ m r. rows-then n m r))))
 
-  pub type-read : (q : List ℕ) {s : List ℕ} {w : Went} {to : ℕ} {x : ComponentType × Filled} → RunsTo s w to x (typeRun i (filledOf t) q) → RunsTo s w to (put t i x) (type i t q)
+  pub type-read : (q : List ℕ) {s : List ℕ} {w : Went} {to : ℕ} {x : ComponentType × Filled} → RunsTo s w to x (typeRun i (filledOf t) q) → RunsTo s w to (put t i x) (typeLines i t q)
   type-read q r = rw (type-lines q) (run-seen (put t i) _ r)
 
 -- the types of a sheet of any depth, read into arrays that held no row
 pub types-read : {s : List ℕ} {n : ℕ} (r : TypesRead) {g f : Filled} (q : List ℕ) → f ≡ noRows → TypesTo s n r g f q
-    → (d : ℕ) → RunsTo s (r .last .went) (r .last .at) (tablesOf d n (r .types) g) (each type n 0 (headed d n) q)
+    → (d : ℕ) → RunsTo s (r .last .went) (r .last .at) (tablesOf d n (r .types) g) (each typeLines n 0 (headed d n) q)
 unfolding headed noTables
 types-read r q e h d = rw e at (h d)
 
 -- a sheet's first lines, its types and its program
 pub sheet-parts : (s : List ℕ)
-    → sheet s ≡ next (sheetHead s) (λ h r. next (each type (h .1) 0 (headed (h .0) (h .1)) r) (λ t r. next (programRun (h .1) r) (λ p. give (t, p))))
+    → sheet s ≡ runOn (sheetHead s) (λ h r. runOn (each typeLines (h .1) 0 (headed (h .0) (h .1)) r) (λ t r. runOn (programRun (h .1) r) (λ p. handOn (t, p))))
 unfolding sheet sheetHead programRun
 sheet-parts s =
     sym
@@ -150,8 +150,8 @@ sheet-parts s =
     ∙ next-same (line (countLine (bytes "depth=") depthOk) r) _ _ (λ d r.
     next-next (line (countLine (bytes "types=") typesOk) r) _ _
     ∙ next-same (line (countLine (bytes "types=") typesOk) r) _ _ (λ n r.
-    next-same (each type n 0 (headed d n) r) _ _ (λ t r.
+    next-same (each typeLines n 0 (headed d n) r) _ _ (λ t r.
     next-next (line (countLine (bytes "program=") programOk) r) _ _
     ∙ next-same (line (countLine (bytes "program=") programOk) r) _ _ (λ k r.
-    next-next (each (instruct n) k 0 (programOf k) r) _ _
-    ∙ next-same (each (instruct n) k 0 (programOf k) r) _ _ (λ p r. next-next (atEnd r) _ _)))))))
+    next-next (each (instructionAt n) k 0 (programOf k) r) _ _
+    ∙ next-same (each (instructionAt n) k 0 (programOf k) r) _ _ (λ p r. next-next (atEnd r) _ _)))))))

@@ -11,7 +11,7 @@ use Rattle.model.specs.declared.Tables.{Tables}
 use Rattle.model.specs.Empty.{noType, noProgram}
 use Rattle.reading.specs.Lines.{each}
 use Rattle.reading.specs.Fill.{withType}
-use Rattle.reading.specs.Texts.{type}
+use Rattle.reading.specs.Texts.{typeLines}
 use Rattle.lines.specs.declared.Limit.{Limit}
 use Rattle.lines.specs.declared.Limit.the-variants as limit
 use Rattle.lines.specs.declared.Went.the-variants.{On, Stop}
@@ -126,4 +126,4 @@ beforeTypes at = record { went = On; at = at; known = noType }
 
 -- the answer r to n types in tables of any depth: from the rows f and the text q to the rows g
 abbrev pub TypesTo : List ℕ → ℕ → TypesRead → Filled → Filled → List ℕ → Type 0
-TypesTo s n r g f q = (d : ℕ) → RunsTo s (r .last .went) (r .last .at) (tablesOf d n (r .types) g) (each type n 0 (tablesOf d n (replicate 16 noType) f) q)
+TypesTo s n r g f q = (d : ℕ) → RunsTo s (r .last .went) (r .last .at) (tablesOf d n (r .types) g) (each typeLines n 0 (tablesOf d n (replicate 16 noType) f) q)

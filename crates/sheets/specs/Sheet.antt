@@ -4,6 +4,7 @@ use mathlib.Core.List.{List}
 use mathlib.Core.Bool.{true, false}
 use mathlib.Core.Path.{_≡_}
 use lib.ListN.{length}
+use Rattle.forms.specs.Refusal.{tooLong}
 use Rattle.model.specs.declared.Tables.{Tables}
 use Rattle.model.specs.declared.Program.{Program}
 use Rattle.model.specs.Empty.{noTables, noProgram}
@@ -29,7 +30,7 @@ answered s (stop k r) = refusedSheet k (length s - length r)
 
 -- "length of the sheet, .. then the sheet's lines"
 unfoldable pub sheetRead : List ℕ → Sheet
-sheetRead s = elim (lengthOk (length s)) [ true ↦ answered s (sheet s) | false ↦ refusedSheet 1 0 ]
+sheetRead s = elim (lengthOk (length s)) [ true ↦ answered s (sheet s) | false ↦ refusedSheet tooLong 0 ]
 
 -- no other answer fits the promise; and no other with the rows that stand beside it
 unfoldable pub NoOtherSheet : Type 0

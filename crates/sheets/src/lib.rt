@@ -22,7 +22,7 @@ ghost use Rattle.texts.specs.Reads.{Reads, refusal};
 ghost use Rattle.reading.specs.Lines.{each};
 ghost use Rattle.reading.specs.Kinds.{countLine, initialLine};
 ghost use Rattle.reading.specs.Fill.{programOf};
-ghost use Rattle.reading.specs.Texts.{instruct};
+ghost use Rattle.reading.specs.Texts.{instructionAt};
 ghost use Rattle.lines.specs.Counts.{lineSays, limitOk, Counts};
 ghost use Rattle.lines.specs.Runs.{refusalOf, RunsTo};
 ghost use Rattle.sheets.specs.Filled.{lent, noRows, beside, slots, perType, rowsKey, rowsLimit, putRow, withCount, refusedRows, refusedType, refusedHead, refusedLines, beforeTypes, TypesTo};
@@ -484,7 +484,7 @@ fn sheet_head(text: &[u8]) -> HeadRead
 // So many instructions, from the place start on, in a sheet of so many types.
 fn read_instructions(text: &[u8], start: usize, count: usize, types: u8) -> ProgramRead
     requires { ⌜ count ≤ 256 ⌝ }
-    ensures { λ r. ⌜ RunsTo (now (text .entry)) (r .went) (r .at) (r .program) (each (instruct types) count 0 (programOf count) (drop start (now (text .entry)))) ⌝ }
+    ensures { λ r. ⌜ RunsTo (now (text .entry)) (r .went) (r .at) (r .program) (each (instructionAt types) count 0 (programOf count) (drop start (now (text .entry)))) ⌝ }
 {
     let mut at = texts::place_in(text, start);
     let mut program = model::no_program();

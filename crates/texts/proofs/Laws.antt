@@ -12,7 +12,7 @@ use lib.ListN.{length, drop, getD, drop-of-length-le}
 use lib.Seq.{drop-cons}
 use borrow.Author.Tests.{eq-eqb, ne-eqb}
 use Rattle.forms.specs.Reader.{Reply, Reader, got, refused, byte, give, _>>_}
-use Rattle.forms.specs.Read.{key, on, digit, numberFrom, follows, membersFrom, list, Set}
+use Rattle.forms.specs.Read.{key, upon, digit, numberFrom, follows, membersFrom, list, Set}
 use Rattle.forms.proofs.Tests.{by-test}
 use Rattle.forms.proofs.Laws.{Digit, digit-true, follows-true, digits-lt}
 use Rattle.texts.specs.Turn.{Small}
@@ -89,11 +89,11 @@ list-over d e m t k v i s h = rw (drop-of-length-le s h)
 
 -- ---- one way or another, by a key
 module _ {A : Type 0} (k s : List ℕ) (m other : Reader A) where
-  pub on-here : (r : List ℕ) → key k s ≡ got tt r → on k m other s ≡ m r
-  on-here r e = rw (e, on)
+  pub on-here : (r : List ℕ) → key k s ≡ got tt r → upon k m other s ≡ m r
+  on-here r e = rw (e, upon)
 
-  pub on-other : (n : ℕ) → key k s ≡ refused n → on k m other s ≡ other s
-  on-other n e = rw (e, on)
+  pub on-other : (n : ℕ) → key k s ≡ refused n → upon k m other s ≡ other s
+  on-other n e = rw (e, upon)
 
 -- a list by its first byte: `-` and the byte e, or members
 abbrev empty : ℕ → Reader Set
@@ -102,7 +102,7 @@ empty e = do
   give (record { mask = 0; top = 0 })
 
 module _ (d e : ℕ) where
-  by-dash : (s : List ℕ) → list d e s ≡ on (byte "-" ∷ []) (empty e) (membersFrom d e 0 0 0 0) s
+  by-dash : (s : List ℕ) → list d e s ≡ upon (byte "-" ∷ []) (empty e) (membersFrom d e 0 0 0 0) s
   unfolding list key membersFrom
   by-dash [] = refl
   by-dash (c ∷ s) =

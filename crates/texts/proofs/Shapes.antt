@@ -4,8 +4,8 @@ use Prim.Native.Nat.{ℕ}
 use mathlib.Core.List.{List}
 use mathlib.Core.Path.{_≡_, refl, sym, ap, _∙_}
 use lib.ListN.{drop}
-use Rattle.forms.specs.Reader.{Reply, Reader, got, refused, bind, byte, give, _>>=_}
-use Rattle.forms.specs.Read.{key, number, list, one, two, three, four, set, sets}
+use Rattle.forms.specs.Reader.{Reply, Reader, got, refused, readOn, byte, give, _>>=_}
+use Rattle.forms.specs.Read.{key, number, list, oneForm, twoForm, threeForm, fourForm, listForm, listsForm}
 use Rattle.texts.specs.Reads.{Outcome, past, fault, Reads}
 use Rattle.texts.specs.Keyed.{keyed}
 
@@ -40,42 +40,42 @@ module _ {A : Type 0} (k : List ℕ) (m : Reader A) {s : List ℕ} where
   key-then h l = record { within = l .within; same = l .same ∙ sym (rw (sym (h .same), keyed)) }
 
 -- ---- readers one after the other: by what follows, and from the left or from the right
-pub bind-same : {A B : Type 0} (x : Reply A) (f g : A → Reader B) → ((a : A) (r : List ℕ) → f a r ≡ g a r) → bind x f ≡ bind x g
+pub bind-same : {A B : Type 0} (x : Reply A) (f g : A → Reader B) → ((a : A) (r : List ℕ) → f a r ≡ g a r) → readOn x f ≡ readOn x g
 bind-same (got a r) f g h = h a r
 bind-same (refused n) f g h = refl
 
-pub bind-bind : {A B C : Type 0} (x : Reply A) (f : A → Reader B) (g : B → Reader C) → bind (bind x f) g ≡ bind x (λ a r. bind (f a r) g)
+pub bind-bind : {A B C : Type 0} (x : Reply A) (f : A → Reader B) (g : B → Reader C) → readOn (readOn x f) g ≡ readOn x (λ a r. readOn (f a r) g)
 bind-bind (got a r) f g = refl
 bind-bind (refused n) f g = refl
 
 -- a line's definition, `key k` first, then m, then f, by what was read of its key and m
 module _ {A B : Type 0} (k : List ℕ) (m : Reader A) (f : A → Reader B) {s : List ℕ} where
-  pub keyed-got : {a : A} {n : ℕ} → Reads s (past a n) (keyed k m s) → bind (key k s) (λ _ r. bind (m r) f) ≡ f a (drop n s)
+  pub keyed-got : {a : A} {n : ℕ} → Reads s (past a n) (keyed k m s) → readOn (key k s) (λ _ r. readOn (m r) f) ≡ f a (drop n s)
   unfolding keyed
-  keyed-got h = sym (bind-bind (key k s) (λ _. m) f) ∙ ap (λ x. bind x f) (sym (h .same))
+  keyed-got h = sym (bind-bind (key k s) (λ _. m) f) ∙ ap (λ x. readOn x f) (sym (h .same))
 
-  pub keyed-fault : {n : ℕ} → Reads s (fault n) (keyed k m s) → bind (key k s) (λ _ r. bind (m r) f) ≡ refused n
+  pub keyed-fault : {n : ℕ} → Reads s (fault n) (keyed k m s) → readOn (key k s) (λ _ r. readOn (m r) f) ≡ refused n
   unfolding keyed
-  keyed-fault h = sym (bind-bind (key k s) (λ _. m) f) ∙ ap (λ x. bind x f) (sym (h .same))
+  keyed-fault h = sym (bind-bind (key k s) (λ _. m) f) ∙ ap (λ x. readOn x f) (sym (h .same))
 
 -- ---- the shapes
 module _ (d : ℕ) (s : List ℕ) where
-  pub two-is : two d s ≡ joined (λ a b. (a, b)) (number d (byte ",")) (one d) s
-  unfolding two one joined
+  pub two-is : twoForm d s ≡ joined (λ a b. (a, b)) (number d (byte ",")) (oneForm d) s
+  unfolding twoForm oneForm joined
   two-is = refl
 
-  pub sets-is : sets d s ≡ joined (λ a b. (a, b)) (list d (byte ",")) (set d) s
-  unfolding sets set joined
+  pub sets-is : listsForm d s ≡ joined (λ a b. (a, b)) (list d (byte ",")) (listForm d) s
+  unfolding listsForm listForm joined
   sets-is = refl
 
-  pub three-is : three d s ≡ joined (λ a (b, c). (a, b, c)) (number d (byte ",")) (two d) s
-  unfolding three two joined
+  pub three-is : threeForm d s ≡ joined (λ a (b, c). (a, b, c)) (number d (byte ",")) (twoForm d) s
+  unfolding threeForm twoForm joined
   three-is =
       bind-same (number d (byte ",") s) _ _ (λ a r.
       sym (bind-bind (number d (byte ",") r) _ _ ∙ bind-same (number d (byte ",") r) _ _ (λ b q. bind-bind (number d (byte "\n") q) _ _)))
 
-  pub four-is : four d s ≡ joined (λ a (b, c, e). (a, b, c, e)) (number d (byte ",")) (three d) s
-  unfolding four three joined
+  pub four-is : fourForm d s ≡ joined (λ a (b, c, e). (a, b, c, e)) (number d (byte ",")) (threeForm d) s
+  unfolding fourForm threeForm joined
   four-is =
       bind-same (number d (byte ",") s) _ _ (λ a r.
       sym

@@ -1,5 +1,6 @@
 -- What each case of each enum says. A fault of form is 01's number 2.
 use Prim.Native.Nat.{ℕ}
+use Rattle.forms.specs.Refusal.{badForm}
 use Rattle.forms.specs.Read.{Set}
 use Rattle.texts.specs.Reads.{Outcome, past, fault}
 use Rattle.texts.specs.declared.Digits.{Digits}
@@ -26,28 +27,28 @@ most digits.Seven = 7
 
 abbrev pub dueSays : Due → Outcome (Unit {0})
 dueSays (due.Past n) = past tt n
-dueSays due.Other = fault 2
+dueSays due.Other = fault badForm
 
 abbrev pub numberSays : Number → Outcome ℕ
 numberSays (number.Got a n) = past a n
-numberSays number.Fault = fault 2
+numberSays number.Fault = fault badForm
 
 abbrev pub twoSays : TwoNumbers → Outcome (ℕ × ℕ)
 twoSays (two.Got a b n) = past (a, b) n
-twoSays two.Fault = fault 2
+twoSays two.Fault = fault badForm
 
 abbrev pub threeSays : ThreeNumbers → Outcome (ℕ × ℕ × ℕ)
 threeSays (three.Got a b c n) = past (a, b, c) n
-threeSays three.Fault = fault 2
+threeSays three.Fault = fault badForm
 
 abbrev pub fourSays : FourNumbers → Outcome (ℕ × ℕ × ℕ × ℕ)
 fourSays (four.Got a b c d n) = past (a, b, c, d) n
-fourSays four.Fault = fault 2
+fourSays four.Fault = fault badForm
 
 abbrev pub listSays : OneList → Outcome Set
 listSays (list.Got m t n) = past (record { mask = m; top = t }) n
-listSays list.Fault = fault 2
+listSays list.Fault = fault badForm
 
 abbrev pub listsSays : TwoLists → Outcome (Set × Set)
 listsSays (lists.Got m t o u n) = past (record { mask = m; top = t }, record { mask = o; top = u }) n
-listsSays lists.Fault = fault 2
+listsSays lists.Fault = fault badForm

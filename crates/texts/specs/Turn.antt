@@ -4,6 +4,7 @@ use mathlib.Core.List.{List, _∷_}
 use mathlib.Core.Bool.{true, false}
 use mathlib.Core.Path.{_≡_}
 use Rattle.sets.specs.Mask.{with}
+use Rattle.forms.specs.Refusal.{badForm}
 use Rattle.forms.specs.Reader.{Reply, got, refused, byte}
 use Rattle.forms.specs.Read.{Set, digit, follows, membersFrom}
 use Rattle.texts.specs.declared.Digit.{Digit}
@@ -30,13 +31,13 @@ TakesMember f (member′.Added m t) = (follows (f .count) (f .top) (f .value) �
 TakesMember f member′.Other = follows (f .count) (f .top) (f .value) ≡ false
 
 -- a list of which f has been read, from s on
-abbrev pub members : ℕ → ℕ → SoFar → List ℕ → Reply Set
-members d e f s = membersFrom d e (f .mask) (f .top) (f .count) (f .value) s
+abbrev pub membersOn : ℕ → ℕ → SoFar → List ℕ → Reply Set
+membersOn d e f s = membersFrom d e (f .mask) (f .top) (f .count) (f .value) s
 
 abbrev pub turnReply : ℕ → ℕ → List ℕ → Turn → Reply Set
-turnReply d e s (turn.On f) = members d e f s
+turnReply d e s (turn.On f) = membersOn d e f s
 turnReply d e s (turn.End m t) = got (record { mask = m; top = t }) s
-turnReply d e s turn.Fault = refused 2
+turnReply d e s turn.Fault = refused badForm
 
 abbrev pub TurnSmall : Turn → Type 0
 TurnSmall (turn.On f) = Small (f .count) (f .value)
@@ -46,4 +47,4 @@ TurnSmall turn.Fault = Unit
 -- the byte c of a list of which f has been read
 pub record Turns (d e : ℕ) (f : SoFar) (c : ℕ) (r : Turn) : Type 0 where
   pub small : TurnSmall r
-  pub same : (s : List ℕ) → turnReply d e s r ≡ members d e f (c ∷ s)
+  pub same : (s : List ℕ) → turnReply d e s r ≡ membersOn d e f (c ∷ s)

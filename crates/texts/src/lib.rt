@@ -3,7 +3,7 @@
 ghost use mathlib.Core.Path.{_≡_};
 ghost use Prim.Native.Nat.{min};
 ghost use lib.ListN.{length, drop};
-ghost use Rattle.forms.specs.Read.{key, number, list, membersFrom, one, two, three, four, set, sets};
+ghost use Rattle.forms.specs.Read.{key, number, list, membersFrom, oneForm, twoForm, threeForm, fourForm, listForm, listsForm};
 ghost use Rattle.texts.specs.Reads.{Reads};
 ghost use Rattle.texts.specs.Says.{most, dueSays, numberSays, twoSays, threeSays, fourSays, listSays, listsSays};
 ghost use Rattle.texts.specs.Keyed.{keyed};
@@ -270,13 +270,13 @@ fn list_then(s: &[u8], at: usize, end: u8, digits: Digits) -> OneList
 
 // What stands between the key and the line's end: one to four numbers, a list, two lists.
 pub fn one_number(s: &[u8], at: usize, digits: Digits) -> Number
-    ensures { λ r. ⌜ Reads (now (s .entry)) (numberSays r) (one (most digits) (drop at (now (s .entry)))) ⌝ }
+    ensures { λ r. ⌜ Reads (now (s .entry)) (numberSays r) (oneForm (most digits) (drop at (now (s .entry)))) ⌝ }
 {
     number_then(s, at, b'\n', digits)
 }
 
 pub fn two_numbers(s: &[u8], at: usize, digits: Digits) -> TwoNumbers
-    ensures { λ r. ⌜ Reads (now (s .entry)) (twoSays r) (two (most digits) (drop at (now (s .entry)))) ⌝ }
+    ensures { λ r. ⌜ Reads (now (s .entry)) (twoSays r) (twoForm (most digits) (drop at (now (s .entry)))) ⌝ }
 {
     let Number::Got(a, i) = number_then(s, at, b',', digits) else {
         return TwoNumbers::Fault;
@@ -288,7 +288,7 @@ pub fn two_numbers(s: &[u8], at: usize, digits: Digits) -> TwoNumbers
 }
 
 pub fn three_numbers(s: &[u8], at: usize, digits: Digits) -> ThreeNumbers
-    ensures { λ r. ⌜ Reads (now (s .entry)) (threeSays r) (three (most digits) (drop at (now (s .entry)))) ⌝ }
+    ensures { λ r. ⌜ Reads (now (s .entry)) (threeSays r) (threeForm (most digits) (drop at (now (s .entry)))) ⌝ }
 {
     let Number::Got(a, i) = number_then(s, at, b',', digits) else {
         return ThreeNumbers::Fault;
@@ -300,7 +300,7 @@ pub fn three_numbers(s: &[u8], at: usize, digits: Digits) -> ThreeNumbers
 }
 
 pub fn four_numbers(s: &[u8], at: usize, digits: Digits) -> FourNumbers
-    ensures { λ r. ⌜ Reads (now (s .entry)) (fourSays r) (four (most digits) (drop at (now (s .entry)))) ⌝ }
+    ensures { λ r. ⌜ Reads (now (s .entry)) (fourSays r) (fourForm (most digits) (drop at (now (s .entry)))) ⌝ }
 {
     let Number::Got(a, i) = number_then(s, at, b',', digits) else {
         return FourNumbers::Fault;
@@ -312,13 +312,13 @@ pub fn four_numbers(s: &[u8], at: usize, digits: Digits) -> FourNumbers
 }
 
 fn one_list(s: &[u8], at: usize, digits: Digits) -> OneList
-    ensures { λ r. ⌜ Reads (now (s .entry)) (listSays r) (set (most digits) (drop at (now (s .entry)))) ⌝ }
+    ensures { λ r. ⌜ Reads (now (s .entry)) (listSays r) (listForm (most digits) (drop at (now (s .entry)))) ⌝ }
 {
     list_then(s, at, b'\n', digits)
 }
 
 pub fn two_lists(s: &[u8], at: usize, digits: Digits) -> TwoLists
-    ensures { λ r. ⌜ Reads (now (s .entry)) (listsSays r) (sets (most digits) (drop at (now (s .entry)))) ⌝ }
+    ensures { λ r. ⌜ Reads (now (s .entry)) (listsSays r) (listsForm (most digits) (drop at (now (s .entry)))) ⌝ }
 {
     let OneList::Got(first, first_top, i) = list_then(s, at, b',', digits) else {
         return TwoLists::Fault;
@@ -331,7 +331,7 @@ pub fn two_lists(s: &[u8], at: usize, digits: Digits) -> TwoLists
 
 // A line of a key and a number, two numbers, a list. Where a verb follows the key, past_key tells it, and the rest is read from there.
 pub fn number_line(s: &[u8], key: &[u8], digits: Digits) -> Number
-    ensures { λ r. ⌜ Reads (now (s .entry)) (numberSays r) (keyed (now (key .entry)) (one (most digits)) (now (s .entry))) ⌝ }
+    ensures { λ r. ⌜ Reads (now (s .entry)) (numberSays r) (keyed (now (key .entry)) (oneForm (most digits)) (now (s .entry))) ⌝ }
 {
     let Due::Past(i) = past_key(s, 0, key) else {
         return Number::Fault;
@@ -340,7 +340,7 @@ pub fn number_line(s: &[u8], key: &[u8], digits: Digits) -> Number
 }
 
 pub fn two_numbers_line(s: &[u8], key: &[u8], digits: Digits) -> TwoNumbers
-    ensures { λ r. ⌜ Reads (now (s .entry)) (twoSays r) (keyed (now (key .entry)) (two (most digits)) (now (s .entry))) ⌝ }
+    ensures { λ r. ⌜ Reads (now (s .entry)) (twoSays r) (keyed (now (key .entry)) (twoForm (most digits)) (now (s .entry))) ⌝ }
 {
     let Due::Past(i) = past_key(s, 0, key) else {
         return TwoNumbers::Fault;
@@ -349,7 +349,7 @@ pub fn two_numbers_line(s: &[u8], key: &[u8], digits: Digits) -> TwoNumbers
 }
 
 pub fn list_line(s: &[u8], key: &[u8], digits: Digits) -> OneList
-    ensures { λ r. ⌜ Reads (now (s .entry)) (listSays r) (keyed (now (key .entry)) (set (most digits)) (now (s .entry))) ⌝ }
+    ensures { λ r. ⌜ Reads (now (s .entry)) (listSays r) (keyed (now (key .entry)) (listForm (most digits)) (now (s .entry))) ⌝ }
 {
     let Due::Past(i) = past_key(s, 0, key) else {
         return OneList::Fault;

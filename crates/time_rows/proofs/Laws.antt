@@ -8,13 +8,13 @@ use lib.ListN.{replicate, length, drop}
 use native.Mathlib.Nat.{add-zero}
 use borrow.Author.Tests.{lt-leb, le-leb}
 use Rattle.forms.specs.Reader.{bytes}
-use Rattle.forms.specs.Read.{key, three}
+use Rattle.forms.specs.Read.{key, threeForm}
 use Rattle.texts.specs.Reads.{past, fault, Reads}
 use Rattle.reading.specs.Limits.{idOk, transitionOk}
 use Rattle.reading.specs.Lines.{Run, atEnd, each}
 use Rattle.reading.specs.Kinds.{dueLine, countLineIn}
 use Rattle.lines.specs.declared.Went.the-variants.{On, Stop}
-use Rattle.lines.specs.Counts.{between}
+use Rattle.lines.specs.Counts.{inRange}
 use Rattle.lines.specs.declared.Went.{Went}
 use Rattle.lines.specs.Runs.{run, refusalOf, RunsTo}
 use Rattle.lines.proofs.Lines.{part, count-to}
@@ -47,11 +47,11 @@ module _ (s : List ℕ) (ts : Times) (j : ℕ) {b : Times} where
   no-key h = line-fault (record { within = zero-le; same = sym (rw (sym (h .same), timeLine)) })
 
   module _ {i : ℕ} (d : Reads s (past tt i) (key (bytes "time=") s)) where
-    pub no-numbers : {k : ℕ} → Reads s (fault k) (three 7 (drop i s)) → RunsTo s (Stop k) 0 b (time j ts s)
+    pub no-numbers : {k : ℕ} → Reads s (fault k) (threeForm 7 (drop i s)) → RunsTo s (Stop k) 0 b (time j ts s)
     unfolding timeLine
     no-numbers h = line-fault (record { within = zero-le; same = sym (rw (sym (d .same), sym (h .same), timeLine)) })
 
-    module _ {id x n to : ℕ} (h : Reads s (past (id, x, n) to) (three 7 (drop i s))) where
+    module _ {id x n to : ℕ} (h : Reads s (past (id, x, n) to) (threeForm 7 (drop i s))) where
       pub over-limit : (idOk id && (transitionOk x && secondsOk n)) ≡ false → RunsTo s (Stop 3) 0 b (time j ts s)
       unfolding timeLine
       over-limit e = line-fault (record { within = zero-le; same = sym (rw (sym (d .same), sym (h .same), e, timeLine)) })
@@ -103,7 +103,7 @@ module _ (s : List ℕ) (par n start : ℕ) {r : RowsRead} {l₀ k₀ l k : List
 
 -- ---- the three lines before the rows
 -- a count of rows has no least number
-rows-to : (t : List ℕ) → countLineIn 7 (bytes "rows=") (between 0 1024) t ≡ countLineIn 7 (bytes "rows=") rowsOk t
+rows-to : (t : List ℕ) → countLineIn 7 (bytes "rows=") (inRange 0 1024) t ≡ countLineIn 7 (bytes "rows=") rowsOk t
 rows-to t = sym (count-to 7 1024 (bytes "rows=") t)
 
 module _ (s : List ℕ) where
@@ -118,14 +118,14 @@ module _ (s : List ℕ) where
         line-then (dueLine (bytes "times=") 1 s) s _ d (line-refused (countLineIn 7 (bytes "par=") parOk (drop i s)) (drop i s) _ (d .within) refl h)
 
     module _ {par at : ℕ} (p : Reads s (past par at) (countLineIn 7 (bytes "par=") parOk (drop i s))) where
-      pub rows-fault : {b : Times} {k : ℕ} → Reads s (fault k) (countLineIn 7 (bytes "rows=") (between 0 1024) (drop at s)) → RunsTo s (Stop k) at b (times s)
+      pub rows-fault : {b : Times} {k : ℕ} → Reads s (fault k) (countLineIn 7 (bytes "rows=") (inRange 0 1024) (drop at s)) → RunsTo s (Stop k) at b (times s)
       unfolding times
       rows-fault h =
           line-then (dueLine (bytes "times=") 1 s) s _ d
           (line-then (countLineIn 7 (bytes "par=") parOk (drop i s)) (drop i s) _ p
           (line-refused (countLineIn 7 (bytes "rows=") rowsOk (drop at s)) (drop at s) _ (p .within) refl (rw (rows-to (drop at s)) at h)))
 
-      pub head-read : {n start : ℕ} → Reads s (past n start) (countLineIn 7 (bytes "rows=") (between 0 1024) (drop at s)) → fromRows par n (drop start s) ≡ times s
+      pub head-read : {n start : ℕ} → Reads s (past n start) (countLineIn 7 (bytes "rows=") (inRange 0 1024) (drop at s)) → fromRows par n (drop start s) ≡ times s
       unfolding times fromRows
       head-read h = sym (rw (sym (d .same), sym (p .same), sym (h .same ∙ rows-to (drop at s))))
 

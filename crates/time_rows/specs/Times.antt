@@ -4,6 +4,7 @@ use mathlib.Core.List.{List}
 use mathlib.Core.Bool.{true, false}
 use mathlib.Core.Path.{_≡_}
 use lib.ListN.{length}
+use Rattle.forms.specs.Refusal.{tooLong}
 use Rattle.reading.specs.Limits.{lengthOk}
 use Rattle.reading.specs.Lines.{Run, on, stop}
 use Rattle.times.specs.declared.Times.{Times}
@@ -30,7 +31,7 @@ rowsAnswer (rows.Refused k at) listed seconds = refusedTimes k at
 
 -- "a too long text first": 1, at its start; then the lines
 unfoldable pub timesRead : List ℕ → TimesRead
-timesRead s = elim (lengthOk (length s)) [ true ↦ answered s (times s) | false ↦ refusedTimes 1 0 ]
+timesRead s = elim (lengthOk (length s)) [ true ↦ answered s (times s) | false ↦ refusedTimes tooLong 0 ]
 
 -- no other answer fits the promise
 unfoldable pub NoOtherTimes : Type 0

@@ -7,7 +7,7 @@ use mathlib.Core.Path.{_≡_, refl, sym, ap, _∙_}
 use mathlib.Core.Logic.{_≢_}
 use native.Mathlib.Omega.{arith}
 use borrow.Author.Tests.{ne-eqb}
-use Rattle.forms.specs.Read.{key, digit, numberFrom, membersFrom, list, one, two, three, four, set, sets}
+use Rattle.forms.specs.Read.{key, digit, numberFrom, membersFrom, list, oneForm, twoForm, threeForm, fourForm, listForm, listsForm}
 use Rattle.forms.specs.Write.{digitsIn, numberText, membersBelow, moreText, listText, maskText, inTurn, oneText, twoText, threeText, fourText}
 use Rattle.judged.specs.Course.{short, read, both, course}
 use Rattle.judged.specs.Judged.{faultLine, faultPlace, afterFault, noRoom, stepPlace, afterWalk, inRoom, ending, judged, over, printing, printed}
@@ -17,14 +17,14 @@ use Rattle.reading.specs.Fill.{headed, withType, withTransition, withPort, prog
 use Rattle.reading.specs.Kinds.{dueLine, countLineIn, initialLine, tranLine, behaviorLine, group, portLine, doId, doNumber, doEnds, doLine, stepId, stepNumber, stepLine}
 use Rattle.reading.specs.Lines.{each}
 use Rattle.reading.specs.Place.{upToLf, lfs, lineNumber, lineStart}
-use Rattle.reading.specs.Texts.{tran, behavior, port, type, instruct, sheet, stepAt, answer}
+use Rattle.reading.specs.Texts.{tranAt, behaviorAt, portAt, typeLines, instructionAt, sheet, stepAt, answer}
 use Rattle.report.specs.Faults.{textText, faultText}
 use Rattle.report.specs.Report.{tally, countText, instanceText, connectionText, instanceAt, connectionAt, instancesText, connectionsText, report}
-use Rattle.rules.specs.Action.{Action, add, pushb, fire, end, instruction, move, check, effect}
+use Rattle.rules.specs.Action.{Action, add, pushb, fire, end, instructionAction, moveAction, actionCheck, effect}
 use Rattle.rules.specs.Add.{addCheck, added}
 use Rattle.rules.specs.Closing.{down, closed, zeroed, renewed}
 use Rattle.rules.specs.Con.{isOf, isUsePort, isProvidePort, conCheck, connected}
-use Rattle.rules.specs.DCon.{sameConnection, first, dconCheck, disconnected}
+use Rattle.rules.specs.DCon.{sameConnection, firstBelow, dconCheck, disconnected}
 use Rattle.rules.specs.Del.{namedBy, delCheck, deleted}
 use Rattle.rules.specs.End.{endCheck, endTo}
 use Rattle.rules.specs.Enter.{enterRow, enterCheck, enterTo}
@@ -33,18 +33,18 @@ use Rattle.rules.specs.Fire.{fireRow, fireCheck, fireTo}
 use Rattle.rules.specs.Instance.{active, current, endsAt, leaving, entering, fired, endedBy, entered, withQueued}
 use Rattle.rules.specs.Ports.{someConnection, wouldLeave, refusing, serves, blocks, employs, failsUnserved, failsRefusing, failsInUse, portCheck}
 use Rattle.rules.specs.PushB.{pushbCheck, pushed}
-use Rattle.rules.specs.Step.{line, action, number, after, step}
+use Rattle.rules.specs.Step.{actionAt, action, stepCheck, stepTo, step}
 use Rattle.rules.specs.Wait.{waitCheck}
 use Rattle.rules.specs.Walk.{oneMore, walk, walkAnswer}
 use Rattle.sets.specs.Mask.{member, collect}
-use Rattle.sets.specs.Test.{all, any}
+use Rattle.sets.specs.Test.{allBelow, anyBelow}
 use Rattle.demands.specs.Agree.{names, deeds, naming}
-use Rattle.demands.specs.OnTexts.{tablesIn, programIn, stepsIn, AllAllowed}
+use Rattle.demands.specs.OnTexts.{sheetTables, sheetProgram, answerSteps, AllAllowed}
 use Rattle.timed.specs.Order.{OrderMayAlterTheMark}
-use Rattle.timed.specs.Cases.{twins, together, oneByOne, seconds, table, AllMet}
+use Rattle.timed.specs.Cases.{twins, together, oneByOne, seconds, timedTable, AllTimedMet}
 use Rattle.timed.specs.Clock.{atStart, notes, tick, clockFrom, clockOf}
 use Rattle.timed.specs.Mark.{nearest, markOf, markAfter}
-use Rattle.timed.specs.Shams.{Marking, asRuled, clockBy, courseBy, timedBy, alwaysFull, halvesUp, roundsEachStep, ToldApart, ShamsToldApart, RoundingLifts, AsRuledIsTheRule}
+use Rattle.timed.specs.Shams.{Marking, markedAsRuled, clockBy, courseBy, timedBy, alwaysFull, halvesUp, roundsEachStep, ToldApart, ShamsToldApart, RoundingLifts, MarkedAsRuledIsTheRule}
 use Rattle.timed.specs.declared.Timed.{Timed}
 use Rattle.timed.specs.Timed.{clocked, timedCourse, markedReport, markInRoom, timedEnding, timed, timedPrinting, timedPrinted}
 use Rattle.times.specs.Refusal.{timesNumber}
@@ -101,20 +101,20 @@ projections-alike (suc (suc i)) =
 record Ordered : Type 0 where
   first : AllAllowed twins together
   second : AllAllowed twins oneByOne
-  together-does : deeds (programIn twins) 0 (stepsIn together) ≡ togetherDoes
-  one-by-one-does : deeds (programIn twins) 0 (stepsIn oneByOne) ≡ oneByOneDoes
+  together-does : deeds (sheetProgram twins) 0 (answerSteps together) ≡ togetherDoes
+  one-by-one-does : deeds (sheetProgram twins) 0 (answerSteps oneByOne) ≡ oneByOneDoes
   quick : timed twins together halfTheClock 8192 .mark ≡ 500
   slow : timed twins oneByOne halfTheClock 8192 .mark ≡ 300
 
 record Computed : Type 0 where
-  cases : AllMet table
+  cases : AllTimedMet timedTable
   order : Ordered
   full : Marks alwaysFull together halfTheClock 500 1000
   up : Marks halvesUp oneByOne aHalf 62 63
   each-step : Marks roundsEachStep oneByOne underAPass 464 650
 
 computed : Computed
-unfolding member collect all any noTables noProgram noAnswer start listOf queueOf put withQueue withConnections withDone key digit numberFrom membersFrom list one two three four set sets digitsIn numberText membersBelow moreText listText maskText inTurn oneText twoText threeText fourText headed withType withTransition withPort programOf withInstruction answerOf withStep dueLine countLineIn initialLine tranLine behaviorLine group portLine doId doNumber doEnds doLine stepId stepNumber stepLine each upToLf lfs lineNumber lineStart tran behavior port type instruct sheet stepAt answer instruction move check effect addCheck added down closed zeroed renewed isOf isUsePort isProvidePort conCheck connected sameConnection first dconCheck disconnected namedBy delCheck deleted endCheck endTo enterRow enterCheck enterTo mayLeave finishRow finishCheck finished fireRow fireCheck fireTo active current endsAt leaving entering fired endedBy entered withQueued someConnection wouldLeave refusing serves blocks employs failsUnserved failsRefusing failsInUse portCheck pushbCheck pushed line action number after step waitCheck oneMore walk walkAnswer textText faultText tally countText instanceText connectionText instanceAt connectionAt instancesText connectionsText report short read both course faultLine faultPlace afterFault noRoom stepPlace afterWalk inRoom ending judged over printing printed timesNumber timeLine time times timesOf withTime atStart notes tick clockFrom clockOf nearest markOf markAfter clockBy courseBy timedBy clocked timedCourse markedReport markInRoom timedEnding timed timedPrinting timedPrinted names deeds naming tablesIn programIn stepsIn
+unfolding member collect allBelow anyBelow noTables noProgram noAnswer start listOf queueOf put withQueue withConnections withDone key digit numberFrom membersFrom list oneForm twoForm threeForm fourForm listForm listsForm digitsIn numberText membersBelow moreText listText maskText inTurn oneText twoText threeText fourText headed withType withTransition withPort programOf withInstruction answerOf withStep dueLine countLineIn initialLine tranLine behaviorLine group portLine doId doNumber doEnds doLine stepId stepNumber stepLine each upToLf lfs lineNumber lineStart tranAt behaviorAt portAt typeLines instructionAt sheet stepAt answer instructionAction moveAction actionCheck effect addCheck added down closed zeroed renewed isOf isUsePort isProvidePort conCheck connected sameConnection firstBelow dconCheck disconnected namedBy delCheck deleted endCheck endTo enterRow enterCheck enterTo mayLeave finishRow finishCheck finished fireRow fireCheck fireTo active current endsAt leaving entering fired endedBy entered withQueued someConnection wouldLeave refusing serves blocks employs failsUnserved failsRefusing failsInUse portCheck pushbCheck pushed actionAt action stepCheck stepTo step waitCheck oneMore walk walkAnswer textText faultText tally countText instanceText connectionText instanceAt connectionAt instancesText connectionsText report short read both course faultLine faultPlace afterFault noRoom stepPlace afterWalk inRoom ending judged over printing printed timesNumber timeLine time times timesOf withTime atStart notes tick clockFrom clockOf nearest markOf markAfter clockBy courseBy timedBy clocked timedCourse markedReport markInRoom timedEnding timed timedPrinting timedPrinted names deeds naming sheetTables sheetProgram answerSteps
 computed = record {
   cases = ((refl, refl), ((refl, refl), ((refl, refl), ((refl, refl), ((refl, refl), ((refl, refl), ((refl, refl), ((refl, refl), ((refl, refl), ((refl, refl), ((refl, refl), ((refl, refl), ((refl, refl), ((refl, refl), ((refl, refl), ((refl, refl), tt))))))))))))))));
   order = record { first = refl; second = refl; together-does = refl; one-by-one-does = refl; quick = refl; slow = refl };
@@ -123,15 +123,15 @@ computed = record {
   each-step = record { allowed = refl; mark-is = refl; sham-is = refl };
 }
 
-pub cases-met : AllMet table
+pub cases-met : AllTimedMet timedTable
 cases-met = computed .cases
 
 told-apart : {m : Marking} {a x : List ℕ} {mark sham : ℕ} → Marks m a x mark sham → sham ≢ mark → ToldApart m
 told-apart {a = a} {x = x} h g =
     (twins, a, x, h .allowed, λ old e q. g (sym (h .sham-is) ∙ ap (λ (r : Timed). r .mark) (q .verdict-is) ∙ ap (λ (n : ℕ). timed twins a x n .mark) e ∙ h .mark-is))
 
-pub as-ruled-is-the-rule : AsRuledIsTheRule
-unfolding AsRuledIsTheRule timedBy courseBy clockBy timed timedCourse clocked markAfter clockOf clockFrom tick
+pub as-ruled-is-the-rule : MarkedAsRuledIsTheRule
+unfolding MarkedAsRuledIsTheRule timedBy courseBy clockBy timed timedCourse clocked markAfter clockOf clockFrom tick
 as-ruled-is-the-rule s a x room = refl
 
 pub shams-told-apart : ShamsToldApart

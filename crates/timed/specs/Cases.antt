@@ -3,6 +3,7 @@ use Prim.Native.Nat.{ℕ}
 use Prim.Native.String.{String}
 use mathlib.Core.List.{List, [], _∷_, _++_}
 use mathlib.Core.Path.{_≡_}
+use Rattle.judged.specs.Judged.{lentBytes}
 use Rattle.forms.specs.Reader.{bytes}
 use Rattle.timed.specs.Timed.{timed}
 
@@ -27,47 +28,47 @@ abbrev pub seconds : String → String → String → List ℕ
 seconds par first second =
     bytes "times=1\npar=" ++ bytes par ++ bytes "\nrows=2\ntime=0,0," ++ bytes first ++ bytes "\ntime=1,0," ++ bytes second ++ bytes "\n"
 
-pub record Case : Type 0 where
+pub record TimedCase : Type 0 where
   pub answer : List ℕ
   pub times : List ℕ
   pub refused : ℕ
   pub mark : ℕ
 
-abbrev pub case : List ℕ → List ℕ → ℕ → ℕ → Case
-case a x n m = record { answer = a; times = x; refused = n; mark = m }
+abbrev pub timedCase : List ℕ → List ℕ → ℕ → ℕ → TimedCase
+timedCase a x n m = record { answer = a; times = x; refused = n; mark = m }
 
-abbrev pub table : List Case
-table =
+abbrev pub timedTable : List TimedCase
+timedTable =
     -- equal projections, and clocks of 30 and of 50
-    case together (seconds "15" "20" "30") 0 500
-    ∷ case oneByOne (seconds "15" "20" "30") 0 300
+    timedCase together (seconds "15" "20" "30") 0 500
+    ∷ timedCase oneByOne (seconds "15" "20" "30") 0 300
     -- 1,000 times 1 over 16 is 62.5: the half goes down; over 400, 2.5
-    ∷ case oneByOne (seconds "1" "8" "8") 0 62
-    ∷ case oneByOne (seconds "1" "200" "200") 0 2
+    ∷ timedCase oneByOne (seconds "1" "8" "8") 0 62
+    ∷ timedCase oneByOne (seconds "1" "200" "200") 0 2
     -- a par above the clock is capped, one below it by a thousandth is not
-    ∷ case together (seconds "31" "20" "30") 0 1000
-    ∷ case together (seconds "1000000" "20" "30") 0 1000
-    ∷ case oneByOne (seconds "9990" "5000" "5000") 0 999
+    ∷ timedCase together (seconds "31" "20" "30") 0 1000
+    ∷ timedCase together (seconds "1000000" "20" "30") 0 1000
+    ∷ timedCase oneByOne (seconds "9990" "5000" "5000") 0 999
     -- 0.496 of the clock: rounded to hundredths first it would come to 500
-    ∷ case oneByOne (seconds "62" "25" "100") 0 496
+    ∷ timedCase oneByOne (seconds "62" "25" "100") 0 496
     -- no time at all
-    ∷ case oneByOne (seconds "1" "0" "0") 0 1000
-    ∷ case oneByOne (bytes "times=1\npar=1\nrows=0\n") 0 1000
+    ∷ timedCase oneByOne (seconds "1" "0" "0") 0 1000
+    ∷ timedCase oneByOne (bytes "times=1\npar=1\nrows=0\n") 0 1000
     -- a refused step
-    ∷ case tooSoon (seconds "15" "20" "30") 31 0
+    ∷ timedCase tooSoon (seconds "15" "20" "30") 31 0
     -- a missing text; a bad row; a number beyond its limit; a pair listed twice; going on past the last row
-    ∷ case oneByOne [] 40 0
-    ∷ case oneByOne (bytes "times=1\npar=1\nrows=1\ntime=0,0\n") 40 0
-    ∷ case oneByOne (bytes "times=1\npar=1\nrows=1\ntime=0,0,86401\n") 41 0
-    ∷ case oneByOne (bytes "times=1\npar=1\nrows=2\ntime=0,0,5\ntime=0,0,6\n") 42 0
-    ∷ case oneByOne (bytes "times=1\npar=1\nrows=0\ntime=0,0,5\n") 40 0
+    ∷ timedCase oneByOne [] 40 0
+    ∷ timedCase oneByOne (bytes "times=1\npar=1\nrows=1\ntime=0,0\n") 40 0
+    ∷ timedCase oneByOne (bytes "times=1\npar=1\nrows=1\ntime=0,0,86401\n") 41 0
+    ∷ timedCase oneByOne (bytes "times=1\npar=1\nrows=2\ntime=0,0,5\ntime=0,0,6\n") 42 0
+    ∷ timedCase oneByOne (bytes "times=1\npar=1\nrows=0\ntime=0,0,5\n") 40 0
     ∷ []
 
 -- a case is met
-abbrev pub Met : Case → Type 0
-Met k =
-    (timed twins (k .answer) (k .times) 8192 .judgement .verdict .refused ≡ k .refused) × (timed twins (k .answer) (k .times) 8192 .mark ≡ k .mark)
+abbrev pub TimedMet : TimedCase → Type 0
+TimedMet k =
+    (timed twins (k .answer) (k .times) lentBytes .judgement .verdict .refused ≡ k .refused) × (timed twins (k .answer) (k .times) lentBytes .mark ≡ k .mark)
 
-abbrev pub AllMet : List Case → Type 0
-AllMet [] = Unit
-AllMet (k ∷ ks) = Met k × AllMet ks
+abbrev pub AllTimedMet : List TimedCase → Type 0
+AllTimedMet [] = Unit
+AllTimedMet (k ∷ ks) = TimedMet k × AllTimedMet ks

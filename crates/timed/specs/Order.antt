@@ -3,6 +3,7 @@ use Prim.Native.Nat.{ℕ}
 use mathlib.Core.List.{List}
 use mathlib.Core.Path.{_≡_}
 use mathlib.Core.Logic.{_≢_}
+use Rattle.judged.specs.Judged.{lentBytes}
 use Rattle.demands.specs.OnTexts.{AllAllowed, projectionOn}
 use Rattle.timed.specs.Timed.{timed}
 
@@ -11,4 +12,4 @@ unfoldable pub OrderMayAlterTheMark : Type 0
 OrderMayAlterTheMark =
     (s : List ℕ) × (a : List ℕ) × (b : List ℕ) × (x : List ℕ)
     × AllAllowed s a × AllAllowed s b × ((i : ℕ) → projectionOn s a i ≡ projectionOn s b i)
-    × (timed s a x 8192 .mark ≢ timed s b x 8192 .mark)
+    × (timed s a x lentBytes .mark ≢ timed s b x lentBytes .mark)

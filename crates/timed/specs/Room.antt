@@ -4,12 +4,14 @@ use mathlib.Core.List.{List}
 use mathlib.Core.Path.{_≡_}
 use mathlib.Core.Logic.{_≢_}
 use lib.ListN.{length}
+use Rattle.forms.specs.Refusal.{bufferShort}
 use Rattle.model.specs.declared.Walked.{Walked}
+use Rattle.judged.specs.Judged.{lentBytes}
 use Rattle.judged.specs.Course.{reached}
 use Rattle.timed.specs.Timed.{timedCourse, markedReport, timed}
 
 unfoldable pub MarkedReportsFit : Type 0
-MarkedReportsFit = (s a x : List ℕ) (w : Walked) (m : ℕ) → timedCourse s a x ≡ reached (w, m) → length (markedReport w m) ≤ 8192
+MarkedReportsFit = (s a x : List ℕ) (w : Walked) (m : ℕ) → timedCourse s a x ≡ reached (w, m) → length (markedReport w m) ≤ lentBytes
 
 unfoldable pub TimedSixNever : Type 0
-TimedSixNever = (s a x : List ℕ) → timed s a x 8192 .judgement .verdict .refused ≢ 6
+TimedSixNever = (s a x : List ℕ) → timed s a x lentBytes .judgement .verdict .refused ≢ bufferShort

@@ -15,15 +15,15 @@ use Rattle.model.specs.Empty.{start}
 use Rattle.model.specs.View.{stepsOf}
 use Rattle.rules.specs.Step.{step}
 use Rattle.rules.specs.Walk.{besideBy, walkAnswer}
-use Rattle.judged.specs.Course.{Course, reached, _>>=_, _>>_, short, read, both, default}
-use Rattle.judged.specs.Judged.{over}
+use Rattle.judged.specs.Course.{Course, reached, _>>=_, _>>_, short, read, both, defaultDepth}
+use Rattle.judged.specs.Judged.{over, lentBytes}
 use Rattle.times.specs.declared.Times.{Times}
 use Rattle.times.specs.Text.{times}
 use Rattle.timed.specs.declared.Timed.{Timed}
 use Rattle.timed.specs.Clock.{tickBy, atStart}
 use Rattle.timed.specs.Mark.{markOf}
 use Rattle.timed.specs.Timed.{Marked, timedEnding, timed}
-use Rattle.timed.specs.Once.{Promised}
+use Rattle.timed.specs.Once.{TimedPromised}
 
 -- what a clock shows of the time that an `end` comes to, and the mark of a par and a clock
 pub record Marking : Type 0 where
@@ -31,26 +31,26 @@ pub record Marking : Type 0 where
   pub marks : ℕ → ℕ → ℕ
 
 -- C-14's own
-abbrev pub asRuled : Marking
-asRuled = record { shown = λ n. n; marks = markOf }
+abbrev pub markedAsRuled : Marking
+markedAsRuled = record { shown = λ n. n; marks = markOf }
 
 -- the timing of three texts by a marking, in all else as ruled
 unfoldable pub clockBy : Marking → Tables → Program → Answer → Times → ℕ
-clockBy m t p y ts = besideBy (step default t p) (tickBy (m .shown) ts) start (stepsOf y) atStart .now
+clockBy m t p y ts = besideBy (step defaultDepth t p) (tickBy (m .shown) ts) start (stepsOf y) atStart .now
 
 unfoldable pub courseBy : Marking → List ℕ → List ℕ → List ℕ → Course (Walked × ℕ)
 courseBy m s a x = do
   (t, p, y) ← both s a
   short text.Times x
   ts ← read text.Times times x
-  reached (walkAnswer default t p y, cond (eqb (walkAnswer default t p y .refused) 0) (m .marks (ts .par) (clockBy m t p y ts)) 0)
+  reached (walkAnswer defaultDepth t p y, cond (eqb (walkAnswer defaultDepth t p y .refused) 0) (m .marks (ts .par) (clockBy m t p y ts)) 0)
 
 unfoldable pub timedBy : Marking → List ℕ → List ℕ → List ℕ → ℕ → Marked
 timedBy m s a x room = timedEnding s a x room (courseBy m s a x)
 
 -- with nothing changed it is the rule, so a sham differs from the rule in its own notion alone
-unfoldable pub AsRuledIsTheRule : Type 0
-AsRuledIsTheRule = (s a x : List ℕ) (room : ℕ) → timedBy asRuled s a x room ≡ timed s a x room
+unfoldable pub MarkedAsRuledIsTheRule : Type 0
+MarkedAsRuledIsTheRule = (s a x : List ℕ) (room : ℕ) → timedBy markedAsRuled s a x room ≡ timed s a x room
 
 -- always the full mark
 abbrev pub alwaysFull : Marking
@@ -71,9 +71,9 @@ roundsEachStep = record { shown = toTens; marks = markOf }
 abbrev pub ToldApart : Marking → Type 0
 ToldApart m =
     (s : List ℕ) × (a : List ℕ) × (x : List ℕ)
-    × (timed s a x 8192 .judgement .verdict .refused ≡ 0)
-    × ((old : List ℕ) → length old ≡ 8192 → let j = timedBy m s a x 8192 in
-    ¬ Promised s a x old (record { verdict = j .judgement .verdict; mark = j .mark }) (over (j .judgement .bytes) old) (j .judgement .place))
+    × (timed s a x lentBytes .judgement .verdict .refused ≡ 0)
+    × ((old : List ℕ) → length old ≡ lentBytes → let j = timedBy m s a x lentBytes in
+    ¬ TimedPromised s a x old (record { verdict = j .judgement .verdict; mark = j .mark }) (over (j .judgement .bytes) old) (j .judgement .place))
 
 unfoldable pub ShamsToldApart : Type 0
 ShamsToldApart = ToldApart alwaysFull × ToldApart halvesUp × ToldApart roundsEachStep
@@ -85,4 +85,4 @@ passLine = 500
 unfoldable pub RoundingLifts : Type 0
 RoundingLifts =
     (s : List ℕ) × (a : List ℕ) × (x : List ℕ)
-    × (timed s a x 8192 .judgement .verdict .refused ≡ 0) × (timed s a x 8192 .mark < passLine) × (passLine ≤ timedBy roundsEachStep s a x 8192 .mark)
+    × (timed s a x lentBytes .judgement .verdict .refused ≡ 0) × (timed s a x lentBytes .mark < passLine) × (passLine ≤ timedBy roundsEachStep s a x lentBytes .mark)

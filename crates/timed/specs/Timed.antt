@@ -14,8 +14,8 @@ use Rattle.model.specs.declared.Walked.{Walked}
 use Rattle.rules.specs.Walk.{walkAnswer}
 use Rattle.report.specs.Report.{countText, report}
 use Rattle.report.specs.Faults.{faultText}
-use Rattle.judged.specs.Course.{Course, faulty, reached, _>>=_, _>>_, short, read, default, both}
-use Rattle.judged.specs.Judged.{Judgement, textOf, afterFault, inRoom, over}
+use Rattle.judged.specs.Course.{Course, faulty, reached, _>>=_, _>>_, short, read, defaultDepth, both}
+use Rattle.judged.specs.Judged.{Judgement, textOf, afterFault, inRoom, over, lentBytes}
 use Rattle.times.specs.Text.{times}
 use Rattle.times.specs.Refusal.{timesNumber}
 use Rattle.timed.specs.declared.Timed.{Timed}
@@ -27,7 +27,7 @@ unfoldable pub clocked : Tables → Program → Answer → List ℕ → Course (
 clocked t p y x = do
   short text.Times x
   ts ← read text.Times times x
-  reached (walkAnswer default t p y, markAfter (walkAnswer default t p y .refused) (ts .par) (clockOf default t p y ts))
+  reached (walkAnswer defaultDepth t p y, markAfter (walkAnswer defaultDepth t p y .refused) (ts .par) (clockOf defaultDepth t p y ts))
 
 -- "after the sheet and the answer are read and before any step"
 unfoldable pub timedCourse : List ℕ → List ℕ → List ℕ → Course (Walked × ℕ)
@@ -92,8 +92,8 @@ timedBuffer s a x old = over (timed s a x (length old) .judgement .bytes) old
 
 -- what the `timing` program prints; it lends 8,192 bytes
 unfoldable pub timedPrinting : List ℕ → List ℕ → List ℕ → Course (Walked × ℕ) → List ℕ
-timedPrinting s a x (faulty k n at) = let v = timedEnding s a x 8192 (faulty k n at) .judgement .verdict in faultText (v .text) (v .line) (v .refused)
-timedPrinting s a x (reached (w, m)) = timedEnding s a x 8192 (reached (w, m)) .judgement .bytes
+timedPrinting s a x (faulty k n at) = let v = timedEnding s a x lentBytes (faulty k n at) .judgement .verdict in faultText (v .text) (v .line) (v .refused)
+timedPrinting s a x (reached (w, m)) = timedEnding s a x lentBytes (reached (w, m)) .judgement .bytes
 
 unfoldable pub timedPrinted : List ℕ → List ℕ → List ℕ → List ℕ
 timedPrinted s a x = timedPrinting s a x (timedCourse s a x)

@@ -16,7 +16,7 @@ use Rattle.model.specs.declared.Text.{Text}
 use Rattle.model.specs.declared.Text.the-variants as text
 use Rattle.reading.specs.Lines.{Run, on, stop}
 use Rattle.rules.specs.Walk.{walkAnswer}
-use Rattle.judged.specs.Course.{Course, faulty, reached, goOn, default, both}
+use Rattle.judged.specs.Course.{Course, faulty, reached, goOn, defaultDepth, both}
 use Rattle.judging.proofs.Order.{long, not-long, TextRead, went, stopped, FaultAt, at-start, at-line, Told, in-sheet, in-answer, walks, both-told}
 use Rattle.times.specs.declared.Times.{Times}
 use Rattle.times.specs.Text.{times}
@@ -38,7 +38,7 @@ times-read x h is = rw (is, le-leb (length x) 32768 h, timesRead) (go (times x) 
     go (stop n r) e = stopped text.Times times x e (times-stop x n r e)
 
 abbrev pub Marked : Tables → Program → Answer → Times → Walked × ℕ
-Marked t p y ts = (walkAnswer default t p y, markAfter (walkAnswer default t p y .refused) (ts .par) (clockOf default t p y ts))
+Marked t p y ts = (walkAnswer defaultDepth t p y, markAfter (walkAnswer defaultDepth t p y .refused) (ts .par) (clockOf defaultDepth t p y ts))
 
 -- what was read of the times, and the course that it comes to
 pub record Clocks (t : Tables) (p : Program) (y : Answer) (x : List ℕ) (r : TimesRead) : Type 0 where

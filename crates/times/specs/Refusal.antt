@@ -4,6 +4,7 @@
 use Prim.Native.Nat.{ℕ}
 use mathlib.Core.Bool.{cond}
 use lib.Dec.{eqb}
+use Rattle.forms.specs.Refusal.{beyondLimit, badClause}
 
 abbrev pub badTimes : ℕ
 badTimes = 40
@@ -15,4 +16,4 @@ abbrev pub pairListedTwice : ℕ
 pairListedTwice = 42
 
 unfoldable pub timesNumber : ℕ → ℕ
-timesNumber n = cond (eqb n 3) timesBeyondLimit (cond (eqb n 4) pairListedTwice badTimes)
+timesNumber n = cond (eqb n beyondLimit) timesBeyondLimit (cond (eqb n badClause) pairListedTwice badTimes)

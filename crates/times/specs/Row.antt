@@ -1,8 +1,9 @@
 -- One row. In one line 2 comes before 3 before 4: the form whole, then the limits, then the pair.
 use Prim.Native.Nat.{ℕ}
 use mathlib.Core.Bool.{not, _&&_}
+use Rattle.forms.specs.Refusal.{beyondLimit, badClause}
 use Rattle.forms.specs.Reader.{Reader, bytes, _>>=_, _>>_, give, check}
-use Rattle.forms.specs.Read.{key, three}
+use Rattle.forms.specs.Read.{key, threeForm}
 use Rattle.reading.specs.Limits.{idOk, transitionOk}
 use Rattle.times.specs.declared.Times.{Times}
 use Rattle.times.specs.Limits.{sevenDigits, secondsOk}
@@ -12,7 +13,7 @@ use Rattle.times.specs.View.{isListed}
 unfoldable pub timeLine : Times → Reader (ℕ × ℕ × ℕ)
 timeLine ts = do
   key (bytes "time=")
-  (i, x, n) ← three sevenDigits
-  check (idOk i && (transitionOk x && secondsOk n)) 3
-  check (not (isListed ts i x)) 4
+  (i, x, n) ← threeForm sevenDigits
+  check (idOk i && (transitionOk x && secondsOk n)) beyondLimit
+  check (not (isListed ts i x)) badClause
   give (i, x, n)

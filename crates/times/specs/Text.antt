@@ -1,7 +1,7 @@
 -- "`times=1`, `par=` (1 to 1,000,000 seconds), `rows=` (0 to 1,024), then `time=id,transition,seconds`": the lines in order.
 use Prim.Native.Nat.{ℕ}
 use Rattle.forms.specs.Reader.{bytes}
-use Rattle.reading.specs.Lines.{Lines, _>>=_, _>>_, give, line, each, atEnd}
+use Rattle.reading.specs.Lines.{Lines, _>>=_, _>>_, handOn, line, each, atEnd}
 use Rattle.reading.specs.Kinds.{dueLine, countLineIn}
 use Rattle.times.specs.declared.Times.{Times}
 use Rattle.times.specs.Limits.{sevenDigits, parOk, rowsOk}
@@ -11,7 +11,7 @@ use Rattle.times.specs.Row.{timeLine}
 unfoldable pub time : ℕ → Times → Lines Times
 time j ts = do
   (i, x, n) ← line (timeLine ts)
-  give (withTime ts i x n)
+  handOn (withTime ts i x n)
 
 -- another number than 1 in the first line is a form fault, of however many digits
 unfoldable pub times : Lines Times
@@ -21,4 +21,4 @@ times = do
   n ← line (countLineIn sevenDigits (bytes "rows=") rowsOk)
   ts ← each time n 0 (timesOf par)
   atEnd
-  give ts
+  handOn ts

@@ -24,8 +24,8 @@ use Rattle.model.specs.View.{typeOf, instance, put, withQueue, withConnections,
 use Rattle.model.proofs.View.{past-end}
 use Rattle.rules.specs.Ports.{someConnection, serves, blocks, employs, failsUnserved, failsRefusing, failsInUse}
 use Rattle.rules.specs.PushB.{depthOf}
-use Rattle.rules.specs.Action.{instruction}
-use Rattle.rules.specs.Step.{line, action, number, after, step}
+use Rattle.rules.specs.Action.{instructionAction}
+use Rattle.rules.specs.Step.{actionAt, action, stepCheck, stepTo, step}
 use Rattle.ports.specs.Rows.{parts}
 use Rattle.ports.specs.Tests.{portsCheck}
 use Rattle.plans.specs.declared.Joins.{Joins}
@@ -54,8 +54,8 @@ due p c = getD (p .instructions) (c .done) noInstruction
 
 -- r is what the step comes to on c
 pub record Comes (default : ℕ) (t : Tables) (p : Program) (c : Configuration) (s : Step) (r : Plan) : Type 0 where
-  pub numbers : r .refused ≡ number default t p c s
-  pub changes : r .refused ≡ 0 → after t p c s ≡ withDone (changed c (actor s (due p c)) r) (doneAfter s (c .done) (p .count))
+  pub numbers : r .refused ≡ stepCheck default t p c s
+  pub changes : r .refused ≡ 0 → stepTo t p c s ≡ withDone (changed c (actor s (due p c)) r) (doneAfter s (c .done) (p .count))
 
 module _ (default : ℕ) (t : Tables) (p : Program) (c : Configuration) (s : Step) (byte : depthOf default t < 256) (full : length (c .instances) ≡ 32) where
   abbrev v : Instance
@@ -66,7 +66,7 @@ module _ (default : ℕ) (t : Tables) (p : Program) (c : Configuration) (s : Ste
       stepPlan (depthOf default t) t c s (ltb (c .done) (p .count)) (due p c) (typeOf t (v .kind)) v (instance c (due p c .provider))
 
   next-comes : s .verb ≡ nextVerb → Comes default t p c s own
-  unfolding stepPlan number after action line withDone
+  unfolding stepPlan stepCheck stepTo action actionAt withDone
   next-comes e =
       by-cases (decLt (c .done) (p .count))
       (λ h. record {
@@ -79,7 +79,7 @@ module _ (default : ℕ) (t : Tables) (p : Program) (c : Configuration) (s : Ste
       })
 
   move-comes : s .verb ≢ nextVerb → Comes default t p c s own
-  unfolding stepPlan number after action withDone changed put withQueue withConnections
+  unfolding stepPlan stepCheck stepTo action withDone changed put withQueue withConnections
   move-comes d = record {
     numbers = rw (ne-eqb _ _ d) (move-number default t c s full);
     changes = λ z. rw (ne-eqb _ _ d) (move-changes default t c s full (rw (ne-eqb _ _ d) at z));

@@ -17,14 +17,14 @@ use Rattle.model.specs.declared.Step.{Step}
 use Rattle.model.specs.declared.Configuration.{Configuration}
 use Rattle.model.specs.Empty.{absent}
 use Rattle.model.specs.Verb.{fireVerb, endVerb, enterVerb}
-use Rattle.model.specs.View.{typeOf, instance, head, put, withQueue, withConnections}
+use Rattle.model.specs.View.{typeOf, instance, queueHead, put, withQueue, withConnections}
 use Rattle.model.proofs.View.{past-end, put-same}
-use Rattle.rules.specs.Refusal.{orElse}
+use Rattle.rules.specs.Refusal.{orNumber}
 use Rattle.rules.specs.Instance.{active, current, leaving, entering}
 use Rattle.rules.specs.Fire.{fireRow, fireCheck, fireTo}
 use Rattle.rules.specs.End.{endCheck, endTo}
 use Rattle.rules.specs.Enter.{enterRow, enterCheck, enterTo}
-use Rattle.rules.specs.Action.{move, check, effect}
+use Rattle.rules.specs.Action.{moveAction, actionCheck, effect}
 use Rattle.rules.specs.Ports.{behavior, portCheck, failsUnserved, failsRefusing, failsInUse, someConnection, serves, blocks, employs, refusing, wouldLeave}
 use Rattle.rules.specs.Finish.{mayLeave, finishRow, finishCheck, finished}
 use Rattle.ports.specs.Rows.{rows}
@@ -58,7 +58,7 @@ module _ (t : Tables) (c : Configuration) (v : Instance) (s : Step) where
     unfolding movePlan portsCheck failsUnserved failsRefusing failsInUse someConnection serves blocks employs refusing wouldLeave leaving current active
     move-asked z a k e = rw (← is, eq-eqb (r .refused) 0 z, a) (ap (numbered r) e)
 
-or-zero : (n : ℕ) → n ≡ orElse n 0
+or-zero : (n : ℕ) → n ≡ orNumber n 0
 or-zero n = by-cases (ℕ-discrete n 0) (λ e. rw (eq-eqb n 0 e) e) (λ d. rw (ne-eqb n 0 d))
 
 -- a row of checks that begins as every move's does
@@ -75,9 +75,9 @@ module _ (default : ℕ) (t : Tables) (c : Configuration) (s : Step) where
   made = movePlan (typeOf t (instance c (s .id) .kind) .ports) t c (instance c (s .id)) s
 
   -- the number of the move: that of its row, then that of the ports where they are asked
-  plan-number : check default t c (move s)
-      ≡ orElse (own .refused) (cond (asksPorts (s .verb)) (portCheck t c (s .id) (instance c (s .id)) (own .after)) 0)
-  unfolding planned asksPorts move check fireCheck endCheck enterCheck finishCheck
+  plan-number : actionCheck default t c (moveAction s)
+      ≡ orNumber (own .refused) (cond (asksPorts (s .verb)) (portCheck t c (s .id) (instance c (s .id)) (own .after)) 0)
+  unfolding planned asksPorts moveAction actionCheck fireCheck endCheck enterCheck finishCheck
   plan-number =
       by-cases (ℕ-discrete (s .verb) fireVerb)
       (λ e. rw (eq-eqb _ _ e, add-zero))
@@ -100,8 +100,8 @@ module _ (default : ℕ) (t : Tables) (c : Configuration) (s : Step) where
       (λ h. first-passes _ _ _ (rw (ne-eqb _ _ f, ne-eqb _ _ g, ne-eqb _ _ h) at z))))
 
   -- what it changes then
-  plan-changes : own .refused ≡ 0 → effect t c (move s) ≡ changed c (s .id) own
-  unfolding planned move effect fireTo endTo enterTo finished changed headless withQueue withConnections
+  plan-changes : own .refused ≡ 0 → effect t c (moveAction s) ≡ changed c (s .id) own
+  unfolding planned moveAction effect fireTo endTo enterTo finished changed headless withQueue withConnections
   plan-changes z =
       by-cases (ℕ-discrete (s .verb) fireVerb)
       (λ e. rw (eq-eqb _ _ e, add-zero))
@@ -118,14 +118,14 @@ module _ (default : ℕ) (t : Tables) (c : Configuration) (s : Step) where
         (λ h. h)
         (λ h. absurd (true≢false (sym (plan-passes z .0) ∙ ap (λ (v : Instance). v .present) (past-end (c .instances) absent {n = 32} {i = s .id} full (omega arith)))))
 
-    pub move-number : made .refused ≡ check default t c (move s)
+    pub move-number : made .refused ≡ actionCheck default t c (moveAction s)
     unfolding movePlan portsCheck portCheck
     move-number =
         by-cases (ℕ-discrete (own .refused) 0)
         (λ z. rw (plan-number, eq-eqb (own .refused) 0 z, put-same c (s .id) (own .after) (rw full (plan-within z))))
         (λ d. rw (plan-number, ne-eqb (own .refused) 0 d))
 
-    pub move-changes : made .refused ≡ 0 → effect t c (move s) ≡ changed c (s .id) made
+    pub move-changes : made .refused ≡ 0 → effect t c (moveAction s) ≡ changed c (s .id) made
     unfolding movePlan changed
     move-changes e =
         by-cases (ℕ-discrete (own .refused) 0)

@@ -25,7 +25,7 @@ use Rattle.rules.specs.PushB.{depthOf, pushbCheck, pushed}
 use Rattle.rules.specs.Con.{isOf, isUsePort, isProvidePort, conCheck, connected}
 use Rattle.rules.specs.DCon.{dconCheck, disconnected}
 use Rattle.rules.specs.Wait.{waitCheck}
-use Rattle.rules.specs.Action.{named, instruction, check, effect}
+use Rattle.rules.specs.Action.{named, instructionAction, actionCheck, effect}
 use Rattle.plans.specs.declared.Joins.{Joins}
 use Rattle.plans.specs.declared.Plan.{Plan}
 use Rattle.plans.specs.Changes.{headless, joined, relisted, changed}
@@ -74,8 +74,8 @@ module _ (default : ℕ) (t : Tables) (c : Configuration) (n : Instruction) wher
   abbrev order : Plan
   order = ordered (depthOf default t) t c (typeOf t (v .kind)) v w n
 
-  pub order-number : order .refused ≡ check default t c (instruction n)
-  unfolding ordered instruction check addCheck delCheck pushbCheck conCheck isUsePort isProvidePort dconCheck waitCheck
+  pub order-number : order .refused ≡ actionCheck default t c (instructionAction n)
+  unfolding ordered instructionAction actionCheck addCheck delCheck pushbCheck conCheck isUsePort isProvidePort dconCheck waitCheck
   order-number =
       by-cases (ℕ-discrete (n .verb) addVerb)
       (λ e. rw (eq-eqb _ _ e))
@@ -100,8 +100,8 @@ module _ (default : ℕ) (t : Tables) (c : Configuration) (n : Instruction) wher
       (not (ltb (n .provideport) (typeOf t (w .kind) .ports) && not (isUse t (w .kind) (n .provideport)))) (eqb (n .id) (n .provider))
       (someConnection c (isOf (n .id) (n .number))) _ z)
 
-  pub order-changes : depthOf default t < 256 → order .refused ≡ 0 → effect t c (instruction n) ≡ changed c (n .id) order
-  unfolding ordered instruction effect added deleted renewed pushed connected disconnected changed withQueue withConnections
+  pub order-changes : depthOf default t < 256 → order .refused ≡ 0 → effect t c (instructionAction n) ≡ changed c (n .id) order
+  unfolding ordered instructionAction effect added deleted renewed pushed connected disconnected changed withQueue withConnections
   order-changes byte z =
       by-cases (ℕ-discrete (n .verb) addVerb)
       (λ e. rw (eq-eqb _ _ e))

@@ -12,7 +12,7 @@ use Rattle.model.specs.declared.Step.{Step}
 use Rattle.model.specs.declared.Configuration.{Configuration}
 use Rattle.model.specs.Verb.{nextVerb, addVerb, delVerb, pushbVerb, conVerb, dconVerb, fireVerb, endVerb, enterVerb}
 use Rattle.model.specs.View.{typeOf, instance, put}
-use Rattle.rules.specs.Refusal.{noInstructionLeft, orElse}
+use Rattle.rules.specs.Refusal.{noInstructionLeft, orNumber}
 use Rattle.rules.specs.Instance.{current, leaving, entering}
 use Rattle.rules.specs.Action.{named}
 use Rattle.ports.specs.Tests.{portsCheck}
@@ -48,7 +48,7 @@ asksPorts verb = eqb verb fireVerb || eqb verb enterVerb
 
 -- the plan of a move that the ports allow, or its number or theirs
 abbrev pub asked : Plan → ℕ → Plan
-asked r n = record { refused = orElse (r .refused) n; after = r .after; slots = r .slots; joins = r .joins }
+asked r n = record { refused = orNumber (r .refused) n; after = r .after; slots = r .slots; joins = r .joins }
 
 -- a move of v, where its queue's head is that of c
 abbrev pub moved : Tables → Configuration → Instance → Step → Plan

@@ -15,7 +15,7 @@ use denote.Array.{each}
 use denote.Shadow.{shadow}
 use Rattle.sets.specs.Mask.{member}
 use Rattle.forms.specs.Reader.{bytes}
-use Rattle.forms.specs.Write.{when, digitsIn, numberText, membersBelow, moreText, listText, maskText, inTurn, oneText, twoText, threeText, fourText}
+use Rattle.forms.specs.Write.{onlyIf, digitsIn, numberText, membersBelow, moreText, listText, maskText, inTurn, oneText, twoText, threeText, fourText}
 use Rattle.model.specs.declared.Instance.{Instance}
 use Rattle.model.specs.declared.Connection.{Connection}
 use Rattle.model.specs.declared.Configuration.{Configuration}
@@ -63,7 +63,7 @@ unfolding listText
 list-short [] = omega arith
 list-short (v ∷ l) = simp length-append (omega (arith, number-short v, more-short l))
 
-when-short : (b : Bool) (l : List ℕ) → length (when b l) ≤ length l
+when-short : (b : Bool) (l : List ℕ) → length (onlyIf b l) ≤ length l
 when-short true l = omega arith
 when-short false l = omega arith
 

@@ -14,7 +14,7 @@ use lib.Dec.{eqb, ltb}
 use lib.ListN.{length, getD, set, take, drop, length-drop, replicate, length-set, length-replicate}
 use lib.Seq.{take-all, getD-drop, getD-set-same, getD-set-other}
 use Rattle.forms.proofs.Tests.{by-test}
-use Rattle.forms.specs.Write.{when, inTurn}
+use Rattle.forms.specs.Write.{onlyIf, inTurn}
 use Rattle.inks.specs.Written.{Written}
 use Rattle.inks.proofs.Laws.{none, next, free, back, length-written}
 use Rattle.sets.specs.Mask.{member, with}
@@ -46,10 +46,10 @@ module _ (p : ℕ → Bool) (n : ℕ) where
 
 -- ---- a line that may be absent
 
-pub line-there : {old l new : List ℕ} {b : Bool} {used : ℕ} → b ≡ true → Written old l new 0 used → Written old (when b l) new 0 used
+pub line-there : {old l new : List ℕ} {b : Bool} {used : ℕ} → b ≡ true → Written old l new 0 used → Written old (onlyIf b l) new 0 used
 line-there h w = rw h w
 
-pub line-absent : {old : List ℕ} {b : Bool} (l : List ℕ) → b ≡ false → Written old (when b l) old 0 0
+pub line-absent : {old : List ℕ} {b : Bool} (l : List ℕ) → b ≡ false → Written old (onlyIf b l) old 0 0
 line-absent {old} l h = rw h (none old 0)
 
 -- ---- an instance
@@ -64,7 +64,7 @@ slots-of c i n e h =
     (λ r l. ap (λ (q : List ℕ). getD q r 0) all ∙ getD-drop (i * 8) (c .queue) r 0)
 
 pub instance-line : (c : Configuration) (i : ℕ) → length (c .queue) ≡ 256 → i < 32
-    → when (instance c i .present) (instanceText i (instance c i) (listOf (instance c i .queued) (λ r. getD (take (256 - i * 8) (drop (i * 8) (c .queue))) r 0)))
+    → onlyIf (instance c i .present) (instanceText i (instance c i) (listOf (instance c i .queued) (λ r. getD (take (256 - i * 8) (drop (i * 8) (c .queue))) r 0)))
     ≡ instanceAt c i
 unfolding instanceAt queueOf
 instance-line c i e h = rw (slots-of c i (instance c i .queued) e h)

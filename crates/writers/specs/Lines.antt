@@ -6,7 +6,7 @@ use lib.Dec.{eqb, ltb}
 use lib.ListN.{getD, set, replicate}
 use Rattle.sets.specs.Mask.{member, with}
 use Rattle.forms.specs.Reader.{bytes}
-use Rattle.forms.specs.Write.{when, inTurn}
+use Rattle.forms.specs.Write.{onlyIf, inTurn}
 use Rattle.model.specs.declared.Connection.{Connection}
 use Rattle.model.specs.declared.Configuration.{Configuration}
 use Rattle.model.specs.declared.Walked.{Walked}
@@ -29,7 +29,7 @@ byPort ks u (suc n) = noted (byPort ks u n) u (getD ks n noConnection)
 
 -- what stands for port q: its line, nothing where it has no connection
 abbrev pub lineBy : ByPort → ℕ → List ℕ
-lineBy b q = when (member q (b .ports)) (connectionText (getD (b .connections) q noConnection))
+lineBy b q = onlyIf (member q (b .ports)) (connectionText (getD (b .connections) q noConnection))
 
 -- those of all its ports
 abbrev pub userLines : List Connection → ℕ → ℕ → List ℕ

@@ -16,7 +16,7 @@ use sets::with;
 ghost use mathlib.Core.Path.{_≡_};
 ghost use lib.ListN.{length, getD};
 ghost use Rattle.model.specs.View.{instance, listOf};
-ghost use Rattle.forms.specs.Write.{when};
+ghost use Rattle.forms.specs.Write.{onlyIf};
 ghost use Rattle.report.specs.Report.{tally, countText, instanceText, connectionText, instancesText, connectionsText, report};
 ghost use Rattle.report.specs.Faults.{textText, faultText};
 ghost use Rattle.inks.specs.Written.{Written};
@@ -67,7 +67,7 @@ fn write_connection(t: &mut [u8], k: Connection) -> usize
 
 // An instance's line, nothing where it is absent.
 fn write_present(t: &mut [u8], i: usize, w: Instance, slots: &[u8]) -> usize
-    ensures { λ r. ⌜ Written (now (t .entry)) (when (w .present) (instanceText i w (listOf (w .queued) (λ s. getD (now (slots .entry)) s 0)))) (now (t .exit)) 0 r ⌝ }
+    ensures { λ r. ⌜ Written (now (t .entry)) (onlyIf (w .present) (instanceText i w (listOf (w .queued) (λ s. getD (now (slots .entry)) s 0)))) (now (t .exit)) 0 r ⌝ }
 {
     if w.present {
         write_instance(t, i, w, slots)
@@ -139,7 +139,7 @@ fn by_port(connections: [Connection; 64], count: u8, user: usize) -> ByPort
 
 // A connection's line, nothing where there is none.
 fn write_found(t: &mut [u8], found: bool, k: Connection) -> usize
-    ensures { λ r. ⌜ Written (now (t .entry)) (when found (connectionText k)) (now (t .exit)) 0 r ⌝ }
+    ensures { λ r. ⌜ Written (now (t .entry)) (onlyIf found (connectionText k)) (now (t .exit)) 0 r ⌝ }
 {
     if found { write_connection(t, k) } else { 0 }
 }

@@ -1,7 +1,7 @@
 use Prim.Native.Nat.{zero-le}
 use mathlib.Core.Path.{_≡_, sym}
 use Rattle.forms.specs.Reader.{refused, bytes}
-use Rattle.forms.specs.Read.{key, on}
+use Rattle.forms.specs.Read.{key, upon}
 use Rattle.texts.specs.Says.{dueSays}
 use Rattle.texts.proofs.Laws.{told}
 use Rattle.reading.specs.Kinds.{stepLine}
@@ -28,35 +28,35 @@ returns : tie.Need-returns
 unfolding stepLine
 returns c =
     let h = told dueSays _ (c .before .before .before .past-key .ensures) (c .before .used .given .1) in
-    record { within = h .within; same = sym (rw (sym (h .same), on)) }
+    record { within = h .within; same = sym (rw (sym (h .same), upon)) }
 
 returns-2 : tie.Need-returns-2
 unfolding stepLine
 returns-2 c =
     let h = told dueSays _ (c .before .before .before .before .past-key2 .ensures) (c .before .before .i .given .1) in
-    rw (no-next (c .before .before .before .before .before .before), sym (h .same), on) (c .step-number .ensures)
+    rw (no-next (c .before .before .before .before .before .before), sym (h .same), upon) (c .step-number .ensures)
 
 returns-3 : tie.Need-returns-3
 unfolding stepLine
 returns-3 c =
     let h = told dueSays _ (c .before .before .before .before .past-key3 .ensures) (c .before .before .i2 .given .1) in
-    rw (no-next (c .before .before .before .before .before .before .before .before .before .before), no-fire (c .before .before .before .before .before .before), sym (h .same), on) (c .step-number2 .ensures)
+    rw (no-next (c .before .before .before .before .before .before .before .before .before .before), no-fire (c .before .before .before .before .before .before), sym (h .same), upon) (c .step-number2 .ensures)
 
 returns-4 : tie.Need-returns-4
 unfolding stepLine
 returns-4 c =
     let h = told dueSays _ (c .before .before .before .before .past-key4 .ensures) (c .before .before .i3 .given .1) in
-    rw (no-next (c .before .before .before .before .before .before .before .before .before .before .before .before .before .before), no-fire (c .before .before .before .before .before .before .before .before .before .before), no-end (c .before .before .before .before .before .before), sym (h .same), on) (c .step-number3 .ensures)
+    rw (no-next (c .before .before .before .before .before .before .before .before .before .before .before .before .before .before), no-fire (c .before .before .before .before .before .before .before .before .before .before), no-end (c .before .before .before .before .before .before), sym (h .same), upon) (c .step-number3 .ensures)
 
 returns-5 : tie.Need-returns-5
 unfolding stepLine
 returns-5 c =
     let h = told dueSays _ (c .before .before .before .before .past-key5 .ensures) (c .before .before .i4 .given .1) in
-    rw (no-next (c .before .before .before .before .before .before .before .before .before .before .before .before .before .before .before .before .before .before), no-fire (c .before .before .before .before .before .before .before .before .before .before .before .before .before .before), no-end (c .before .before .before .before .before .before .before .before .before .before), no-enter (c .before .before .before .before .before .before), sym (h .same), on) (c .step-id .ensures)
+    rw (no-next (c .before .before .before .before .before .before .before .before .before .before .before .before .before .before .before .before .before .before), no-fire (c .before .before .before .before .before .before .before .before .before .before .before .before .before .before), no-end (c .before .before .before .before .before .before .before .before .before .before), no-enter (c .before .before .before .before .before .before), sym (h .same), upon) (c .step-id .ensures)
 
 returns-6 : tie.Need-returns-6
 unfolding stepLine
-returns-6 c = record { within = zero-le; same = sym (rw (no-next (c .before .before .before .before .before .before .before .before .before .before .before .before .before .before .before .before), no-fire (c .before .before .before .before .before .before .before .before .before .before .before .before), no-end (c .before .before .before .before .before .before .before .before), no-enter (c .before .before .before .before), no-finish c, on)) }
+returns-6 c = record { within = zero-le; same = sym (rw (no-next (c .before .before .before .before .before .before .before .before .before .before .before .before .before .before .before .before), no-fire (c .before .before .before .before .before .before .before .before .before .before .before .before), no-end (c .before .before .before .before .before .before .before .before), no-enter (c .before .before .before .before), no-finish c, upon)) }
 
 pub step-line-spec : {M : Type 1} → statement M
 step-line-spec =

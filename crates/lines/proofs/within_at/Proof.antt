@@ -4,7 +4,7 @@ use lib.ListN.{drop}
 use Rattle.reading.specs.Kinds.{countLineIn}
 use Rattle.texts.specs.Reads.{past, Reads}
 use Rattle.texts.specs.Says.{most}
-use Rattle.lines.specs.Counts.{lineSays, between}
+use Rattle.lines.specs.Counts.{lineSays, inRange}
 use Rattle.lines.proofs.Lines.{line-told}
 use borrow.Author.Needs.{needs}
 use Rattle.lines.proofs.within_at.Statement.{statement}
@@ -14,15 +14,15 @@ returns : tie.Need-returns
 returns c =
     let a = c .before .before .before .before .before .before .before .args in
     rw (c .enum-told .given .1)
-    (record { reads = line-told lineSays (countLineIn (most (a .digits)) (a .key .now) (between (a .least) (a .greatest))) _ _ _ (c .before .before .before .before .place-in .ensures) _ (c .before .before .within-line .ensures .reads) (c .enum-told .given .1); limited = tt })
+    (record { reads = line-told lineSays (countLineIn (most (a .digits)) (a .key .now) (inRange (a .least) (a .greatest))) _ _ _ (c .before .before .before .before .place-in .ensures) _ (c .before .before .within-line .ensures .reads) (c .enum-told .given .1); limited = tt })
 
 -- the line that was read, its place counted from the text's start
 read : (c : tie.After-known-told) →
     let a = c .before .before .before .before .before .before .before .before .args in
-    Reads (a .text .now) (past (c .before .line .given .0 .0) (c .before .before .before .before .before .place-in .result + c .before .line .given .0 .1 .0)) (countLineIn (most (a .digits)) (a .key .now) (between (a .least) (a .greatest)) (drop (a .at) (a .text .now)))
+    Reads (a .text .now) (past (c .before .line .given .0 .0) (c .before .before .before .before .before .place-in .result + c .before .line .given .0 .1 .0)) (countLineIn (most (a .digits)) (a .key .now) (inRange (a .least) (a .greatest)) (drop (a .at) (a .text .now)))
 read c =
     let a = c .before .before .before .before .before .before .before .before .args in
-    line-told lineSays (countLineIn (most (a .digits)) (a .key .now) (between (a .least) (a .greatest))) (a .text .now) (a .at) (c .before .before .before .before .before .place-in .result) (c .before .before .before .before .before .place-in .ensures) _ (c .before .before .before .within-line .ensures .reads) (c .before .line .given .1)
+    line-told lineSays (countLineIn (most (a .digits)) (a .key .now) (inRange (a .least) (a .greatest))) (a .text .now) (a .at) (c .before .before .before .before .before .place-in .result) (c .before .before .before .before .before .place-in .ensures) _ (c .before .before .before .within-line .ensures .reads) (c .before .line .given .1)
 
 add-next : tie.Need-add-next
 add-next c = omega (arith, read c .within)

@@ -3,7 +3,7 @@ use mathlib.Core.Bool.{false}
 use mathlib.Core.List.{[]}
 use Prim.Native.Nat.{_≤_, _-_}
 use borrow.Author.Needs.{needs}
-use Rattle.sets.specs.Test.{any}
+use Rattle.sets.specs.Test.{anyBelow}
 use Rattle.sets.proofs.Laws.{any-start, any-more, any-hit, any-end}
 use Rattle.ports.specs.Rows.{rows}
 use Rattle.ports.specs.Tests.{failsBy}
@@ -11,7 +11,7 @@ use Rattle.ports.proofs.some_port.Statement.{statement}
 use Rattle.ports.proofs.some_port.Tie as tie
 
 abbrev Inv-loop : tie.InvT-loop
-Inv-loop test n uses places transitions v w found q₀ q = (q ≤ n) × (any q (failsBy test (rows [] [] uses places transitions) v w found) ≡ false)
+Inv-loop test n uses places transitions v w found q₀ q = (q ≤ n) × (anyBelow q (failsBy test (rows [] [] uses places transitions) v w found) ≡ false)
 
 abbrev μ-loop : tie.MeasureT-loop
 μ-loop test n uses places transitions v w found q₀ q = n - q

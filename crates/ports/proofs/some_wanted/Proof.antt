@@ -3,7 +3,7 @@ use mathlib.Core.Bool.{false}
 use mathlib.Core.List.{[]}
 use Prim.Native.Nat.{_≤_, _-_}
 use borrow.Author.Needs.{needs}
-use Rattle.sets.specs.Test.{any}
+use Rattle.sets.specs.Test.{anyBelow}
 use Rattle.sets.proofs.Laws.{any-start, any-more, any-hit, any-end}
 use Rattle.ports.specs.Rows.{rows}
 use Rattle.ports.specs.Tests.{wantsPort}
@@ -11,7 +11,7 @@ use Rattle.ports.proofs.some_wanted.Statement.{statement}
 use Rattle.ports.proofs.some_wanted.Tie as tie
 
 abbrev Inv-loop : tie.InvT-loop
-Inv-loop test n uses places transitions v w q₀ q = (q ≤ n) × (any q (wantsPort test (rows [] [] uses places transitions) v w) ≡ false)
+Inv-loop test n uses places transitions v w q₀ q = (q ≤ n) × (anyBelow q (wantsPort test (rows [] [] uses places transitions) v w) ≡ false)
 
 abbrev μ-loop : tie.MeasureT-loop
 μ-loop test n uses places transitions v w q₀ q = n - q

@@ -2,8 +2,8 @@ use borrow.Author.Needs.{needs}
 use Prim.Native.Nat.{ℕ, zero-le}
 use mathlib.Core.List.{List}
 use mathlib.Core.Path.{refl}
-use Rattle.forms.specs.Reader.{Reader, bytes, _or_, none}
-use Rattle.forms.specs.Read.{on}
+use Rattle.forms.specs.Reader.{Reader, bytes, _or_, noLine}
+use Rattle.forms.specs.Read.{upon}
 use Rattle.model.specs.declared.Instruction.{Instruction}
 use Rattle.model.specs.Verb.{delVerb, pushbVerb, conVerb, dconVerb, waitVerb}
 use Rattle.reading.specs.Limits.{behaviorOk}
@@ -18,19 +18,19 @@ use Rattle.sheet_lines.proofs.do_line.Tie as tie
 
 -- the line from a verb on
 abbrev fromWait : Reader Instruction
-fromWait = on (bytes "do=wait,") (doId waitVerb) or none
+fromWait = upon (bytes "do=wait,") (doId waitVerb) or noLine
 
 abbrev fromDcon : Reader Instruction
-fromDcon = on (bytes "do=dcon,") (doEnds dconVerb) or fromWait
+fromDcon = upon (bytes "do=dcon,") (doEnds dconVerb) or fromWait
 
 abbrev fromCon : Reader Instruction
-fromCon = on (bytes "do=con,") (doEnds conVerb) or fromDcon
+fromCon = upon (bytes "do=con,") (doEnds conVerb) or fromDcon
 
 abbrev fromPushb : Reader Instruction
-fromPushb = on (bytes "do=pushb,") (doNumber pushbVerb behaviorOk) or fromCon
+fromPushb = upon (bytes "do=pushb,") (doNumber pushbVerb behaviorOk) or fromCon
 
 abbrev fromDel : Reader Instruction
-fromDel = on (bytes "do=del,") (doId delVerb) or fromPushb
+fromDel = upon (bytes "do=del,") (doId delVerb) or fromPushb
 
 -- the other verbs have not been there: what is read of the rest is read of the line
 abbrev Onward : List ℕ → ℕ → Reader Instruction → Type 0
@@ -71,7 +71,7 @@ not-dcon c o h = not-con (c .before .before .before .before) o (verb-other _ _ _
 returns-6 : tie.Need-returns-6
 returns-6 c = not-dcon (c .before .before .before .before .before .before) _ (verb-here _ _ _ (told dueSays _ (c .before .before .before .before .past-key6 .ensures) (c .before .before .i6 .given .1)) (c .do-id2 .ensures))
 
-not-wait : (c : tie.After-enum-told6) → Onward (c .before .before .before .before .before .before .before .before .before .before .before .before .before .before .before .before .before .before .before .before .before .before .before .before .before .args .s .now) (c .before .before .before .before .before .before .before .before .before .before .before .before .before .before .before .before .before .before .before .before .before .before .before .before .before .args .types) none
+not-wait : (c : tie.After-enum-told6) → Onward (c .before .before .before .before .before .before .before .before .before .before .before .before .before .before .before .before .before .before .before .before .before .before .before .before .before .args .s .now) (c .before .before .before .before .before .before .before .before .before .before .before .before .before .before .before .before .before .before .before .before .before .before .before .before .before .args .types) noLine
 not-wait c o h = not-dcon (c .before .before .before .before) o (verb-other _ _ _ (told dueSays _ (c .before .before .past-key6 .ensures) (c .enum-told6 .given .1)) h)
 
 returns-7 : tie.Need-returns-7

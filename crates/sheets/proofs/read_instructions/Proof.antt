@@ -6,14 +6,14 @@ use native.Mathlib.Omega.{arith}
 use borrow.Author.Needs.{needs}
 use Rattle.reading.specs.Kinds.{doLine}
 use Rattle.reading.specs.Fill.{programOf, withInstruction}
-use Rattle.reading.specs.Texts.{instruct}
+use Rattle.reading.specs.Texts.{instructionAt}
 use Rattle.lines.proofs.Runs.{Upto, upto-start, upto-end, fill-turn, fill-stop}
 use Rattle.sheet_lines.specs.Says.{instructionSays}
 use Rattle.sheets.proofs.read_instructions.Statement.{statement}
 use Rattle.sheets.proofs.read_instructions.Tie as tie
 
 abbrev Inv-loop : tie.InvT-loop
-Inv-loop text start count types at₀ program₀ i₀ at program i = Upto (instruct types) count 0 (programOf count) text start i at program
+Inv-loop text start count types at₀ program₀ i₀ at program i = Upto (instructionAt types) count 0 (programOf count) text start i at program
 
 abbrev μ-loop : tie.MeasureT-loop
 μ-loop text start count types at₀ program₀ i₀ at program i = count - i
@@ -23,7 +23,7 @@ unfolding programOf
 loop-holds c = rw (c .no-program .ensures) (upto-start _ _ _ _ _ _ _ (c .before .place-in .ensures))
 
 returns : tie.Need-returns Inv-loop μ-loop
-unfolding instruct
+unfolding instructionAt
 returns c =
     let line = c .before .before .before in
     let here = line .before .before .before in
@@ -32,7 +32,7 @@ returns c =
     (l .inv) (line .before .before .loop-test .taken) (l .i) (sym (zero-add _)) _ (line .do-line .ensures) (c .before .enum-told .given .1) refl (c .do-refusal .ensures)
 
 loop-again : tie.Need-loop-again Inv-loop μ-loop
-unfolding instruct withInstruction
+unfolding instructionAt withInstruction
 loop-again c =
     let line = c .before .before .before in
     let here = line .before .before .before in

@@ -7,7 +7,7 @@ use borrow.Author.Needs.{needs}
 use lib.ListN.{replicate}
 use Rattle.model.specs.Empty.{noType}
 use Rattle.reading.specs.Fill.{withType}
-use Rattle.reading.specs.Texts.{type}
+use Rattle.reading.specs.Texts.{typeLines}
 use Rattle.lines.specs.declared.Went.the-variants.{On}
 use Rattle.lines.proofs.Runs.{Upto, upto-start, upto-turn, upto-stop, upto-end}
 use Rattle.sheets.specs.Filled.{filled, tablesOf}
@@ -18,7 +18,7 @@ use Rattle.sheets.proofs.read_types.Tie as tie
 abbrev Inv-loop : tie.InvT-loop
 Inv-loop text start count source₀ destination₀ behaviors₀ uses₀ places₀ transitions₀ types₀ last₀ i₀ source destination behaviors uses places transitions types last i =
     (last .went ≡ On)
-    × ((d : ℕ) → Upto type count 0 (tablesOf d count (replicate 16 noType) (filled source₀ destination₀ behaviors₀ uses₀ places₀ transitions₀)) text start i (last .at)
+    × ((d : ℕ) → Upto typeLines count 0 (tablesOf d count (replicate 16 noType) (filled source₀ destination₀ behaviors₀ uses₀ places₀ transitions₀)) text start i (last .at)
     (tablesOf d count types (filled source destination behaviors uses places transitions)))
 
 abbrev μ-loop : tie.MeasureT-loop

@@ -4,14 +4,14 @@ use native.Mathlib.Omega.{arith}
 use lib.ListN.{length, drop}
 use Rattle.forms.specs.Read.{membersFrom}
 use Rattle.texts.specs.Says.{most}
-use Rattle.texts.specs.Turn.{Small, members, turnReply}
+use Rattle.texts.specs.Turn.{Small, membersOn, turnReply}
 use Rattle.texts.proofs.Laws.{from, list-over}
 use borrow.Author.Needs.{needs}
 use Rattle.texts.proofs.members_then.Statement.{statement}
 use Rattle.texts.proofs.members_then.Tie as tie
 
 abbrev Inv-loop : tie.InvT-loop
-Inv-loop s at end digits i₀ f₀ i f = Small (f .count) (f .value) × (members (most digits) end f (drop i s) ≡ membersFrom (most digits) end 0 0 0 0 (drop at s))
+Inv-loop s at end digits i₀ f₀ i f = Small (f .count) (f .value) × (membersOn (most digits) end f (drop i s) ≡ membersFrom (most digits) end 0 0 0 0 (drop at s))
 
 abbrev μ-loop : tie.MeasureT-loop
 μ-loop s at end digits i₀ f₀ i f = length s - i
@@ -26,7 +26,7 @@ turned : (c : tie.After-list-byte Inv-loop μ-loop) →
 turned c =
     let l = c .before .before .before .loop in
     let a = c .before .before .before .before .before .args in
-    c .list-byte .ensures .same _ ∙ sym (ap (members (most (a .digits)) (a .end) (l .f)) (from (a .s .now) (l .i) (search needs))) ∙ l .inv .1
+    c .list-byte .ensures .same _ ∙ sym (ap (membersOn (most (a .digits)) (a .end) (l .f)) (from (a .s .now) (l .i) (search needs))) ∙ l .inv .1
 
 loop-again : tie.Need-loop-again Inv-loop μ-loop
 loop-again c = (rw (c .before .turn .given .1) at (c .before .before .before .list-byte .ensures .small), ap (turnReply _ _ _) (sym (c .before .turn .given .1)) ∙ turned (c .before .before .before))

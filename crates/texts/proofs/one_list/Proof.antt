@@ -1,10 +1,10 @@
-use Rattle.forms.specs.Read.{set}
+use Rattle.forms.specs.Read.{listForm}
 use borrow.Author.Needs.{needs}
 use Rattle.texts.proofs.one_list.Statement.{statement}
 use Rattle.texts.proofs.one_list.Tie as tie
 
 returns : tie.Need-returns
-unfolding set
+unfolding listForm
 returns c = c .list-then .ensures
 
 pub one-list-spec : {M : Type 1} → statement M

@@ -1,10 +1,10 @@
-use Rattle.forms.specs.Read.{one}
+use Rattle.forms.specs.Read.{oneForm}
 use borrow.Author.Needs.{needs}
 use Rattle.texts.proofs.one_number.Statement.{statement}
 use Rattle.texts.proofs.one_number.Tie as tie
 
 returns : tie.Need-returns
-unfolding one
+unfolding oneForm
 returns c = c .number-then .ensures
 
 pub one-number-spec : {M : Type 1} → statement M

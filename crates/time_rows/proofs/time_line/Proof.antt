@@ -3,7 +3,7 @@ use lib.ListN.{drop}
 use borrow.Author.Needs.{needs}
 use borrow.Author.Tests.{lt-leb, le-leb, eq-eqb, ne-eqb}
 use Rattle.forms.specs.Reader.{bytes}
-use Rattle.forms.specs.Read.{key, three}
+use Rattle.forms.specs.Read.{key, threeForm}
 use Rattle.texts.specs.Reads.{past, Reads}
 use Rattle.texts.specs.Says.{dueSays, threeSays}
 use Rattle.texts.proofs.Laws.{told}
@@ -21,7 +21,7 @@ numbers : (c : tie.After-known-told2) →
     let x = c .before .id .given .0 in
     let d = c .before .before .before .before in
     let s = d .before .before .before .before .before .before .args .s .now in
-    Reads s (past (x .0, x .1 .0, x .1 .1 .0) (x .1 .1 .1 .0)) (three 7 (drop (d .before .i .given .0 .0) s))
+    Reads s (past (x .0, x .1 .0, x .1 .1 .0) (x .1 .1 .1 .0)) (threeForm 7 (drop (d .before .i .given .0 .0) s))
 numbers c = told threeSays _ (c .before .before .before .three-numbers .ensures) (c .before .id .given .1)
 
 returns : tie.Need-returns

@@ -5,7 +5,7 @@ use mathlib.Core.Path.{sym, _≡_, _∙_}
 use lib.ListN.{getD}
 use borrow.Author.Needs.{needs}
 use Rattle.sets.proofs.Laws.{any-end, any-hit, any-more, any-start}
-use Rattle.sets.specs.Test.{any}
+use Rattle.sets.specs.Test.{anyBelow}
 use Rattle.model.proofs.View.{past-end}
 use Rattle.model.specs.Empty.{noConnection}
 use Rattle.rules.specs.Ports.{someConnection}
@@ -14,7 +14,7 @@ use Rattle.instructions.proofs.connections.some_connection.Statement.{s
 use Rattle.instructions.proofs.connections.some_connection.Tie as tie
 
 abbrev Inv-loop : tie.InvT-loop
-Inv-loop test count ks n l₀ l = (l ≤ n) × (any l (λ x. passes test (getD ks x noConnection)) ≡ false)
+Inv-loop test count ks n l₀ l = (l ≤ n) × (anyBelow l (λ x. passes test (getD ks x noConnection)) ≡ false)
 
 abbrev μ-loop : tie.MeasureT-loop
 μ-loop test count ks n l₀ l = n - l

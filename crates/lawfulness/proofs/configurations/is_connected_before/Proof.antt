@@ -1,7 +1,7 @@
 use mathlib.Core.Path.{_≡_, sym}
 use mathlib.Core.Bool.{false}
 use Prim.Native.Nat.{_≤_, _-_}
-use Rattle.sets.specs.Test.{any}
+use Rattle.sets.specs.Test.{anyBelow}
 use Rattle.sets.proofs.Laws.{any-start, any-more, any-hit, any-end}
 use Rattle.model.specs.View.{connection}
 use Rattle.rules.specs.Con.{isOf}
@@ -11,7 +11,7 @@ use Rattle.lawfulness.proofs.configurations.is_connected_before.Stateme
 use Rattle.lawfulness.proofs.configurations.is_connected_before.Tie as tie
 
 abbrev Inv-loop : tie.InvT-loop
-Inv-loop k l c m₀ m = (m ≤ l) × (any m (λ x. isOf (k .user) (k .useport) (connection c x)) ≡ false)
+Inv-loop k l c m₀ m = (m ≤ l) × (anyBelow m (λ x. isOf (k .user) (k .useport) (connection c x)) ≡ false)
 
 abbrev μ-loop : tie.MeasureT-loop
 μ-loop k l c m₀ m = l - m

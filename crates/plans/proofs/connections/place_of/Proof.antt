@@ -5,7 +5,7 @@ use native.Mathlib.Omega.{arith}
 use lib.ListN.{getD}
 use borrow.Author.Needs.{needs}
 use Rattle.sets.proofs.Laws.{any-more, any-start}
-use Rattle.sets.specs.Test.{any}
+use Rattle.sets.specs.Test.{anyBelow}
 use Rattle.model.specs.Empty.{noConnection}
 use Rattle.rules.specs.DCon.{sameConnection}
 use Rattle.plans.proofs.Places.{first-end, first-hit}
@@ -13,7 +13,7 @@ use Rattle.plans.proofs.connections.place_of.Statement.{statement}
 use Rattle.plans.proofs.connections.place_of.Tie as tie
 
 abbrev Inv-loop : tie.InvT-loop
-Inv-loop ks count k n l₀ l = (l ≤ n - 1) × (any l (λ x. sameConnection k (getD ks x noConnection)) ≡ false)
+Inv-loop ks count k n l₀ l = (l ≤ n - 1) × (anyBelow l (λ x. sameConnection k (getD ks x noConnection)) ≡ false)
 
 abbrev μ-loop : tie.MeasureT-loop
 μ-loop ks count k n l₀ l = n - l

@@ -3,7 +3,7 @@ use mathlib.Core.Bool.{false}
 use mathlib.Core.List.{[]}
 use Prim.Native.Nat.{_≤_, _-_}
 use borrow.Author.Needs.{needs}
-use Rattle.sets.specs.Test.{any}
+use Rattle.sets.specs.Test.{anyBelow}
 use Rattle.sets.proofs.Laws.{any-start, any-more, any-hit, any-end}
 use Rattle.ports.specs.Rows.{rows}
 use Rattle.ports.specs.Tests.{leaves}
@@ -11,7 +11,7 @@ use Rattle.ports.proofs.instance.some_place.Statement.{statement}
 use Rattle.ports.proofs.instance.some_place.Tie as tie
 
 abbrev Inv-loop : tie.InvT-loop
-Inv-loop test source places transitions v m p₀ p = (p ≤ 16) × (any p (leaves test (rows source [] [] places transitions) v m) ≡ false)
+Inv-loop test source places transitions v m p₀ p = (p ≤ 16) × (anyBelow p (leaves test (rows source [] [] places transitions) v m) ≡ false)
 
 abbrev μ-loop : tie.MeasureT-loop
 μ-loop test source places transitions v m p₀ p = 16 - p
