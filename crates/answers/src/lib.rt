@@ -1,6 +1,9 @@
 // An answer read whole: its two first lines, then its steps, each line from the part of the text that starts with it.
 // Promised: for every text `read_answer` answers the one number, place and answer that `answerRead` gives of it, and `fill_answer` the same with
 // the steps in three lent arrays, whatever these held before.
+use forms::BAD_FORM;
+use forms::BEYOND_LIMIT;
+use lines::LONGEST;
 use lines::Limit;
 use lines::Line;
 use lines::Went;
@@ -65,10 +68,10 @@ fn step_id(s: &[u8], at: usize, verb: u8) -> StepLine
     ensures { λ r. ⌜ Reads (now (s .entry)) (stepSays r) (stepId verb (drop at (now (s .entry)))) ⌝ }
 {
     let Number::Got(a, used) = texts::one_number(s, at, Digits::Five) else {
-        return StepLine::Refused(2);
+        return StepLine::Refused(BAD_FORM);
     };
     if 31 < a {
-        return StepLine::Refused(3);
+        return StepLine::Refused(BEYOND_LIMIT);
     }
     let id = a as u8;
     let step = Step {
@@ -84,13 +87,13 @@ fn step_number(s: &[u8], at: usize, verb: u8, greatest: u8) -> StepLine
     ensures { λ r. ⌜ Reads (now (s .entry)) (stepSays r) (stepNumber verb (runsTo greatest) (drop at (now (s .entry)))) ⌝ }
 {
     let TwoNumbers::Got(a, b, used) = texts::two_numbers(s, at, Digits::Five) else {
-        return StepLine::Refused(2);
+        return StepLine::Refused(BAD_FORM);
     };
     if 31 < a {
-        return StepLine::Refused(3);
+        return StepLine::Refused(BEYOND_LIMIT);
     }
     if texts::wide(greatest) < b {
-        return StepLine::Refused(3);
+        return StepLine::Refused(BEYOND_LIMIT);
     }
     let id = a as u8;
     let number = b as u8;
@@ -122,7 +125,7 @@ pub fn step_line(s: &[u8]) -> StepLine
     if let Due::Past(i) = texts::past_key(s, 0, b"step=finish,") {
         return step_id(s, i, FINISH);
     }
-    StepLine::Refused(2)
+    StepLine::Refused(BAD_FORM)
 }
 
 // The number of a line's refusal, 0 where the line was read.
@@ -202,7 +205,7 @@ pub fn fill_answer(
 ) -> StepsRead
     ensures { λ r. ⌜ given r (now (verbs .exit)) (now (ids .exit)) (now (numbers .exit)) ≡ answerRead (now (text .entry)) ⌝ }
 {
-    if 32768 < text.len() {
+    if LONGEST < text.len() {
         return refused_steps(1, 0, verbs, ids, numbers);
     }
     let Due::Past(at) = lines::due_at(text, 0, b"answer=", 1) else {

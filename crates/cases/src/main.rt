@@ -1,5 +1,6 @@
 // Runs each pair of texts that an argument names, NAME.sheet and NAME.answer beside it: its name, what `judge` prints, and the place of the line at fault.
 // Promised by `judging`: every byte between the name and the place, and the place. A pair is a line of pairs.py or papers.py, and make.py writes the rest.
+use judged::LENT_BYTES;
 use judged::Place;
 use libc::STDOUT_FILENO;
 ghost use Rattle.io.specs.Counts.{Counts};
@@ -29,13 +30,13 @@ fn run_case(i: usize) {
     let n = read_text(&name[..k], b".sheet", &mut sheet);
     let mut answer = [0u8; 32769];
     let m = read_text(&name[..k], b".answer", &mut answer);
-    let mut out = [0u8; 8192];
+    let mut out = [0u8; LENT_BYTES];
     let used = judging::print(&sheet[..n], &answer[..m], &mut out);
     io::write_all(STDOUT_FILENO, b"case=");
     io::write_all(STDOUT_FILENO, &name[..k]);
     io::write_all(STDOUT_FILENO, b"\n");
     io::write_all(STDOUT_FILENO, &out[..used]);
-    print_place(judging::place(&sheet[..n], &answer[..m], 8192));
+    print_place(judging::place(&sheet[..n], &answer[..m], LENT_BYTES));
 }
 
 fn main() {

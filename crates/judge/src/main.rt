@@ -1,6 +1,7 @@
 // The judge as a program: the sheet from sheet.txt in the current folder, the answer from standard input, and out goes what `judging::print` says.
 // Promised there: every byte that is printed. Shown here: no index is out of range, and the program ends.
 // Called with an argument, as bin/judge calls it, it tells on descriptor 3 that all was written, and whether the answer was read.
+use judged::LENT_BYTES;
 use libc::STDIN_FILENO;
 use libc::STDOUT_FILENO;
 
@@ -15,7 +16,7 @@ fn main() {
         os::fail(b"judge: standard input");
     }
     let m = read.size;
-    let mut out = [0u8; 8192];
+    let mut out = [0u8; LENT_BYTES];
     let used = judging::print(&sheet[..n], &answer[..m], &mut out);
     if io::write_all(STDOUT_FILENO, &out[..used]) {
         if 1 < os::arg_count() {

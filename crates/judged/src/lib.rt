@@ -1,9 +1,12 @@
-// What the judge answers, as structs, and in specs/ document 01 as one function of the two texts and the room. No code.
+// What the judge answers, as structs, and in specs/ document 01 as one function of the two texts and the room; in code, its numbers.
 // Proved: the marked cases, that 6 never occurs with a room of 8,192, that none of the four shams keeps the promise, that no other outcome fits.
 use model::Text;
 
-// "0 stands for the default, 4": `default` of specs/Course, in code.
+// "0 stands for the default, 4": `defaultDepth` of specs/Course, in code.
 pub const DEFAULT_DEPTH: u8 = 4;
+
+// "It lends 8,192 bytes": `lentBytes` of specs/Judged, in code.
+pub const LENT_BYTES: usize = 8192;
 
 // `refused` is the number or 0; `written` the bytes of the report; `text` and `line` are told for 1 to 5 alone.
 pub struct Verdict {

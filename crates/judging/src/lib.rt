@@ -2,6 +2,7 @@
 // Promised: on any bytes, every field and byte is what crates/judged/specs says, and the line at fault is that very part of its text.
 pub mod pairs;
 
+use judged::LENT_BYTES;
 use judged::Place;
 use judged::Verdict;
 use model::Text;
@@ -123,7 +124,7 @@ pub fn offending<'a>(sheet: &'a [u8], answer: &'a [u8], room: usize) -> &'a [u8]
 }
 
 // What the `judge` program prints: the report, or after 1 to 5 the three lines.
-pub fn print(sheet: &[u8], answer: &[u8], out: &mut [u8; 8192]) -> usize
+pub fn print(sheet: &[u8], answer: &[u8], out: &mut [u8; LENT_BYTES]) -> usize
     ensures prints { λ r. ⌜ Prints (now (sheet .entry)) (now (answer .entry)) (now (out .entry)) r (now (out .exit)) ⌝ }
     ensures counts { λ r. ⌜ Counts r (now (out .exit)) ⌝ }
 {

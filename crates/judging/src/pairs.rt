@@ -1,6 +1,8 @@
 // How far two texts come: both are read, and where they say something the answer is walked.
 // Promised: the course of crates/judged/specs, and what both texts say where they are read.
+use forms::TOO_LONG;
 use judged::DEFAULT_DEPTH;
+use lines::LONGEST;
 use model::Answer;
 use model::Program;
 use model::Tables;
@@ -14,9 +16,6 @@ ghost use Rattle.sheets.specs.Filled.{filled};
 ghost use Rattle.sheets.specs.Sheet.{said, sheetRead};
 ghost use Rattle.judged.specs.Course.{both, course};
 ghost use Rattle.judging.specs.Came.{came, saying, sheetSeen, answerSeen, nothingSaid, Comes};
-
-// "Each text has at most 32,768 bytes".
-const LONGEST: usize = 32768;
 
 // A text is refused with a number at a place of it, or both are read.
 pub enum Outcome {
@@ -60,10 +59,10 @@ fn outcome_of(sheet: Seen, answer: Seen) -> Outcome
     ensures { λ r. ⌜ ((s a : List ℕ) → sheet ≡ sheetSeen s → answer ≡ answerSeen a → came r (saying s a) ≡ both s a) ⌝ }
 {
     if LONGEST < sheet.size {
-        return Outcome::InSheet(1, 0);
+        return Outcome::InSheet(TOO_LONG, 0);
     }
     if LONGEST < answer.size {
-        return Outcome::InAnswer(1, 0);
+        return Outcome::InAnswer(TOO_LONG, 0);
     }
     if sheet.refused != 0 {
         return Outcome::InSheet(sheet.refused, sheet.place);

@@ -1,5 +1,8 @@
 // Runs of lines: the lines that occur many times, each read from the part of the text that starts with it, and the place of a fault.
 // Promised: each answers what its definition in crate reading says of the text from there on: value, next place and refusal number.
+use forms::BAD_FORM;
+use forms::BEYOND_LIMIT;
+use forms::BYTES_AFTER;
 use texts::Digits;
 use texts::Due;
 use texts::Number;
@@ -88,13 +91,13 @@ fn within_line(s: &[u8], key: &[u8], digits: Digits, least: u32, greatest: u32) 
     ensures { λ r. ⌜ CountsIn (now (s .entry)) least greatest r (countLineIn (most digits) (now (key .entry)) (inRange least greatest) (now (s .entry))) ⌝ }
 {
     let Number::Got(a, used) = texts::number_line(s, key, digits) else {
-        return Line::Refused(2);
+        return Line::Refused(BAD_FORM);
     };
     if a < least {
-        return Line::Refused(3);
+        return Line::Refused(BEYOND_LIMIT);
     }
     if greatest < a {
-        return Line::Refused(3);
+        return Line::Refused(BEYOND_LIMIT);
     }
     Line::Got(a, used)
 }
@@ -160,7 +163,7 @@ pub fn at_end(text: &[u8], at: usize) -> Went
     ensures { λ r. ⌜ run r tt (drop at (now (text .entry))) ≡ atEnd (drop at (now (text .entry))) ⌝ }
 {
     if at < text.len() {
-        return Went::Stop(5);
+        return Went::Stop(BYTES_AFTER);
     }
     Went::On
 }

@@ -1,5 +1,8 @@
 // The kinds of lines that only a sheet has, each read from the part of the text that starts with it, and held to its limits.
 // Promised: each answers what its definition in crate reading replies to that part: the values and the bytes used, or 01's number.
+use forms::BAD_CLAUSE;
+use forms::BAD_FORM;
+use forms::BEYOND_LIMIT;
 use lines::Line;
 use model::ComponentType;
 use model::Instruction;
@@ -52,14 +55,14 @@ pub fn initial_line(s: &[u8], places: u8) -> Line
     ensures { λ r. ⌜ Reads (now (s .entry)) (lineSays r) (initialLine places (now (s .entry))) ⌝ }
 {
     let OneList::Got(mask, top, used) = texts::list_line(s, b"initial=", Digits::Five) else {
-        return Line::Refused(2);
+        return Line::Refused(BAD_FORM);
     };
     let most = texts::wide(places);
     if most < top {
-        return Line::Refused(3);
+        return Line::Refused(BEYOND_LIMIT);
     }
     if top == 0 {
-        return Line::Refused(4);
+        return Line::Refused(BAD_CLAUSE);
     }
     Line::Got(mask, used)
 }
@@ -69,17 +72,17 @@ fn tran_line(s: &[u8], known: ComponentType) -> RowLine
     ensures { λ r. ⌜ Reads (now (s .entry)) (rowSays r) (rowLine Transitions known (now (s .entry))) ⌝ }
 {
     let TwoNumbers::Got(a, b, used) = texts::two_numbers_line(s, b"tran=", Digits::Five) else {
-        return RowLine::Refused(2);
+        return RowLine::Refused(BAD_FORM);
     };
     let below = texts::wide(known.places);
     if below <= a {
-        return RowLine::Refused(3);
+        return RowLine::Refused(BEYOND_LIMIT);
     }
     if below <= b {
-        return RowLine::Refused(3);
+        return RowLine::Refused(BEYOND_LIMIT);
     }
     if a == b {
-        return RowLine::Refused(4);
+        return RowLine::Refused(BAD_CLAUSE);
     }
     let source = a as u8;
     let destination = b as u8;
@@ -98,11 +101,11 @@ fn behavior_line(s: &[u8], known: ComponentType) -> RowLine
     ensures { λ r. ⌜ Reads (now (s .entry)) (rowSays r) (rowLine Behaviors known (now (s .entry))) ⌝ }
 {
     let OneList::Got(mask, top, used) = texts::list_line(s, b"behavior=", Digits::Five) else {
-        return RowLine::Refused(2);
+        return RowLine::Refused(BAD_FORM);
     };
     let count = texts::wide(known.transitions);
     if count < top {
-        return RowLine::Refused(3);
+        return RowLine::Refused(BEYOND_LIMIT);
     }
     let row = Row {
         source: 0,
@@ -120,18 +123,18 @@ fn port_after(s: &[u8], at: usize, uses: u8, known: ComponentType, initial: u32)
 {
     let TwoLists::Got(places, m, transitions, n, used) = texts::two_lists(s, at, Digits::Five)
     else {
-        return RowLine::Refused(2);
+        return RowLine::Refused(BAD_FORM);
     };
     let most_places = texts::wide(known.places);
     let most_transitions = texts::wide(known.transitions);
     if most_places < m {
-        return RowLine::Refused(3);
+        return RowLine::Refused(BEYOND_LIMIT);
     }
     if most_transitions < n {
-        return RowLine::Refused(3);
+        return RowLine::Refused(BEYOND_LIMIT);
     }
     if sets::overlaps(initial, places) {
-        return RowLine::Refused(4);
+        return RowLine::Refused(BAD_CLAUSE);
     }
     let row = Row {
         source: 0,
@@ -153,7 +156,7 @@ fn port_line(s: &[u8], known: ComponentType) -> RowLine
     if let Due::Past(i) = texts::past_key(s, 0, b"port=provide,") {
         return port_after(s, i, 0, known, 0);
     }
-    RowLine::Refused(2)
+    RowLine::Refused(BAD_FORM)
 }
 
 // The line of a row, in a type of which so much is known.
@@ -172,10 +175,10 @@ fn do_id(s: &[u8], at: usize, verb: u8) -> Do
     ensures { λ r. ⌜ Reads (now (s .entry)) (instructionSays r) (doId verb (drop at (now (s .entry)))) ⌝ }
 {
     let Number::Got(a, used) = texts::one_number(s, at, Digits::Five) else {
-        return Do::Refused(2);
+        return Do::Refused(BAD_FORM);
     };
     if 31 < a {
-        return Do::Refused(3);
+        return Do::Refused(BEYOND_LIMIT);
     }
     let id = a as u8;
     let instruction = Instruction {
@@ -193,14 +196,14 @@ fn do_number(s: &[u8], at: usize, verb: u8, below: u8) -> Do
     ensures { λ r. ⌜ Reads (now (s .entry)) (instructionSays r) (doNumber verb (typeOk below) (drop at (now (s .entry)))) ⌝ }
 {
     let TwoNumbers::Got(a, b, used) = texts::two_numbers(s, at, Digits::Five) else {
-        return Do::Refused(2);
+        return Do::Refused(BAD_FORM);
     };
     let count = texts::wide(below);
     if 31 < a {
-        return Do::Refused(3);
+        return Do::Refused(BEYOND_LIMIT);
     }
     if count <= b {
-        return Do::Refused(3);
+        return Do::Refused(BEYOND_LIMIT);
     }
     let id = a as u8;
     let number = b as u8;
@@ -219,19 +222,19 @@ fn do_ends(s: &[u8], at: usize, verb: u8) -> Do
     ensures { λ r. ⌜ Reads (now (s .entry)) (instructionSays r) (doEnds verb (drop at (now (s .entry)))) ⌝ }
 {
     let FourNumbers::Got(a, b, c, d, used) = texts::four_numbers(s, at, Digits::Five) else {
-        return Do::Refused(2);
+        return Do::Refused(BAD_FORM);
     };
     if 31 < a {
-        return Do::Refused(3);
+        return Do::Refused(BEYOND_LIMIT);
     }
     if 15 < b {
-        return Do::Refused(3);
+        return Do::Refused(BEYOND_LIMIT);
     }
     if 31 < c {
-        return Do::Refused(3);
+        return Do::Refused(BEYOND_LIMIT);
     }
     if 15 < d {
-        return Do::Refused(3);
+        return Do::Refused(BEYOND_LIMIT);
     }
     let id = a as u8;
     let number = b as u8;
@@ -269,7 +272,7 @@ pub fn do_line(s: &[u8], types: u8) -> Do
     if let Due::Past(i) = texts::past_key(s, 0, b"do=wait,") {
         return do_id(s, i, 5);
     }
-    Do::Refused(2)
+    Do::Refused(BAD_FORM)
 }
 
 // The number of a line's refusal, 0 where the line was read.

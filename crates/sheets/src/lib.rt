@@ -1,6 +1,8 @@
 // A sheet read whole: its types with their rows, then its program, each line from the part of the text that starts with it.
 // Promised: for every text `read_sheet` answers the one number, place, tables and program that `sheetRead` gives of it, and `fill_sheet`
 // the same with the rows in arrays that the caller lends, whatever they held before.
+use forms::TOO_LONG;
+use lines::LONGEST;
 use lines::Limit;
 use lines::Line;
 use lines::Went;
@@ -563,8 +565,8 @@ fn read_lines(
     requires { ⌜ lent source destination behaviors uses places transitions ≡ noRows ⌝ }
     ensures { λ r. ⌜ said r (beside (r .refused) (lent (source .exit) (destination .exit) (behaviors .exit) (uses .exit) (places .exit) (transitions .exit))) ≡ sheetRead (now (text .entry)) ⌝ }
 {
-    if 32768 < text.len() {
-        let long = Went::Stop(1);
+    if LONGEST < text.len() {
+        let long = Went::Stop(TOO_LONG);
         return refused_lines(long, 0);
     }
     let head = sheet_head(text);

@@ -1,4 +1,5 @@
 // A candidate's block, put together in a lent buffer so that it is one write: each function writes at a position and answers the position after.
+use judged::LENT_BYTES;
 use judged::Place;
 use judged::Verdict;
 use libc::STDERR_FILENO;
@@ -78,7 +79,7 @@ fn write_offending(
 
 // One walk gives the report, the verdict and the place.
 fn write_judgement(block: &mut [u8], at: usize, sheet: &[u8], answer: &[u8]) -> usize {
-    let mut report = [0u8; 8192];
+    let mut report = [0u8; LENT_BYTES];
     let judged = judging::judge_and_place(sheet, answer, &mut report);
     let verdict = judged.verdict;
     let place = judged.place;

@@ -1,5 +1,8 @@
 // A text of times read whole: its three first lines, then its rows, each from the part of the text that starts with it, into two lent arrays.
 // Promised: for every text `read_times` answers the one number, place and times that `timesRead` gives of it.
+use forms::BAD_CLAUSE;
+use forms::BAD_FORM;
+use forms::BEYOND_LIMIT;
 use lines::LONGEST;
 use lines::Line;
 use lines::Went;
@@ -42,24 +45,24 @@ fn time_line(s: &[u8], listed: &mut [u8; 1024], seconds: &mut [u32; 1024]) -> Ti
         (time j (filled par (now (listed .entry)) (now (seconds .entry))) (now (s .entry)))) ⌝ }
 {
     let Due::Past(i) = texts::past_key(s, 0, b"time=") else {
-        return TimeLine::Refused(2);
+        return TimeLine::Refused(BAD_FORM);
     };
     let ThreeNumbers::Got(id, transition, n, used) = texts::three_numbers(s, i, Digits::Seven)
     else {
-        return TimeLine::Refused(2);
+        return TimeLine::Refused(BAD_FORM);
     };
     if 31 < id {
-        return TimeLine::Refused(3);
+        return TimeLine::Refused(BEYOND_LIMIT);
     }
     if 31 < transition {
-        return TimeLine::Refused(3);
+        return TimeLine::Refused(BEYOND_LIMIT);
     }
     if 86400 < n {
-        return TimeLine::Refused(3);
+        return TimeLine::Refused(BEYOND_LIMIT);
     }
     let slot = (id * 32 + transition) as usize;
     if listed[slot] == 1 {
-        return TimeLine::Refused(4);
+        return TimeLine::Refused(BAD_CLAUSE);
     }
     listed[slot] = 1;
     seconds[slot] = n;

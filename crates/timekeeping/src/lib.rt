@@ -2,6 +2,7 @@
 // Promised: on any bytes, every field and byte is what crates/timed/specs says, and the line at fault is that very part of its text.
 use clocks::TimedWalk;
 use judged::DEFAULT_DEPTH;
+use judged::LENT_BYTES;
 use judged::Place;
 use judged::Verdict;
 use judging::pairs::Outcome;
@@ -220,7 +221,7 @@ pub fn timed_offending<'a>(
 }
 
 // What the `timing` program prints: the report with its mark, or after 1 to 5 and 40 to 42 the three lines.
-pub fn timed_print(sheet: &[u8], answer: &[u8], times: &[u8], out: &mut [u8; 8192]) -> usize
+pub fn timed_print(sheet: &[u8], answer: &[u8], times: &[u8], out: &mut [u8; LENT_BYTES]) -> usize
     ensures print { λ r. ⌜ PromisedPrint (now (sheet .entry)) (now (answer .entry)) (now (times .entry)) (now (out .entry)) r (now (out .exit)) ⌝ }
     ensures counts { λ r. ⌜ Counts r (now (out .exit)) ⌝ }
 {

@@ -1,6 +1,7 @@
 // Timing as a program: the sheet from sheet.txt and the times from times.txt in the current folder, the answer from standard input, and out goes what
 // `timekeeping::timed_print` says. Promised there: every byte that is printed. Shown here: no index is out of range, and the program ends.
 // Called with an argument, as bin/timing calls it, it tells on descriptor 3 that all was written, and whether the answer was read.
+use judged::LENT_BYTES;
 use libc::STDIN_FILENO;
 use libc::STDOUT_FILENO;
 
@@ -17,7 +18,7 @@ fn main() {
         os::fail(b"timing: standard input");
     }
     let m = read.size;
-    let mut out = [0u8; 8192];
+    let mut out = [0u8; LENT_BYTES];
     let used = timekeeping::timed_print(&sheet[..n], &answer[..m], &times[..k], &mut out);
     if io::write_all(STDOUT_FILENO, &out[..used]) {
         if 1 < os::arg_count() {

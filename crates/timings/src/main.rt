@@ -1,5 +1,6 @@
 // Runs each triple of texts that an argument names, NAME.sheet, NAME.answer and NAME.times: its name, what `timing` prints, and the place of the line at fault.
 // Promised by `timekeeping`: every byte between the name and the place, and the place. A triple is a line of triples.py, and make.py writes the rest.
+use judged::LENT_BYTES;
 use judged::Place;
 use libc::STDOUT_FILENO;
 use model::Text;
@@ -43,10 +44,10 @@ fn run_case(i: usize) {
     let m = read_text(&name[..k], b".answer", &mut answer);
     let mut times = [0u8; 32769];
     let l = read_text(&name[..k], b".times", &mut times);
-    let mut out = [0u8; 8192];
+    let mut out = [0u8; LENT_BYTES];
     let used = timekeeping::timed_print(&sheet[..n], &answer[..m], &times[..l], &mut out);
     io::write_all(STDOUT_FILENO, &out[..used]);
-    print_place(timekeeping::timed_place(&sheet[..n], &answer[..m], &times[..l], 8192));
+    print_place(timekeeping::timed_place(&sheet[..n], &answer[..m], &times[..l], LENT_BYTES));
 }
 
 fn main() {

@@ -1,5 +1,6 @@
 // What becomes of a text at fault and of a walk: the verdict, and the place of the line at fault.
 // Promised: for any text, number, place and walk, reachable or not, every field is what crates/judged/specs says.
+use forms::BUFFER_SHORT;
 use judged::Place;
 use judged::Verdict;
 use model::Text;
@@ -41,7 +42,7 @@ pub fn no_room() -> Verdict
     ensures { λ r. ⌜ r ≡ noRoom .verdict ⌝ }
 {
     Verdict {
-        refused: 6,
+        refused: BUFFER_SHORT,
         accepted: 0,
         next: 0,
         written: 0,
