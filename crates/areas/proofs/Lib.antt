@@ -1,0 +1,2 @@
+-- The laws of areas and rows (Areas).
+pub mod Areas

@@ -1,0 +1,2 @@
+-- What the words of a lent array say (Area).
+pub mod Area
