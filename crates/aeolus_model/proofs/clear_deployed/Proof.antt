@@ -1,0 +1,10 @@
+use Rattle.aeolus_model.proofs.Puts.{configuration-none}
+use borrow.Author.Needs.{needs}
+use Rattle.aeolus_model.proofs.clear_deployed.Statement.{statement}
+use Rattle.aeolus_model.proofs.clear_deployed.Tie as tie
+
+returns : tie.Need-returns
+returns c = configuration-none
+
+pub clear-deployed-spec : {M : Type 1} → statement M
+clear-deployed-spec = tie.close (tie.spec returns)

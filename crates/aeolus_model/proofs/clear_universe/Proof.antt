@@ -1,0 +1,10 @@
+use Rattle.aeolus_model.proofs.Puts.{universe-none}
+use borrow.Author.Needs.{needs}
+use Rattle.aeolus_model.proofs.clear_universe.Statement.{statement}
+use Rattle.aeolus_model.proofs.clear_universe.Tie as tie
+
+returns : tie.Need-returns
+returns c = universe-none
+
+pub clear-universe-spec : {M : Type 1} → statement M
+clear-universe-spec = tie.close (tie.spec returns)
