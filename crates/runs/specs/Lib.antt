@@ -1,0 +1,2 @@
+-- What reading a whole text answers (Whole).
+pub mod Whole
