@@ -1,1 +1,4 @@
--- What a text that was read keeps to.
+-- Every kind of line keeps to its limits (Kept); a type while it is read leaves the others alone (Away); what a text that was read keeps to (Lawful).
+pub mod Kept
+pub mod Away
+pub mod Lawful

@@ -3,3 +3,4 @@
 pub mod Limits
 pub mod Kinds
 pub mod Texts
+pub mod Lawful

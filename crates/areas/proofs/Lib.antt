@@ -1,2 +1,3 @@
--- The laws of areas and rows (Areas).
+-- The laws of areas and rows (Areas), and that they tell their words (Told).
 pub mod Areas
+pub mod Told

@@ -8,12 +8,12 @@ use lib.ListN.{length, drop}
 use borrow.Author.Tests.{lt-leb, le-leb}
 use Rattle.forms.specs.Reader.{Reader}
 use Rattle.texts.specs.Reads.{Outcome, past, fault, refusal, Reads}
-use Rattle.reading.specs.Lines.{Run, Lines, runOn, handOn, line, each, atEnd}
+use Rattle.reading.specs.Lines.{Run, Lines, runOn, handOn, line}
 use Rattle.lines.specs.declared.Went.{Went}
 use Rattle.lines.specs.declared.Went.the-variants.{On, Stop}
 use Rattle.lines.specs.Runs.{run, refusalOf, RunsTo}
 use Rattle.lines.proofs.Lines.{part, same-rest, line-told}
-use Rattle.lines.proofs.Runs.{stopped, went-on, place-is}
+use Rattle.lines.proofs.Runs.{stopped, went-on, place-is, run-seen}
 use Rattle.runs.specs.Whole.{Whole, outcome, whole}
 
 -- ---- one line m, read at the part from `at` on, and its value put
@@ -44,3 +44,7 @@ module _ {A : Type 0} (none : A) (m : Lines A) (s : List ℕ) (l : length s ≤ 
   pub whole-read : {w : Went} {a : A} → RunsTo s w at a (m s) → w ≡ On → record { refused = 0; place = at; value = a } ≡ whole none m s
   unfolding whole
   whole-read h e = let g = rw e at h in rw (le-leb (length s) 32768 l, whole, sym (g .same), place-is s at (g .within))
+
+-- ---- what was read so far beside the end of the text
+pub end-then : {A : Type 0} {s : List ℕ} {w : Went} {at : ℕ} {m : Run (Unit {0})} (a : A) → RunsTo s w at tt m → RunsTo s w at a (runOn m (λ _. handOn a))
+end-then {w = w} a r = run-seen (λ _. a) w r

@@ -1,0 +1,48 @@
+use borrow.Author.Tests.{lt-leb, le-leb, eq-eqb, ne-eqb}
+use Rattle.texts.specs.Says.{threeSays}
+use Rattle.texts.proofs.Laws.{told}
+use Rattle.texts.proofs.Limits.{form-fault, limit-fault, limit-kept}
+use Rattle.aeolus_reading.specs.Kinds.{endsStep}
+use borrow.Author.Needs.{needs}
+use Rattle.aeolus_answers.proofs.ends_step.Statement.{statement}
+use Rattle.aeolus_answers.proofs.ends_step.Tie as tie
+
+returns : tie.Need-returns
+unfolding endsStep
+returns c = form-fault _ _ (told threeSays _ (c .before .before .three-numbers .ensures) (c .enum-told .given .1))
+
+returns-2 : tie.Need-returns-2
+unfolding endsStep
+returns-2 c =
+    let h = told threeSays _ (c .before .before .before .before .three-numbers .ensures) (c .before .before .first .given .1) in
+    limit-fault _ _ h (rw (lt-leb _ _ (c .if1 .taken)))
+
+returns-3 : tie.Need-returns-3
+unfolding endsStep
+returns-3 c =
+    let h = told threeSays _ (c .before .before .before .before .before .three-numbers .ensures) (c .before .before .before .first .given .1) in
+    limit-fault _ _ h (rw (le-leb _ _ (c .before .if1 .left), lt-leb _ _ (c .if2 .taken)))
+
+returns-4 : tie.Need-returns-4
+unfolding endsStep
+returns-4 c =
+    let h = told threeSays _ (c .before .before .before .before .before .before .three-numbers .ensures) (c .before .before .before .before .first .given .1) in
+    limit-fault _ _ h (rw (le-leb _ _ (c .before .before .if1 .left), le-leb _ _ (c .before .if2 .left), lt-leb _ _ (c .if3 .taken)))
+
+returns-5 : tie.Need-returns-5
+unfolding endsStep
+returns-5 c =
+    let h = told threeSays _ (c .before .before .before .before .before .before .before .three-numbers .ensures) (c .before .before .before .before .before .first .given .1) in
+    limit-fault _ _ h (rw (le-leb _ _ (c .before .before .before .if1 .left), le-leb _ _ (c .before .before .if2 .left), le-leb _ _ (c .before .if3 .left), eq-eqb _ _ (c .if4 .taken)))
+
+returns-6 : tie.Need-returns-6
+unfolding endsStep
+returns-6 c =
+    let h = told threeSays _ (c .before .before .before .before .before .before .before .three-numbers .ensures) (c .before .before .before .before .before .first .given .1) in
+    limit-kept _ _ h (rw (le-leb _ _ (c .before .before .before .if1 .left), le-leb _ _ (c .before .before .if2 .left), le-leb _ _ (c .before .if3 .left), ne-eqb _ _ (c .if4 .left)))
+
+pub ends-step-spec : {M : Type 1} → statement M
+ends-step-spec =
+    tie.close
+    (tie.spec
+    (λ c κs. search needs) (λ c. search needs) (λ c. search needs) returns returns-2 returns-3 returns-4 returns-5 returns-6)
