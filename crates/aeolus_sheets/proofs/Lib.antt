@@ -1,0 +1,2 @@
+-- That no other outcome fits (Once).
+pub mod Once
