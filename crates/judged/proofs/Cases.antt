@@ -5,7 +5,7 @@ use mathlib.Core.List.{List}
 use mathlib.Core.Path.{_≡_, refl}
 use lib.ListN.{getD}
 use Rattle.sets.specs.Mask.{member, collect}
-use Rattle.sets.specs.Test.{allBelow, anyBelow}
+use Rattle.sets.specs.Test.{allBelow, anyBelow, tally}
 use Rattle.model.specs.Empty.{noTables, noProgram, noAnswer, start}
 use Rattle.model.specs.View.{listOf, queueOf, put, withQueue, withConnections, withDone}
 use Rattle.forms.specs.Read.{key, digit, numberFrom, membersFrom, list, oneForm, twoForm, fourForm, listForm, listsForm}
@@ -32,7 +32,7 @@ use Rattle.rules.specs.Step.{actionAt, action, stepCheck, stepTo, step}
 use Rattle.rules.specs.Wait.{waitCheck}
 use Rattle.rules.specs.Walk.{oneMore, walk, walkAnswer}
 use Rattle.report.specs.Faults.{textText, faultText}
-use Rattle.report.specs.Report.{tally, countText, instanceText, connectionText, instanceAt, connectionAt, instancesText, connectionsText, report}
+use Rattle.report.specs.Report.{countText, instanceText, connectionText, instanceAt, connectionAt, instancesText, connectionsText, report}
 use Rattle.judged.specs.Course.{short, read, both, course}
 use Rattle.judged.specs.Judged.{faultLine, faultPlace, afterFault, noRoom, stepPlace, afterWalk, inRoom, ending, judged, over, printing, printed}
 use Rattle.judged.specs.Cases.{P, P+, nexts, answerWith, table, AllMet}

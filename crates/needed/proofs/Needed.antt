@@ -18,7 +18,7 @@ use Rattle.model.specs.declared.Configuration.{Configuration}
 use Rattle.model.specs.declared.Stepped.{Stepped}
 use Rattle.model.specs.declared.Walked.{Walked}
 use Rattle.sets.specs.Mask.{member, collect}
-use Rattle.sets.specs.Test.{allBelow, anyBelow}
+use Rattle.sets.specs.Test.{allBelow, anyBelow, tally}
 use Rattle.model.specs.Empty.{noTables, noProgram, noAnswer, start}
 use Rattle.model.specs.View.{listOf, queueOf, put, withQueue, withConnections, withDone}
 use Rattle.forms.specs.Reader.{byte}
@@ -42,7 +42,7 @@ use Rattle.rules.specs.PushB.{pushbCheck, pushed}
 use Rattle.rules.specs.Step.{actionAt, action, numberBy, stepCheck, stepTo, step}
 use Rattle.rules.specs.Wait.{waitCheck}
 use Rattle.rules.specs.Walk.{oneMore, walkBy, walk, walkAnswer}
-use Rattle.report.specs.Report.{tally, countText, instanceText, instanceAt, connectionAt, instancesText, connectionsText, report}
+use Rattle.report.specs.Report.{countText, instanceText, instanceAt, connectionAt, instancesText, connectionsText, report}
 use Rattle.judged.specs.Cases.{nexts}
 use Rattle.judged.specs.Course.{short, read, both, course}
 use Rattle.judged.specs.Judged.{afterWalk, inRoom, ending, judged, printing, printed}

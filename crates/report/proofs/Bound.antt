@@ -9,6 +9,7 @@ use native.Mathlib.Omega.{arith}
 use lib.Dec.{eqb}
 use lib.ListN.{length, length-append}
 use borrow.Author.Tests.{eq-eqb, ne-eqb}
+use Rattle.sets.specs.Test.{tally}
 use Rattle.forms.specs.Reader.{bytes}
 use Rattle.forms.specs.Write.{numberText, oneText, twoText, threeText, fourText}
 use Rattle.forms.proofs.Tests.{by-test}
@@ -22,7 +23,7 @@ use Rattle.reading.specs.Lawful.{Lawful}
 use Rattle.rules.specs.Proper.{Joins, Proper}
 use Rattle.rules.proofs.Allowed.{present-in}
 use Rattle.rules.proofs.Tables.{Facts, facts}
-use Rattle.report.specs.Report.{tally, countText, instanceText, connectionText, instanceAt, connectionAt, instancesText, connectionsText, report}
+use Rattle.report.specs.Report.{countText, instanceText, connectionText, instanceAt, connectionAt, instancesText, connectionsText, report}
 use Rattle.report.proofs.Sums.{length-inTurn, sum-le, sums, length-inTurns, sums-add, sums-none, sums-spike}
 use Rattle.report.proofs.Widths.{number-le, places-le, apart-le, queue-le}
 

@@ -1,8 +1,9 @@
 -- The report, line by line, as bytes.
-use Prim.Native.Nat.{ℕ, zero, suc, _+_}
+use Prim.Native.Nat.{ℕ, zero, suc}
 use mathlib.Core.List.{List, [], _++_}
-use mathlib.Core.Bool.{Bool, true, false, _&&_}
+use mathlib.Core.Bool.{true, false, _&&_}
 use lib.Dec.{eqb}
+use Rattle.sets.specs.Test.{tally}
 use Rattle.forms.specs.Reader.{bytes}
 use Rattle.forms.specs.Write.{onlyIf, numberText, listText, maskText, inTurn, oneText, fourText}
 use Rattle.model.specs.declared.Instance.{Instance}
@@ -10,11 +11,6 @@ use Rattle.model.specs.declared.Connection.{Connection}
 use Rattle.model.specs.declared.Configuration.{Configuration}
 use Rattle.model.specs.declared.Walked.{Walked}
 use Rattle.model.specs.View.{instance, connection, queueOf}
-
--- how many numbers below n pass the test
-unfoldable pub tally : ℕ → (ℕ → Bool) → ℕ
-tally zero p = 0
-tally (suc n) p = tally n p + elim (p n) [ true ↦ 1 | false ↦ 0 ]
 
 -- key=number
 unfoldable pub countText : List ℕ → ℕ → List ℕ

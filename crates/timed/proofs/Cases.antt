@@ -19,7 +19,7 @@ use Rattle.reading.specs.Lines.{each}
 use Rattle.reading.specs.Place.{upToLf, lfs, lineNumber, lineStart}
 use Rattle.reading.specs.Texts.{tranAt, behaviorAt, portAt, typeLines, instructionAt, sheet, stepAt, answer}
 use Rattle.report.specs.Faults.{textText, faultText}
-use Rattle.report.specs.Report.{tally, countText, instanceText, connectionText, instanceAt, connectionAt, instancesText, connectionsText, report}
+use Rattle.report.specs.Report.{countText, instanceText, connectionText, instanceAt, connectionAt, instancesText, connectionsText, report}
 use Rattle.rules.specs.Action.{Action, add, pushb, fire, end, instructionAction, moveAction, actionCheck, effect}
 use Rattle.rules.specs.Add.{addCheck, added}
 use Rattle.rules.specs.Closing.{down, closed, zeroed, renewed}
@@ -37,7 +37,7 @@ use Rattle.rules.specs.Step.{actionAt, action, stepCheck, stepTo, step}
 use Rattle.rules.specs.Wait.{waitCheck}
 use Rattle.rules.specs.Walk.{oneMore, walk, walkAnswer}
 use Rattle.sets.specs.Mask.{member, collect}
-use Rattle.sets.specs.Test.{allBelow, anyBelow}
+use Rattle.sets.specs.Test.{allBelow, anyBelow, tally}
 use Rattle.demands.specs.Agree.{names, deeds, naming}
 use Rattle.demands.specs.OnTexts.{sheetTables, sheetProgram, answerSteps, AllAllowed}
 use Rattle.timed.specs.Order.{OrderMayAlterTheMark}

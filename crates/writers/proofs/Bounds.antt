@@ -14,6 +14,7 @@ use mir.Val.{Val}
 use denote.Array.{each}
 use denote.Shadow.{shadow}
 use Rattle.sets.specs.Mask.{member}
+use Rattle.sets.specs.Test.{tally}
 use Rattle.forms.specs.Reader.{bytes}
 use Rattle.forms.specs.Write.{onlyIf, digitsIn, numberText, membersBelow, moreText, listText, maskText, inTurn, oneText, twoText, threeText, fourText}
 use Rattle.model.specs.declared.Instance.{Instance}
@@ -27,7 +28,7 @@ use Rattle.model.specs.View.{instance, connection, slot, queueOf}
 use Rattle.model.proofs.View.{length-list}
 use Rattle.model.proofs.Instance.{the-field, the-type}
 use Rattle.inks.proofs.Items.{digits-none, digits-last, digits-more}
-use Rattle.report.specs.Report.{tally, countText, instanceText, connectionText, instanceAt, connectionAt, instancesText, connectionsText, report}
+use Rattle.report.specs.Report.{countText, instanceText, connectionText, instanceAt, connectionAt, instancesText, connectionsText, report}
 use Rattle.report.specs.Faults.{textText, faultText}
 
 -- ---- what the types of an instance's fields say of its queue

@@ -1,4 +1,4 @@
--- The report's parts: the count of those present, the line of an instance, the lines of a user's connections by port, lines in turn.
+-- The report's parts: the line of an instance, the lines of a user's connections by port, lines in turn.
 -- Assumes nothing.
 use Prim.Native.Nat.{ℕ, zero, suc, _+_, _-_, _*_, _<_}
 use mathlib.Core.Path.{_≡_, refl, ap, ap₂, sym, _∙_}
@@ -7,7 +7,6 @@ use mathlib.Core.Bool.{Bool, true, false, _&&_, or-true, or-false, true≢false}
 use mathlib.Core.List.{List, [], _++_, append-assoc, append-nil}
 use native.Mathlib.Omega.{arith}
 use native.Mathlib.Numerals.{add-one}
-use native.Mathlib.Nat.{add-zero}
 use native.Mathlib.Decide.{ℕ-discrete, decLt}
 use borrow.Author.Tests.{eq-eqb, ne-eqb, lt-ltb, le-ltb}
 use lib.Dec.{eqb, ltb}
@@ -25,24 +24,9 @@ use Rattle.model.specs.Empty.{noConnection}
 use Rattle.model.specs.View.{instance, connection, slot, listOf, queueOf}
 use Rattle.model.proofs.View.{list-same}
 use Rattle.model.specs.declared.Walked.{Walked}
-use Rattle.report.specs.Report.{tally, instanceText, connectionText, instanceAt, connectionAt, connectionsText, report}
+use Rattle.report.specs.Report.{instanceText, connectionText, instanceAt, connectionAt, connectionsText, report}
 use Rattle.writers.specs.declared.ByPort.{ByPort}
 use Rattle.writers.specs.Lines.{noted, byPort, lineBy, userLines, usersOf, headPart, instancesPart, connectionsPart}
-
--- ---- a count
-
-pub tally-none : (p : ℕ → Bool) → tally 0 p ≡ 0
-unfolding tally
-tally-none p = refl
-
-module _ (p : ℕ → Bool) (n : ℕ) where
-  pub tally-one : p n ≡ true → tally (n + 1) p ≡ tally n p + 1
-  unfolding tally
-  tally-one h = rw (add-one n, h)
-
-  pub tally-same : p n ≡ false → tally (n + 1) p ≡ tally n p
-  unfolding tally
-  tally-same h = rw (add-one n, h) (add-zero (tally n p))
 
 -- ---- a line that may be absent
 

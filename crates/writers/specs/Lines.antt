@@ -5,6 +5,7 @@ use mathlib.Core.List.{List, _++_}
 use lib.Dec.{eqb, ltb}
 use lib.ListN.{getD, set, replicate}
 use Rattle.sets.specs.Mask.{member, with}
+use Rattle.sets.specs.Test.{tally}
 use Rattle.forms.specs.Reader.{bytes}
 use Rattle.forms.specs.Write.{onlyIf, inTurn}
 use Rattle.model.specs.declared.Connection.{Connection}
@@ -12,7 +13,7 @@ use Rattle.model.specs.declared.Configuration.{Configuration}
 use Rattle.model.specs.declared.Walked.{Walked}
 use Rattle.model.specs.Empty.{noConnection}
 use Rattle.model.specs.View.{instance}
-use Rattle.report.specs.Report.{tally, countText, connectionText, instancesText, connectionsText}
+use Rattle.report.specs.Report.{countText, connectionText, instancesText, connectionsText}
 use Rattle.writers.specs.declared.ByPort.{ByPort}
 
 -- the connection k among those of the user u, where it is one
