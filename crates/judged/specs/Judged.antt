@@ -59,11 +59,11 @@ noRoom = record {
 }
 
 -- the refused step's line is the answer's third line and on; "with no refusal, the empty end of the answer"
-unfoldable pub stepPlace : Walked → List ℕ → Place
-stepPlace w a =
-    elim (eqb (w .refused) 0) [
+unfoldable pub stepPlace : ℕ → ℕ → List ℕ → Place
+stepPlace refused accepted a =
+    elim (eqb refused 0) [
       | true ↦ emptyAt text.Answer (length a)
-      | false ↦ lineAt text.Answer (lineStart (2 + w .accepted) a) a
+      | false ↦ lineAt text.Answer (lineStart (2 + accepted) a) a
     ]
 
 -- the verdict of a walk whose report has so many bytes
@@ -75,7 +75,7 @@ unfoldable pub afterWalk : Walked → List ℕ → List ℕ → Judgement
 afterWalk w r a = record {
   verdict = walkVerdict w (length r);
   bytes = r;
-  place = stepPlace w a;
+  place = stepPlace (w .refused) (w .accepted) a;
 }
 
 -- "the room; but a report that doesn't fit gives 6 in place of the steps' number"

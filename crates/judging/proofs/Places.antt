@@ -46,14 +46,14 @@ module _ (lent : Text → List ℕ) where
   unfolding faultPlace
   fault-within x n at h = by-test (eqb n 1) (λ e. rw (e, faultPlace) zero-le) (λ e. rw (e, faultPlace) (line-few (lent x) at h))
 
-  step-within : (w : Walked) → Within (stepPlace w (lent text.Answer))
+  pub step-within : (refused accepted : ℕ) → Within (stepPlace refused accepted (lent text.Answer))
   unfolding stepPlace
-  step-within w =
-      by-test (eqb (w .refused) 0) (λ e. rw (e, stepPlace) (omega arith)) (λ e. rw (e, stepPlace) (line-few (lent text.Answer) _ (start-few (2 + w .accepted) (lent text.Answer))))
+  step-within refused accepted =
+      by-test (eqb refused 0) (λ e. rw (e, stepPlace) (omega arith)) (λ e. rw (e, stepPlace) (line-few (lent text.Answer) _ (start-few (2 + accepted) (lent text.Answer))))
 
   pub walk-within : (room : ℕ) (w : Walked) (r : List ℕ) → Within (inRoom room w r (lent text.Answer) .place)
   unfolding inRoom afterWalk noRoom
-  walk-within room w r = by-test (leb (length r) room) (λ e. rw (e, inRoom) (step-within w)) (λ e. rw (e, inRoom) zero-le)
+  walk-within room w r = by-test (leb (length r) room) (λ e. rw (e, inRoom) (step-within (w .refused) (w .accepted))) (λ e. rw (e, inRoom) zero-le)
 
 pub place-within : (s a : List ℕ) (room : ℕ) → Within (λ x. textOf x s a) (judged s a room .place)
 unfolding judged ending afterFault

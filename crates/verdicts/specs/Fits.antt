@@ -7,4 +7,4 @@ use Rattle.judged.specs.declared.Place.{Place}
 use Rattle.judged.specs.Judged.{stepPlace, noRoom}
 
 unfoldable pub placeFor : Bool → Walked → List ℕ → Place
-placeFor fits w a = elim fits [ true ↦ stepPlace w a | false ↦ noRoom .place ]
+placeFor fits w a = elim fits [ true ↦ stepPlace (w .refused) (w .accepted) a | false ↦ noRoom .place ]

@@ -105,14 +105,13 @@ fn step_start(answer: &[u8], n: usize) -> usize
 }
 
 // "for a step, its line; .. with no refusal, the empty end of the answer"
-fn step_place(w: Walked, answer: &[u8]) -> Place
-    ensures { λ r. ⌜ r ≡ stepPlace w (now (answer .entry)) ⌝ }
+pub fn step_place(refused: u8, accepted: usize, answer: &[u8]) -> Place
+    ensures { λ r. ⌜ r ≡ stepPlace refused accepted (now (answer .entry)) ⌝ }
 {
-    let refused = w.refused;
     match refused {
         0 => empty_at(Text::Answer, answer.len()),
         _ => {
-            let start = step_start(answer, w.accepted);
+            let start = step_start(answer, accepted);
             line_at(Text::Answer, start, answer)
         }
     }
@@ -123,7 +122,7 @@ pub fn walk_place(w: Walked, fits: bool, answer: &[u8]) -> Place
     ensures { λ r. ⌜ r ≡ placeFor fits w (now (answer .entry)) ⌝ }
 {
     if fits {
-        step_place(w, answer)
+        step_place(w.refused, w.accepted, answer)
     } else {
         empty_at(Text::Answer, 0)
     }
