@@ -7,7 +7,7 @@ use Prim.Native.Nat.{ℕ, zero, suc, _+_, _*_, _/_, _≤_, _<_}
 use native.Mathlib.Omega.{arith}
 use native.Mathlib.Nat.{le-step}
 use lib.Dec.{eqb}
-use lib.ListN.{length, getD, set, replicate}
+use lib.ListN.{length, getD, set, take, replicate}
 use borrow.Author.Tests.{eq-eqb, ne-eqb, eqb-true, eqb-false}
 use Rattle.sets.specs.Test.{tally}
 use Rattle.sets.specs.Mask.{member, with, without, only}
@@ -84,6 +84,13 @@ sizes-freed z i (m ∷ ms) =
     by-test (eqb (i / 16) z)
     (λ e. rw e (omega (arith, none-size 32)))
     (λ e. rw e (omega (arith, size-without m (only z))))
+
+-- row by row
+pub sizes-one : (ms : List ℕ) (i : ℕ) → i < length ms → sizes (take (suc i) ms) ≡ sizes (take i ms) + size (getD ms i 0)
+unfolding sizes
+sizes-one [] i h = absurd (omega arith)
+sizes-one (m ∷ ms) zero h = omega arith
+sizes-one (m ∷ ms) (suc i) h = omega (arith, sizes-one ms i (omega arith))
 
 -- ---- after z has gone
 
