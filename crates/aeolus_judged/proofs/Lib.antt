@@ -1,0 +1,5 @@
+-- The marked cases (Cases), how long a report is (Bound), the four shams told from the judge (Shams), no other outcome (Once).
+pub mod Cases
+pub mod Bound
+pub mod Shams
+pub mod Once
