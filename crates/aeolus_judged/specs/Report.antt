@@ -39,8 +39,8 @@ componentsText c = inTurn (componentAt c) 32
 unfoldable pub bindingsText : Universe → Configuration → List ℕ
 bindingsText u c = inTurn (λ r. inTurn (bindingsAt u c r) 32) 256
 
-unfoldable pub headPart : Ran → List ℕ
-headPart w = countText (bytes "accepted=") (w .accepted) ++ countText (bytes "refused=") (w .refused)
+unfoldable pub headPart : ℕ → ℕ → List ℕ
+headPart accepted refused = countText (bytes "accepted=") accepted ++ countText (bytes "refused=") refused
 
 unfoldable pub componentsPart : Configuration → List ℕ
 componentsPart c = countText (bytes "components=") (tally 32 (deployed c)) ++ componentsText c
@@ -50,4 +50,4 @@ bindingsPart u c = countText (bytes "bindings=") (bindings c) ++ bindingsText u 
 
 -- "`accepted=`, `refused=` (0 or the number), `components=`, .. `bindings=`, .."
 unfoldable pub report : Universe → Ran → List ℕ
-report u w = headPart w ++ componentsPart (w .configuration) ++ bindingsPart u (w .configuration)
+report u w = headPart (w .accepted) (w .refused) ++ componentsPart (w .configuration) ++ bindingsPart u (w .configuration)

@@ -1,0 +1,2 @@
+-- Two tests of a line that may be absent (Tests).
+pub mod Tests

@@ -1,0 +1,18 @@
+use mathlib.Core.Path.{sym, _∙_}
+use borrow.Author.Tests.{not-true, not-false}
+use Rattle.aeolus_judged.specs.Report.{componentText, componentAt}
+use Rattle.writers.proofs.Parts.{line-there, line-absent}
+use borrow.Author.Needs.{needs}
+use Rattle.aeolus_writers.proofs.write_component.Statement.{statement}
+use Rattle.aeolus_writers.proofs.write_component.Tie as tie
+
+returns : tie.Need-returns
+unfolding componentAt
+returns c = line-absent _ (sym (c .before .is-deployed .ensures) ∙ not-true (c .before .is-deployed .result) (c .if1 .taken))
+
+returns-2 : tie.Need-returns-2
+unfolding componentAt componentText
+returns-2 c = line-there (sym (c .before .before .before .before .before .before .before .before .is-deployed .ensures) ∙ not-false (c .before .before .before .before .before .before .before .before .is-deployed .result) (c .before .before .before .before .before .before .before .if1 .left)) (rw (c .before .before .before .before .before .before .kind-of .ensures, c .before .before .before .before .before .state-of .ensures) at (c .before .before .write-three .ensures))
+
+pub write-component-spec : {M : Type 1} → statement M
+write-component-spec = tie.close (tie.spec (λ c κs. search needs) returns (λ c κs. search needs) (λ c κs. search needs) (λ c. search needs) (λ c κs. search needs) (λ c. search needs) returns-2)
