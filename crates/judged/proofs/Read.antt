@@ -21,19 +21,19 @@ use Rattle.rules.specs.Walk.{walkAnswer}
 use Rattle.judged.specs.Course.{Course, faulty, reached, goOn, short, read, defaultDepth, both, course}
 
 -- a text is refused with 1 to 5, or what is reached has P
-data Ends {A : Type 0} (P : A → Type 0) : Course A → Type 0 where
+pub data Ends {A : Type 0} (P : A → Type 0) : Course A → Type 0 where
   faults : {x : Text} {n at : ℕ} → (1 ≤ n) × (n ≤ 5) → Ends P (faulty x n at)
   reaches : {a : A} → P a → Ends P (reached a)
 
-ends-then : {A B : Type 0} {P : A → Type 0} {Q : B → Type 0} {m : Course A} (f : A → Course B) → Ends P m → ((a : A) → P a → Ends Q (f a)) → Ends Q (goOn m f)
+pub ends-then : {A B : Type 0} {P : A → Type 0} {Q : B → Type 0} {m : Course A} (f : A → Course B) → Ends P m → ((a : A) → P a → Ends Q (f a)) → Ends Q (goOn m f)
 ends-then f (faults l) g = faults l
 ends-then f (reaches {a} p) g = g a p
 
-short-ends : (x : Text) (s : List ℕ) → Ends (λ _. Unit {0}) (short x s)
+pub short-ends : (x : Text) (s : List ℕ) → Ends (λ _. Unit {0}) (short x s)
 unfolding short
 short-ends x s = by-test (lengthOk (length s)) (λ e. rw (e, short) (reaches tt)) (λ e. rw (e, short) (faults {n = 1} (omega arith)))
 
-read-ends : {A : Type 0} (x : Text) (m : Lines A) (s : List ℕ) → ((n : ℕ) (r : List ℕ) → m s ≡ stop n r → StopsAt s n r) → Ends (λ a. (r : List ℕ) × (m s ≡ on a r)) (read x m s)
+pub read-ends : {A : Type 0} (x : Text) (m : Lines A) (s : List ℕ) → ((n : ℕ) (r : List ℕ) → m s ≡ stop n r → StopsAt s n r) → Ends (λ a. (r : List ℕ) × (m s ≡ on a r)) (read x m s)
 unfolding read
 read-ends {A} x m s h = go (m s) refl
   where

@@ -168,7 +168,7 @@ both-told s a =
     (λ f. rw (← answer-refused s a p q refl e refl f) (in-answer (at-line a _ _ q (answer-read a q refl .within)))))
     (λ e. rw (← sheet-refused s a p q refl e) (in-sheet (at-line s _ _ p (sheet-read s p refl .within))))))
 
-told-then : {A B : Type 0} {s a : List ℕ} {m : Course A} (f : A → B) → Told s a m → Told s a (goOn m (λ x. reached (f x)))
+pub told-then : {A B : Type 0} {s a : List ℕ} {m : Course A} (f : A → B) → Told s a m → Told s a (goOn m (λ x. reached (f x)))
 told-then f (in-sheet h) = in-sheet h
 told-then f (in-answer h) = in-answer h
 told-then f walks = walks
