@@ -1,10 +1,11 @@
-/* batch <CASES: judges pairs of texts, each a line `case SHEETLEN ANSWERLEN ROOM` and the bytes of the two.
-   To measure speed: cc -std=c11 -O2 -static -o batch batch.c judge.c rules.c */
+/* batch <CASES: judges pairs of texts, each a line `case SHEETLEN ANSWERLEN ROOM` and the bytes of the two, or `plan ..` of the
+   Aeolus paper. To measure speed: cc -std=c11 -O2 -static -o batch batch.c judge.c rules.c aeolus_judge.c aeolus.c */
 #include <string.h>
 
+#include "aeolus.h"
 #include "protocol.h"
 
-struct header { size_t sheet, answer, room; };
+struct header { size_t sheet, answer, room; judging *judge; };
 
 /* A decimal number without leading zero, up to `most`, and the byte after it. */
 static bool parse_number(const char **at, char after, size_t most, size_t *number)
@@ -19,7 +20,8 @@ static bool parse_number(const char **at, char after, size_t most, size_t *numbe
 static bool parse_header(const char *line, struct header *h)
 {
     const char *at = line + 5;
-    return strncmp(line, "case ", 5) == 0 && parse_number(&at, ' ', LONGEST_CASE, &h->sheet)
+    h->judge = strncmp(line, "case ", 5) == 0 ? judge : strncmp(line, "plan ", 5) == 0 ? judge_plan : NULL;
+    return h->judge != NULL && parse_number(&at, ' ', LONGEST_CASE, &h->sheet)
         && parse_number(&at, ' ', LONGEST_CASE, &h->answer) && parse_number(&at, '\n', GREATEST_ROOM, &h->room);
 }
 
@@ -28,7 +30,7 @@ static void judge_case(const struct header *h, const uint8_t *sheet, const uint8
     static uint8_t report[GREATEST_ROOM];
     char line[LONGEST_RESULT];
     struct result result;
-    judge(sheet, h->sheet, answer, h->answer, report, h->room, &result);
+    h->judge(sheet, h->sheet, answer, h->answer, report, h->room, &result);
     fwrite(line, 1, result_line(line, &result), stdout);
     fwrite(report, 1, result.length, stdout);
 }

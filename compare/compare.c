@@ -1,4 +1,4 @@
-/* compare pairs|hall COUNT FOLDER SEED.. [-- COMMAND..]: makes COUNT cases of each seed, has the command answer them through
+/* compare pairs|plans|hall COUNT FOLDER SEED.. [-- COMMAND..]: makes COUNT cases of each seed, has the command answer them through
    files in FOLDER, and compares every byte with the answers of the judge beside this file. Without a command the cases go to
    standard output. Ends with the shares of the numbers; status 1 after a difference or where a number is too rare. */
 #define _POSIX_C_SOURCE 200809L
@@ -10,12 +10,13 @@
 #include <sys/wait.h>
 #include <unistd.h>
 
+#include "aeolus.h"
 #include "generate.h"
 #include "hall.h"
 #include "ink.h"
 #include "protocol.h"
 
-enum { AT_ONCE = 2000, NUMBERS = 38, LONGEST_HALL_CASE = 64 + LENT_BYTES * 9, LONGEST_HALL_ANSWER = 64 + CONFIGURATION_BYTES * 9 };
+enum { AT_ONCE = 2000, NUMBERS = 71, LONGEST_HALL_CASE = 64 + LENT_BYTES * 9, LONGEST_HALL_ANSWER = 64 + CONFIGURATION_BYTES * 9 };
 
 struct stream { uint8_t *bytes; size_t length, size; };
 
@@ -30,7 +31,8 @@ struct job {
     const char *folder;
     char **command;
     uint64_t count, seen[NUMBERS], total;
-    bool pairs;
+    const char *kind;
+    bool texts;                       /* whether a case is two texts */
 };
 
 static void fail(const char *what)
@@ -82,21 +84,33 @@ static const char *path_of(const struct job *job, const char *name)
 
 /* ---- the cases ---- */
 
-static unsigned append_pair(uint64_t seed, uint64_t index, struct cases *cases)
+static unsigned append_texts(struct cases *cases, const struct pair *pair, const char *word, judging *judge)
 {
-    static struct pair pair;
     static uint8_t report[GREATEST_ROOM];
     char line[LONGEST_RESULT];
     struct result result;
-    generate_pair(seed, index, &pair);
-    int length = snprintf(line, sizeof line, "case %zu %zu %zu\n", pair.sheet.length, pair.answer.length, pair.room);
+    int length = snprintf(line, sizeof line, "%s %zu %zu %zu\n", word, pair->sheet.length, pair->answer.length, pair->room);
     append_bytes(&cases->input, line, (size_t)length);
-    append_bytes(&cases->input, pair.sheet.bytes, pair.sheet.length);
-    append_bytes(&cases->input, pair.answer.bytes, pair.answer.length);
-    judge(pair.sheet.bytes, pair.sheet.length, pair.answer.bytes, pair.answer.length, report, pair.room, &result);
+    append_bytes(&cases->input, pair->sheet.bytes, pair->sheet.length);
+    append_bytes(&cases->input, pair->answer.bytes, pair->answer.length);
+    judge(pair->sheet.bytes, pair->sheet.length, pair->answer.bytes, pair->answer.length, report, pair->room, &result);
     append_bytes(&cases->expected, line, result_line(line, &result));
     append_bytes(&cases->expected, report, result.length);
     return result.refused;
+}
+
+static unsigned append_pair(uint64_t seed, uint64_t index, struct cases *cases)
+{
+    static struct pair pair;
+    generate_pair(seed, index, &pair);
+    return append_texts(cases, &pair, "case", judge);
+}
+
+static unsigned append_plan(uint64_t seed, uint64_t index, struct cases *cases)
+{
+    static struct pair pair;
+    generate_plan(seed, index, &pair);
+    return append_texts(cases, &pair, "plan", judge_plan);
 }
 
 /* The name of a hall's case is its index. */
@@ -179,7 +193,7 @@ static size_t answer_end(const struct job *job, const struct stream *s, size_t s
     while (end < s->length && s->bytes[end] != '\n') end++;
     size_t digits = end;
     while (digits > start && s->bytes[digits - 1] >= '0' && s->bytes[digits - 1] <= '9') digits--;
-    size_t more = job->pairs && end < s->length ? (size_t)strtoul((const char *)s->bytes + digits, NULL, 10) : 0;
+    size_t more = job->texts && end < s->length ? (size_t)strtoul((const char *)s->bytes + digits, NULL, 10) : 0;
     end += end < s->length;
     return s->length - end < more ? s->length : end + more;
 }
@@ -195,7 +209,7 @@ static void keep_case(const struct job *job, const struct cases *cases, unsigned
     const uint8_t *bytes = cases->input.bytes + cases->input_at[k];
     size_t length = cases->input_at[k + 1] - cases->input_at[k];
     write_file(path_of(job, "differs.case"), bytes, length);
-    if (!job->pairs) return;
+    if (!job->texts) return;
     const uint8_t *sheet = (const uint8_t *)memchr(bytes, '\n', length) + 1;
     size_t sheetlen = strtoul((const char *)bytes + 5, NULL, 10);
     write_file(path_of(job, "differs.sheet"), sheet, sheetlen);
@@ -238,18 +252,19 @@ static bool compare_seed(struct job *job, uint64_t seed)
     return true;
 }
 
-/* The numbers that must occur: all of the table but 7, and in the hall those of 7 and the steps. */
+/* The numbers that must occur: of two texts 1 to 6, in the hall 7; then the steps', or the actions'. */
 static bool due(const struct job *job, unsigned number)
 {
-    if (number >= 1 && number <= 7) return job->pairs == (number < 7);
-    return number == 0 || (number >= 10 && number <= 18) || (number >= 20 && number <= 22) || number >= 30;
+    if (number >= 1 && number <= 7) return job->texts == (number < 7);
+    if (job->append == append_plan) return number == 0 || number >= 60;
+    return number == 0 || (number >= 10 && number <= 18) || (number >= 20 && number <= 22) || (number >= 30 && number <= 37);
 }
 
 /* Prints the shares; whether each number that must occur has half a percent. */
 static bool shares(const struct job *job)
 {
     bool enough = true;
-    fprintf(stderr, "%" PRIu64 " cases of %s\n", job->total, job->pairs ? "pairs" : "the hall");
+    fprintf(stderr, "%" PRIu64 " cases of %s\n", job->total, job->kind);
     for (unsigned number = 0; number < NUMBERS; number++) {
         if (!due(job, number)) continue;
         bool rare = job->seen[number] * 200 < job->total;
@@ -265,12 +280,12 @@ int main(int argc, char **argv)
     int seeds = 4;
     while (seeds < argc && strcmp(argv[seeds], "--") != 0) seeds++;
     if (seeds <= 4) {
-        fputs("usage: compare pairs|hall COUNT FOLDER SEED.. [-- COMMAND..]\n", stderr);
+        fputs("usage: compare pairs|plans|hall COUNT FOLDER SEED.. [-- COMMAND..]\n", stderr);
         return 2;
     }
-    bool pairs = strcmp(argv[1], "pairs") == 0, same = true;
-    struct job job = { .append = pairs ? append_pair : append_hall, .folder = argv[3], .pairs = pairs,
-                       .command = seeds + 1 < argc ? argv + seeds + 1 : NULL, .count = strtoull(argv[2], NULL, 10) };
+    bool hall = strcmp(argv[1], "hall") == 0, same = true;
+    struct job job = { .append = hall ? append_hall : strcmp(argv[1], "plans") == 0 ? append_plan : append_pair,
+                       .folder = argv[3], .kind = argv[1], .texts = !hall, .command = seeds + 1 < argc ? argv + seeds + 1 : NULL, .count = strtoull(argv[2], NULL, 10) };
     for (int k = 4; k < seeds && same; k++) same = compare_seed(&job, strtoull(argv[k], NULL, 10));
     if (!shares(&job) || !same) return 1;
     if (job.command != NULL) printf("%" PRIu64 " cases, no difference\n", job.total);

@@ -234,10 +234,7 @@ void damage_form(struct random *r, struct draft *text)
 
 /* ---- numbers at and past the limits ---- */
 
-/* The start of a line, and numbers at its limits or just past them. */
-struct edge { const char *key; unsigned count; unsigned numbers[6]; };
-
-static const struct edge edges[] = {
+static const struct edge rows[] = {
     { "depth=", 3, { 8, 9, 10 } }, { "types=", 3, { 0, 16, 17 } }, { "type=", 3, { 0, 1, 16 } }, { "places=", 3, { 0, 16, 17 } },
     { "initial=", 4, { 0, 15, 16, 32 } }, { "transitions=", 3, { 0, 32, 33 } }, { "tran=", 5, { 0, 1, 2, 15, 16 } },
     { "behaviors=", 3, { 0, 8, 9 } }, { "behavior=", 5, { 0, 1, 2, 31, 32 } }, { "ports=", 3, { 0, 16, 17 } },
@@ -247,7 +244,7 @@ static const struct edge edges[] = {
     { "steps=", 4, { 0, 1, 1024, 1025 } }, { "step=fire", 3, { 16, 31, 32 } }, { "step=end", 3, { 16, 31, 32 } },
     { "step=enter", 3, { 16, 31, 32 } }, { "step=finish", 3, { 0, 31, 32 } }, { "sheet=", 2, { 0, 2 } }, { "answer=", 2, { 0, 2 } },
 };
-enum { EDGES = sizeof edges / sizeof edges[0] };
+const struct edges sheet_edges = { rows, sizeof rows / sizeof rows[0] };
 
 /* A random line that starts with the key; empty at the text's end where there is none. */
 static struct span draw_line_of(struct random *r, const struct draft *text, const char *key)
@@ -279,11 +276,11 @@ static void any_number(struct random *r, struct draft *text)
 }
 
 /* A line of a random key gets a number of its edge, and sometimes a fault of form behind it. */
-static void edge_number(struct random *r, struct draft *text)
+static void edge_number(struct random *r, struct draft *text, const struct edges *edges)
 {
     static const char *const words[] = { "x", ",0", " ", "\r", "+", ",", "+0" };
     for (unsigned tries = 0; tries < 10; tries++) {
-        const struct edge *edge = &edges[pick(r, EDGES)];
+        const struct edge *edge = &edges->row[pick(r, edges->count)];
         struct span line = draw_line_of(r, text, edge->key);
         if (line.length == 0) continue;
         struct span number = draw_number_in(r, text, line);
@@ -295,11 +292,11 @@ static void edge_number(struct random *r, struct draft *text)
     }
 }
 
-void damage_number(struct random *r, struct draft *text)
+void damage_number(struct random *r, struct draft *text, const struct edges *edges)
 {
-    if (chance(r, 75)) edge_number(r, text);
+    if (chance(r, 75)) edge_number(r, text, edges);
     else any_number(r, text);
-    if (chance(r, 8)) damage_number(r, text);
+    if (chance(r, 8)) damage_number(r, text, edges);
 }
 
 /* ---- bytes after the last line due ---- */

@@ -4,8 +4,15 @@
 
 #include "generate.h"
 
+/* The start of a line, and numbers at its limits or just past them. */
+struct edge { const char *key; unsigned count; unsigned numbers[6]; };
+struct edges { const struct edge *row; unsigned count; };
+
+/* Those of the first paper's two texts. */
+extern const struct edges sheet_edges;
+
 void damage_form(struct random *r, struct draft *text);
-void damage_number(struct random *r, struct draft *text);
+void damage_number(struct random *r, struct draft *text, const struct edges *edges);
 void damage_end(struct random *r, struct draft *text);
 void damage_length(struct random *r, struct draft *text);
 

@@ -169,13 +169,13 @@ static void make_faulty(struct paper *paper, struct pair *pair, unsigned number)
     write_texts(paper, pair);
     struct draft *text = chance(r, 60) ? &pair->sheet : &pair->answer;
     if (number == 2) damage_form(r, text);
-    if (number == 3) damage_number(r, text);
+    if (number == 3) damage_number(r, text, &sheet_edges);
     if (number == 5) damage_end(r, text);
     if (chance(r, 5)) damage_form(r, chance(r, 50) ? &pair->sheet : &pair->answer);
-    if (chance(r, 5)) damage_number(r, chance(r, 50) ? &pair->sheet : &pair->answer);
+    if (chance(r, 5)) damage_number(r, chance(r, 50) ? &pair->sheet : &pair->answer, &sheet_edges);
 }
 
-static size_t report_length(const struct pair *pair)
+static size_t report_length(const struct pair *pair, judging *judge)
 {
     static uint8_t report[GREATEST_ROOM];
     struct result result;
@@ -183,11 +183,10 @@ static size_t report_length(const struct pair *pair)
     return result.length;
 }
 
-/* Mostly the program's own room; else around the report's length, where 6 begins. */
-static size_t draw_room(struct random *r, const struct pair *pair, bool short_room)
+size_t draw_room(struct random *r, const struct pair *pair, bool short_room, judging *judge)
 {
     if (!short_room && chance(r, 80)) return PROGRAM_ROOM;
-    size_t length = report_length(pair);
+    size_t length = report_length(pair, judge);
     switch (pick(r, 4)) {
     case 0: return short_room ? (length == 0 ? 0 : length - 1) : length;
     case 1: return short_room ? pick(r, (unsigned)length) : length + pick(r, (unsigned)(GREATEST_ROOM - length) + 1);
@@ -196,7 +195,7 @@ static size_t draw_room(struct random *r, const struct pair *pair, bool short_ro
     }
 }
 
-static void cut_to_case(struct draft *text)
+void cut_to_case(struct draft *text)
 {
     if (text->length > LONGEST_CASE) text->length = LONGEST_CASE;
 }
@@ -220,5 +219,5 @@ void generate_pair(uint64_t seed, uint64_t index, struct pair *pair)
     else write_texts(&paper, pair);
     cut_to_case(&pair->sheet);
     cut_to_case(&pair->answer);
-    pair->room = draw_room(&paper.random, pair, aim == 6);
+    pair->room = draw_room(&paper.random, pair, aim == 6, judge);
 }

@@ -4,6 +4,7 @@
 
 #include "lent.h"
 #include "random.h"
+#include "result.h"
 
 enum { LONGEST_DRAFT = 80000 };
 
@@ -51,7 +52,13 @@ bool draw_connection(struct paper *paper, struct instruction *con);
 void write_sheet(const struct paper *paper, struct draft *text);
 void write_answer(const struct paper *paper, struct draft *text);
 
+/* A room for the judge's report: mostly the program's own; else around the report's length, where 6 begins. */
+size_t draw_room(struct random *r, const struct pair *pair, bool short_room, judging *judge);
+
+void cut_to_case(struct draft *text);
+
 void generate_pair(uint64_t seed, uint64_t index, struct pair *pair);
+void generate_plan(uint64_t seed, uint64_t index, struct pair *pair);
 void generate_lent(uint64_t seed, uint64_t index, struct lent *lent);
 
 #endif

@@ -1,113 +1,11 @@
 /* "The two texts", "Refusal numbers" and "The report and its program": reader, walk, report, place. */
 #include "judge.h"
 
-#include <string.h>
-
 #include "ink.h"
+#include "reader.h"
 
 /* The longest report has 32 instances with all sets full and 64 connections: below 10,000 bytes whatever they hold. */
 enum { LONGEST_REPORT = 16384 };
-
-enum { TOO_LONG = 1, FORM = 2, LIMIT = 3, BREACH = 4, LEFT_OVER = 5, NO_ROOM = 6 };
-
-/* A text on the way: `line` is where the line being read starts, `at` the cursor in it. */
-struct reader { const uint8_t *start, *line, *at, *end; unsigned lines; unsigned fault; };
-
-static struct reader reader_of(const uint8_t *text, size_t length)
-{
-    return (struct reader){ text, text, text, text + length, 0, 0 };
-}
-
-/* ---- items: each answers whether the form is kept ---- */
-
-static bool take_word(struct reader *r, const char *word)
-{
-    size_t length = strlen(word);
-    if ((size_t)(r->end - r->at) < length || memcmp(r->at, word, length) != 0) return false;
-    r->at += length;
-    return true;
-}
-
-static bool take_byte(struct reader *r, char byte)
-{
-    if (r->at == r->end || *r->at != (uint8_t)byte) return false;
-    r->at++;
-    return true;
-}
-
-static bool at_digit(const struct reader *r)
-{
-    return r->at != r->end && *r->at >= '0' && *r->at <= '9';
-}
-
-/* "Numbers are decimal, one to five digits, no leading zero." */
-static bool take_number(struct reader *r, unsigned *number)
-{
-    const uint8_t *first = r->at;
-    unsigned value = 0;
-    while (at_digit(r) && r->at - first < 5) value = value * 10 + (unsigned)(*r->at++ - '0');
-    *number = value;
-    return r->at != first && !(*first == '0' && r->at - first > 1);
-}
-
-/* A set and the least count that its members lie below. */
-struct list { uint32_t set; unsigned past; };
-
-/* "A list is numbers joined by `+`, strictly ascending; `-` is the empty list." */
-static bool take_list(struct reader *r, struct list *list)
-{
-    *list = (struct list){ 0, 0 };
-    if (take_byte(r, '-')) return true;
-    do {
-        unsigned member;
-        if (!take_number(r, &member) || member < list->past) return false;
-        if (member < 32) list->set |= bit(member);
-        list->past = member + 1;
-    } while (take_byte(r, '+'));
-    return true;
-}
-
-static bool take_numbers(struct reader *r, unsigned count, unsigned *numbers)
-{
-    for (unsigned k = 0; k < count; k++)
-        if ((k > 0 && !take_byte(r, ',')) || !take_number(r, &numbers[k])) return false;
-    return true;
-}
-
-/* ---- lines: "In one line 2 comes before 3 before 4"; each answers whether the line is good ---- */
-
-static bool at_fault(struct reader *r, unsigned fault)
-{
-    r->fault = fault;
-    return false;
-}
-
-static bool line_done(struct reader *r)
-{
-    r->line = r->at;
-    r->lines++;
-    return true;
-}
-
-static bool end_line(struct reader *r)
-{
-    return take_byte(r, '\n');
-}
-
-/* `sheet=1`, `answer=1` and `type=`: another number than the one due is a form fault. */
-static bool due_line(struct reader *r, const char *key, unsigned due)
-{
-    unsigned number;
-    if (!take_word(r, key) || !take_number(r, &number) || !end_line(r) || number != due) return at_fault(r, FORM);
-    return line_done(r);
-}
-
-static bool count_line(struct reader *r, const char *key, unsigned least, unsigned most, unsigned *count)
-{
-    if (!take_word(r, key) || !take_number(r, count) || !end_line(r)) return at_fault(r, FORM);
-    if (*count < least || *count > most) return at_fault(r, LIMIT);
-    return line_done(r);
-}
 
 static bool initial_line(struct reader *r, struct type *type)
 {
@@ -160,9 +58,6 @@ static bool port_line(struct reader *r, struct type *type, unsigned p)
     return line_done(r);
 }
 
-/* A verb's word, how many numbers follow it and how great each may be; a type's limit is the sheet's own. */
-struct form { const char *word; unsigned count; unsigned most[4]; };
-
 static const struct form instruction_forms[INSTRUCTION_VERBS] = {
     [ADD] = { "add,", 2, { 31, 0 } },
     [DEL] = { "del,", 1, { 31 } },
@@ -179,20 +74,6 @@ static const struct form step_forms[STEP_VERBS] = {
     [ENTER] = { "enter,", 2, { 31, 15 } },
     [FINISH] = { "finish,", 1, { 31 } },
 };
-
-static bool take_verb(struct reader *r, const struct form *forms, unsigned verbs, unsigned *verb)
-{
-    for (*verb = 0; *verb < verbs; ++*verb)
-        if (take_word(r, forms[*verb].word)) return true;
-    return false;
-}
-
-static bool within(const struct form *form, const unsigned *numbers)
-{
-    for (unsigned k = 0; k < form->count; k++)
-        if (numbers[k] > form->most[k]) return false;
-    return true;
-}
 
 static bool do_line(struct reader *r, unsigned types, struct instruction *i)
 {
@@ -262,12 +143,6 @@ static bool read_program(struct reader *r, unsigned types, struct program *progr
     for (unsigned k = 0; k < count; k++)
         if (!do_line(r, types, &program->line[k])) return false;
     return true;
-}
-
-/* "bytes after the last line due" */
-static bool at_end(struct reader *r)
-{
-    return r->at == r->end ? true : at_fault(r, LEFT_OVER);
 }
 
 static bool read_sheet(struct reader *r, struct tables *tables, struct program *program)
@@ -360,34 +235,7 @@ static size_t write_report(uint8_t *bytes, unsigned accepted, unsigned refused, 
     return (size_t)(ink_connections(at, c) - bytes);
 }
 
-/* ---- results and places ---- */
-
-static size_t to_line_end(const uint8_t *line, const uint8_t *end)
-{
-    const uint8_t *found = line == end ? NULL : memchr(line, '\n', (size_t)(end - line));
-    return (size_t)((found == NULL ? end : found) - line);
-}
-
-/* "for 2 to 5, the line at fault, up to its LF or the text's end, empty at the end when the text ended early" */
-static struct result after_fault(const struct reader *r, enum text text)
-{
-    struct place place = { text, (size_t)(r->line - r->start), to_line_end(r->line, r->end) };
-    return (struct result){ r->fault, 0, 0, r->lines + 1, text, place, 0 };
-}
-
-/* "for 1, the empty start of that text" */
-static struct result after_length(enum text text)
-{
-    return (struct result){ TOO_LONG, 0, 0, 0, text, { text, 0, 0 }, 0 };
-}
-
-/* "for a step, its line": the steps' lines come after two others. */
-static struct place step_place(const uint8_t *answer, size_t answerlen, unsigned step)
-{
-    size_t start = 0;
-    for (unsigned k = 0; k < step + 2; k++) start += to_line_end(answer + start, answer + answerlen) + 1;
-    return (struct place){ ANSWER, start, to_line_end(answer + start, answer + answerlen) };
-}
+/* ---- the whole ---- */
 
 /* The length is known before the first byte is lent out: "the report buffer holds its old bytes" after 6. */
 static struct result after_walk(struct result walked, const struct configuration *c, uint8_t *report, size_t room)
@@ -395,9 +243,7 @@ static struct result after_walk(struct result walked, const struct configuration
     uint8_t bytes[LONGEST_REPORT];
     walked.next = c->done;
     walked.length = write_report(bytes, walked.accepted, walked.refused, c);
-    if (walked.length > room) return (struct result){ NO_ROOM, 0, 0, 0, NO_TEXT, { ANSWER, 0, 0 }, 0 };
-    if (walked.length > 0) memcpy(report, bytes, walked.length);
-    return walked;
+    return in_room(walked, bytes, report, room);
 }
 
 void judge(const uint8_t *sheet, size_t sheetlen, const uint8_t *answer, size_t answerlen, uint8_t *report, size_t room,
