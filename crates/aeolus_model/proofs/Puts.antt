@@ -1,21 +1,21 @@
 -- One word put into its area changes what the words say in one field of one row; words that are all 0 say nothing.
 -- Assumes nothing.
-use mathlib.Core.Path.{_≡_, refl, sym, ap, _∙_}
-use mathlib.Core.Logic.{_⊎_, inl, inr, by-cases}
+use mathlib.Core.Path.{_≡_, sym, ap, _∙_}
+use mathlib.Core.Logic.{inl, inr, by-cases}
 use mathlib.Core.Bool.{cond}
 use mathlib.Core.List.{List}
 use Prim.Native.Nat.{ℕ, _+_, _*_, _≤_, _<_}
 use native.Mathlib.Omega.{arith}
 use native.Mathlib.Decide.{decLt}
 use lib.Dec.{eqb}
-use lib.ListN.{length, getD, set, replicate}
+use lib.ListN.{length, set, replicate}
 use lib.Seq.{set-set}
 use borrow.Author.Tests.{le-ltb}
-use Rattle.areas.specs.Area.{word, area, putIn, cell, rows}
+use Rattle.areas.specs.Area.{putIn, cell, rows}
 use Rattle.areas.proofs.Areas.{length-put-in, put-same, word-beside, area-beside, area-put, row-at, row-put, cell-put, rows-beside, list-out, no-word, no-words, no-rows}
 use Rattle.aeolus_model.specs.declared.Step.{Step}
-use Rattle.aeolus_model.specs.Model.{ResourceType, Universe, Configuration, noUniverse, nothing, typeOf, withType, withCount, withStates, withInitial, withInterfaces, withProvides, withRequires, withName, withTo, withNumber, numberPlace, withPresent, withKind, withState, withBound}
-use Rattle.aeolus_model.specs.Action.{Plan, noStep, noPlan, stepOf, withStep, withSteps}
+use Rattle.aeolus_model.specs.Model.{noUniverse, nothing, typeOf, withType, withCount, withStates, withInitial, withInterfaces, withProvides, withRequires, withName, withTo, withNumber, numberPlace, withPresent, withKind, withState, withBound}
+use Rattle.aeolus_model.specs.Action.{noStep, noPlan, stepOf, withStep, withSteps}
 use Rattle.aeolus_model.specs.Words.{typeFrom, universeIn, stepFrom, planIn, configurationIn}
 
 -- ---- a universe

@@ -1,11 +1,11 @@
 -- Universe and configuration (003's Definitions 1 and 2), and how the rules look at them. What lies past an array's end is 0.
-use mathlib.Core.Bool.{Bool, not, cond, _&&_, _||_}
+use mathlib.Core.Bool.{Bool, not, cond, _&&_}
 use mathlib.Core.List.{List}
 use Prim.Native.Nat.{ℕ, zero, suc, _+_, _*_}
 use lib.Dec.{eqb}
 use lib.ListN.{getD, set, replicate}
 use Rattle.sets.specs.Test.{anyBelow}
-use Rattle.sets.specs.Mask.{member, with}
+use Rattle.sets.specs.Mask.{member}
 
 -- how many states it has and which is the first; how many interfaces, and which of them it may provide (003's P) and require (R)
 pub record ResourceType : Type 0 where

@@ -1,22 +1,22 @@
 -- Every kind of line gives values that keep to its limits and clauses, and a rest of the text, or refuses (`Reads` of crate reading).
 -- Assumes nothing.
-use Prim.Native.Nat.{ℕ, suc, _-_, _^_, _≤_, _<_}
-use mathlib.Core.Bool.{Bool, true, false, _&&_, _||_, not, cond}
+use Prim.Native.Nat.{ℕ, _-_, _^_, _≤_, _<_}
+use mathlib.Core.Bool.{Bool, true, false, _&&_}
 use mathlib.Core.Logic.{_≢_}
-use mathlib.Core.Path.{_≡_, refl, sym, _∙_}
+use mathlib.Core.Path.{_≡_, sym, _∙_}
 use native.Mathlib.Nat.{lt-of-lt-of-le}
 use native.Mathlib.Omega.{arith}
 use lib.Dec.{eqb}
 use lib.Pow.{pow-mono}
-use borrow.Author.Tests.{leb-true, ltb-true, eq-eqb, ne-eqb, eqb-true, eqb-false, not-true}
+use borrow.Author.Tests.{leb-true, ltb-true, eq-eqb, ne-eqb, eqb-false, not-true}
 use Rattle.sets.specs.Mask.{member}
 use Rattle.forms.specs.Reader.{bytes}
 use Rattle.forms.proofs.Tests.{by-test, and-left, and-right, or-not}
 use Rattle.reading.specs.Limits.{fiveDigits, listOk}
-use Rattle.reading.proofs.Rests.{Reads, Any, limit-fault, clause-fault, reads-then, reads-give, reads-check, reads-key, reads-on, reads-none}
-use Rattle.reading.proofs.Shapes.{Masked, reads-one, reads-two, reads-three, reads-set}
+use Rattle.reading.proofs.Rests.{Reads, limit-fault, clause-fault, reads-then, reads-give, reads-check, reads-key, reads-on, reads-none}
+use Rattle.reading.proofs.Shapes.{reads-one, reads-two, reads-three, reads-set}
 use Rattle.aeolus_model.specs.declared.Step.{Step}
-use Rattle.aeolus_model.specs.Model.{Universe, provision, weak, strong, typeOf, nameOf, placeOf, lists, mayProvide, mayRequire}
+use Rattle.aeolus_model.specs.Model.{Universe, provision, weak, strong, typeOf, nameOf, placeOf, lists}
 use Rattle.aeolus_model.specs.Action.{bindVerb, unbindVerb, actionOf}
 use Rattle.aeolus_model.proofs.Find.{some-found}
 use Rattle.aeolus_reading.specs.Limits.{idOk, nameOk, numberOk, changeOk, typeOk, aboveOk, listedOk, newOk, firstOk, endsOk}

@@ -2,29 +2,29 @@
 -- Assumes nothing.
 use Prim.Native.Nat.{ℕ, suc, _+_, _-_, _*_, _^_, _≤_, _<_}
 use mathlib.Core.List.{List}
-use mathlib.Core.Bool.{Bool, true, false, cond, _&&_}
-use mathlib.Core.Logic.{_≢_, _⊎_, inl, inr, by-cases, ⊎-elim}
+use mathlib.Core.Bool.{true, _&&_}
+use mathlib.Core.Logic.{_⊎_, by-cases, ⊎-elim}
 use mathlib.Core.Path.{_≡_, refl, sym, ap, _∙_}
 use native.Mathlib.Omega.{arith}
 use native.Mathlib.Decide.{ℕ-discrete, decLt}
 use lib.Dec.{eqb, leb}
-use lib.ListN.{length, getD, set, replicate, length-set, length-replicate}
+use lib.ListN.{length, getD, length-set, length-replicate}
 use lib.Seq.{getD-set-same, getD-set-other}
 use lib.Pow.{pow-pos}
 use borrow.Author.Tests.{leb-true, ltb-true}
-use Rattle.sets.specs.Mask.{member, with}
+use Rattle.sets.specs.Mask.{with}
 use Rattle.forms.specs.Reader.{bytes}
 use Rattle.forms.proofs.Tests.{by-test, and-left, and-right}
-use Rattle.reading.specs.Lines.{Run, Lines, on, stop}
+use Rattle.reading.specs.Lines.{Run, Lines, stop}
 use Rattle.reading.proofs.Rests.{Runs, runs-then, runs-give, runs-line, runs-each, runs-end, Went, goes, stops, StopsAt, run-stops, run-gives}
 use Rattle.reading.proofs.Kept.{reads-due, reads-count}
 use Rattle.aeolus_model.specs.declared.Step.{Step}
-use Rattle.aeolus_model.specs.Model.{ResourceType, Universe, noType, noUniverse, strong, typeOf, nameOf, toOf, numberPlace, numberAt, withType, withCount, withStates, withInitial, withInterfaces, withProvides, withRequires, withName, withTo, withNumber}
+use Rattle.aeolus_model.specs.Model.{ResourceType, Universe, noType, noUniverse, typeOf, nameOf, toOf, numberPlace, numberAt, withType, withCount, withStates, withInitial, withInterfaces, withProvides, withRequires, withName, withTo, withNumber}
 use Rattle.aeolus_model.specs.Action.{Plan, noStep, noPlan, stepOf, withStep, withSteps}
 use Rattle.aeolus_reading.specs.Limits.{typesOk, statesOk, stateOk, interfacesOk, activeOk, stepsOk}
-use Rattle.aeolus_reading.specs.Kinds.{provideKind, requireKind, interfaceLine, rowLine}
+use Rattle.aeolus_reading.specs.Kinds.{provideKind, requireKind}
 use Rattle.aeolus_reading.specs.Texts.{typesAt, statesAt, initialAt, interfacesAt, inProvides, inRequires, withInterface, interfaceAt, toAt, rowAt, rowsAt, stateAt, typeHead, typeAt, sheet, stepAt, stepsAt, plan}
-use Rattle.aeolus_reading.specs.Lawful.{side, PortLawful, TypeLawful, UniverseLawful, UniversesAreLawful, NamesDiffer, PlanLawful, PlansAreLawful}
+use Rattle.aeolus_reading.specs.Lawful.{PortLawful, TypeLawful, UniverseLawful, UniversesAreLawful, NamesDiffer, PlanLawful, PlansAreLawful}
 use Rattle.aeolus_reading.proofs.Kept.{Named, reads-interface, reads-to, Ported, reads-row, Lawfully, reads-step}
 use Rattle.aeolus_reading.proofs.Away.{Sized, Away, away-none, away-then, type-away, type-own, name-away, to-away, number-away, lawful-away, Blank, blank-away, blank-first, sized-first, set-either, with-lt}
 

@@ -7,7 +7,7 @@ use Rattle.reading.specs.Limits.{fiveDigits, listOk}
 use Rattle.aeolus_model.specs.declared.Step.{Step}
 use Rattle.aeolus_model.specs.Model.{Universe, provision, weak, strong, placeOf}
 use Rattle.aeolus_model.specs.Action.{newVerb, delVerb, changeVerb, bindVerb, unbindVerb}
-use Rattle.aeolus_reading.specs.Limits.{idOk, nameOk, numberOk, changeOk, typeOk, aboveOk, listedOk, newOk, firstOk, endsOk}
+use Rattle.aeolus_reading.specs.Limits.{idOk, nameOk, numberOk, changeOk, typeOk, aboveOk, clausesOk, endsOk}
 
 -- which of P and R an interface is in
 abbrev pub provideKind : ℕ
@@ -48,7 +48,7 @@ unfoldable pub rowPort : Universe → ℕ → ℕ → ℕ → Reader (ℕ × ℕ
 rowPort u k q m = do
   (r, n) ← twoForm fiveDigits
   check (nameOk r && numberOk n) 3
-  check (listedOk u k m r && (newOk u k q m r && firstOk u k q m)) 4
+  check (clausesOk u k q m r) 4
   give (m, placeOf u k r, suc n)
 
 -- `provide=name,number`, `weak=name,number` or `strong=name,number`

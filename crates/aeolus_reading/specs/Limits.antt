@@ -59,6 +59,10 @@ newOk u k q m r = eqb (numberAt u k q m (placeOf u k r)) 0
 abbrev pub firstOk : Universe → ℕ → ℕ → ℕ → Bool
 firstOk u k q m = not (eqb m strong && eqb q (typeOf u k .initial))
 
+-- all three of a row
+abbrev pub clausesOk : Universe → ℕ → ℕ → ℕ → ℕ → Bool
+clausesOk u k q m r = listedOk u k m r && (newOk u k q m r && firstOk u k q m)
+
 -- 4: "`bind` or `unbind` with one component at both ends"
 abbrev pub endsOk : ℕ → ℕ → Bool
 endsOk z y = not (eqb z y)

@@ -23,7 +23,7 @@ ghost use Rattle.runs.specs.Fills.{Fills};
 ghost use Rattle.runs.specs.Whole.{whole, beside};
 ghost use Rattle.aeolus_model.specs.Model.{noUniverse};
 ghost use Rattle.aeolus_model.specs.Words.{universeIn};
-ghost use Rattle.aeolus_reading.specs.Limits.{aboveOk, listedOk, newOk, firstOk};
+ghost use Rattle.aeolus_reading.specs.Limits.{aboveOk, listedOk, newOk, firstOk, clausesOk};
 ghost use Rattle.aeolus_reading.specs.Kinds.{interfaceName, interfaceLine, toLine, rowPort, rowLine};
 ghost use Rattle.aeolus_reading.specs.Texts.{inProvides, inRequires, withInterface, interfaceAt, toAt, rowAt, rowsAt, stateAt, typeHead, typeAt, sheet};
 ghost use Rattle.aeolus_sheets.specs.Says.{interfaceSays, rowSays};
@@ -155,11 +155,10 @@ fn interface_name(
     if 255 < name {
         return InterfaceLine::Refused(3);
     }
-    let ascends = above(universe, k, j, name);
-    if !ascends {
-        return InterfaceLine::Refused(4);
+    if above(universe, k, j, name) {
+        return InterfaceLine::Got(kind, name, used);
     }
-    InterfaceLine::Got(kind, name, used)
+    InterfaceLine::Refused(4)
 }
 
 // `interface=`: interface j of type k.
@@ -313,6 +312,20 @@ fn not_first(universe: &Universe, k: u32, q: u32, m: u32) -> bool
     true
 }
 
+fn keeps_clauses(universe: &Universe, k: u32, q: u32, m: u32, name: u32) -> bool
+    ensures { λ r. ⌜ r ≡ clausesOk (universeIn (now (universe .entry))) k q m name ⌝ }
+{
+    let has = listed(universe, k, m, name);
+    let fresh = is_new(universe, k, q, m, name);
+    if has {
+        if fresh {
+            return not_first(universe, k, q, m);
+        }
+        return false;
+    }
+    false
+}
+
 // What follows the key of a row: of the map m, in state q of type k.
 fn row_port(s: &[u8], at: usize, k: u32, q: u32, m: u32, universe: &Universe) -> RowLine
     ensures { λ r. ⌜ Reads (now (s .entry)) (rowSays r) (rowPort (universeIn (now (universe .entry))) k q m (drop at (now (s .entry)))) ⌝ }
@@ -326,18 +339,12 @@ fn row_port(s: &[u8], at: usize, k: u32, q: u32, m: u32, universe: &Universe) ->
     if 64 < number {
         return RowLine::Refused(3);
     }
-    if !listed(universe, k, m, name) {
-        return RowLine::Refused(4);
+    if keeps_clauses(universe, k, q, m, name) {
+        let place = aeolus_model::place_of(universe, k, name);
+        let more = number + 1;
+        return RowLine::Got(m, place, more, used);
     }
-    if !is_new(universe, k, q, m, name) {
-        return RowLine::Refused(4);
-    }
-    if !not_first(universe, k, q, m) {
-        return RowLine::Refused(4);
-    }
-    let place = aeolus_model::place_of(universe, k, name);
-    let more = number + 1;
-    RowLine::Got(m, place, more, used)
+    RowLine::Refused(4)
 }
 
 // `provide=`, `weak=` or `strong=`.

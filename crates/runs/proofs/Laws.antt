@@ -2,7 +2,7 @@
 -- Assumes nothing.
 use Prim.Native.Nat.{ℕ, _+_, _≤_, _<_, min}
 use mathlib.Core.List.{List}
-use mathlib.Core.Path.{_≡_, refl, sym, ap, _∙_}
+use mathlib.Core.Path.{_≡_, sym, ap, _∙_}
 use native.Mathlib.Omega.{arith}
 use lib.ListN.{length, drop}
 use borrow.Author.Tests.{lt-leb, le-leb}
@@ -11,10 +11,10 @@ use Rattle.texts.specs.Reads.{Outcome, past, fault, refusal, Reads}
 use Rattle.reading.specs.Lines.{Run, Lines, runOn, handOn, line}
 use Rattle.lines.specs.declared.Went.{Went}
 use Rattle.lines.specs.declared.Went.the-variants.{On, Stop}
-use Rattle.lines.specs.Runs.{run, refusalOf, RunsTo}
+use Rattle.lines.specs.Runs.{refusalOf, RunsTo}
 use Rattle.lines.proofs.Lines.{part, same-rest, line-told}
 use Rattle.lines.proofs.Runs.{stopped, went-on, place-is, run-seen}
-use Rattle.runs.specs.Whole.{Whole, outcome, whole}
+use Rattle.runs.specs.Whole.{whole}
 
 -- ---- one line m, read at the part from `at` on, and its value put
 module _ {A B R : Type 0} (says : R → Outcome A) (m : Reader A) (put : A → B) (s : List ℕ) (start at : ℕ) (e : at ≡ min start (length s))

@@ -2,9 +2,7 @@
 // Promised: the due line and the end of a text as crate reading defines them.
 use lines::Went;
 use texts::Due;
-ghost use mathlib.Core.Path.{_≡_};
-ghost use Prim.Native.Nat.{_≤_};
-ghost use lib.ListN.{length, drop};
+ghost use lib.ListN.{drop};
 ghost use Rattle.reading.specs.Kinds.{dueLine};
 ghost use Rattle.reading.specs.Lines.{line, atEnd};
 ghost use Rattle.lines.specs.Runs.{RunsTo};

@@ -1,5 +1,4 @@
 use Rattle.aeolus_model.proofs.Puts.{configuration-none}
-use borrow.Author.Needs.{needs}
 use Rattle.aeolus_model.proofs.clear_deployed.Statement.{statement}
 use Rattle.aeolus_model.proofs.clear_deployed.Tie as tie
 

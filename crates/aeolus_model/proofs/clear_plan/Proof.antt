@@ -1,5 +1,4 @@
 use Rattle.aeolus_model.proofs.Puts.{plan-none}
-use borrow.Author.Needs.{needs}
 use Rattle.aeolus_model.proofs.clear_plan.Statement.{statement}
 use Rattle.aeolus_model.proofs.clear_plan.Tie as tie
 

@@ -1,5 +1,4 @@
 use Rattle.aeolus_model.proofs.Puts.{universe-none}
-use borrow.Author.Needs.{needs}
 use Rattle.aeolus_model.proofs.clear_universe.Statement.{statement}
 use Rattle.aeolus_model.proofs.clear_universe.Tie as tie
 

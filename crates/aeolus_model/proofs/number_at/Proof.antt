@@ -1,5 +1,4 @@
 use Rattle.aeolus_model.specs.Words.{universeIn}
-use mathlib.Core.Path.{_∙_, ap}
 use borrow.Author.Needs.{needs}
 use Rattle.aeolus_model.proofs.number_at.Statement.{statement}
 use Rattle.aeolus_model.proofs.number_at.Tie as tie

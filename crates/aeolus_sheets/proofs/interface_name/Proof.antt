@@ -1,5 +1,5 @@
 use mathlib.Core.Path.{sym, _∙_}
-use borrow.Author.Tests.{lt-leb, le-leb, not-true, not-false}
+use borrow.Author.Tests.{lt-leb, le-leb}
 use Rattle.texts.specs.Says.{numberSays}
 use Rattle.texts.proofs.Laws.{told}
 use Rattle.texts.proofs.Limits.{form-fault, limit-fault, limit-kept}
@@ -22,15 +22,13 @@ returns-3 : tie.Need-returns-3
 unfolding interfaceName
 returns-3 c =
     let h = told numberSays _ (c .before .before .before .before .before .before .one-number .ensures) (c .before .before .before .before .name .given .1) in
-    let e = sym (c .before .above .ensures) ∙ not-true (c .before .above .result) (c .if2 .taken) in
-    limit-fault _ _ h (rw (le-leb _ _ (c .before .before .if1 .left), e))
+    limit-kept _ _ h (rw (le-leb _ _ (c .before .before .if1 .left), sym (c .before .above .ensures) ∙ c .if2 .taken))
 
 returns-4 : tie.Need-returns-4
 unfolding interfaceName
 returns-4 c =
     let h = told numberSays _ (c .before .before .before .before .before .before .one-number .ensures) (c .before .before .before .before .name .given .1) in
-    let e = sym (c .before .above .ensures) ∙ not-false (c .before .above .result) (c .if2 .left) in
-    limit-kept _ _ h (rw (le-leb _ _ (c .before .before .if1 .left), e))
+    limit-fault _ _ h (rw (le-leb _ _ (c .before .before .if1 .left), sym (c .before .above .ensures) ∙ c .if2 .left))
 
 pub interface-name-spec : {M : Type 1} → statement M
 interface-name-spec =
