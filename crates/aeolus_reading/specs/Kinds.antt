@@ -1,6 +1,7 @@
 -- Every kind of line that only the paper's texts have. In one line 2 comes before 3 before 4: the form whole, then the limits, then the clauses of 4.
 use Prim.Native.Nat.{ℕ, suc}
 use mathlib.Core.Bool.{_&&_}
+use Rattle.forms.specs.Refusal.{beyondLimit, badClause}
 use Rattle.forms.specs.Reader.{Reader, bytes, _or_, noLine, _>>=_, _>>_, give, check}
 use Rattle.forms.specs.Read.{key, upon, oneForm, twoForm, threeForm, listForm}
 use Rattle.reading.specs.Limits.{fiveDigits, listOk}
@@ -23,8 +24,8 @@ bothKind = 2
 unfoldable pub interfaceName : Universe → ℕ → ℕ → ℕ → Reader (ℕ × ℕ)
 interfaceName u k j c = do
   r ← oneForm fiveDigits
-  check (nameOk r) 3
-  check (aboveOk u k j r) 4
+  check (nameOk r) beyondLimit
+  check (aboveOk u k j r) badClause
   give (c, r)
 
 -- `interface=provide,name`, `interface=require,name` or `interface=both,name`: the kind and the name
@@ -40,15 +41,15 @@ unfoldable pub toLine : ℕ → Reader ℕ
 toLine n = do
   key (bytes "to=")
   l ← listForm fiveDigits
-  check (listOk n (l .top)) 3
+  check (listOk n (l .top)) beyondLimit
   give (l .mask)
 
 -- what follows the map m of a row, in state q of type k: the map, the interface's place, and one more than the number
 unfoldable pub rowPort : Universe → ℕ → ℕ → ℕ → Reader (ℕ × ℕ × ℕ)
 rowPort u k q m = do
   (r, n) ← twoForm fiveDigits
-  check (nameOk r && numberOk n) 3
-  check (clausesOk u k q m r) 4
+  check (nameOk r && numberOk n) beyondLimit
+  check (clausesOk u k q m r) badClause
   give (m, placeOf u k r, suc n)
 
 -- `provide=name,number`, `weak=name,number` or `strong=name,number`
@@ -67,26 +68,26 @@ step v a b c = record { verb = v; first = a; second = b; third = c }
 unfoldable pub newStep : ℕ → Reader Step
 newStep n = do
   (z, k) ← twoForm fiveDigits
-  check (idOk z && typeOk n k) 3
+  check (idOk z && typeOk n k) beyondLimit
   give (step newVerb z k 0)
 
 unfoldable pub delStep : Reader Step
 delStep = do
   z ← oneForm fiveDigits
-  check (idOk z) 3
+  check (idOk z) beyondLimit
   give (step delVerb z 0 0)
 
 unfoldable pub changeStep : Reader Step
 changeStep = do
   (z, q, s) ← threeForm fiveDigits
-  check (idOk z && (changeOk q && changeOk s)) 3
+  check (idOk z && (changeOk q && changeOk s)) beyondLimit
   give (step changeVerb z q s)
 
 unfoldable pub endsStep : ℕ → Reader Step
 endsStep v = do
   (r, z, y) ← threeForm fiveDigits
-  check (nameOk r && (idOk z && idOk y)) 3
-  check (endsOk z y) 4
+  check (nameOk r && (idOk z && idOk y)) beyondLimit
+  check (endsOk z y) badClause
   give (step v r z y)
 
 -- `step=`, in a sheet of n types
