@@ -384,7 +384,8 @@ fn own_check(universe: &Universe, deployed: &Deployed, step: Step) -> u32
 // ---- what the actions do
 
 fn add_to(universe: &Universe, deployed: &mut Deployed, z: u32, k: u32)
-    ensures { λ r. ⌜ configurationIn (now (deployed .exit)) ≡ added (universeIn (now (universe .entry))) (configurationIn (now (deployed .entry))) z k ⌝ }
+    ensures { λ r. ⌜ configurationIn (now (deployed .exit))
+        ≡ added (universeIn (now (universe .entry))) (configurationIn (now (deployed .entry))) z k ⌝ }
 {
     let first = initial_of(universe, k);
     let here = sets::with(present(deployed), z);
@@ -404,14 +405,16 @@ fn left_of(m: u32, z: u32, n: usize) -> u32
 }
 
 fn free_row(deployed: &mut Deployed, z: u32, n: usize)
-    ensures { λ r. ⌜ configurationIn (now (deployed .exit)) ≡ withRows (configurationIn (now (deployed .entry))) (freedAt z (configurationIn (now (deployed .entry)) .bound) n) ⌝ }
+    ensures { λ r. ⌜ configurationIn (now (deployed .exit))
+        ≡ withRows (configurationIn (now (deployed .entry))) (freedAt z (configurationIn (now (deployed .entry)) .bound) n) ⌝ }
 {
     let m = left_of(bound_row(deployed, n), z, n);
     put_bound(deployed, n, m);
 }
 
 fn free_rows(deployed: &mut Deployed, z: u32)
-    ensures { λ r. ⌜ configurationIn (now (deployed .exit)) ≡ withRows (configurationIn (now (deployed .entry))) (freed z 0 (configurationIn (now (deployed .entry)) .bound)) ⌝ }
+    ensures { λ r. ⌜ configurationIn (now (deployed .exit))
+        ≡ withRows (configurationIn (now (deployed .entry))) (freed z 0 (configurationIn (now (deployed .entry)) .bound)) ⌝ }
 {
     let mut n: usize = 0;
     while n < 512 {
@@ -444,7 +447,8 @@ fn row_of(universe: &Universe, deployed: &Deployed, r: u32, z: u32) -> usize
 }
 
 fn bind_to(universe: &Universe, deployed: &mut Deployed, r: u32, z: u32, y: u32)
-    ensures { λ n. ⌜ configurationIn (now (deployed .exit)) ≡ joined (universeIn (now (universe .entry))) (configurationIn (now (deployed .entry))) r z y ⌝ }
+    ensures { λ n. ⌜ configurationIn (now (deployed .exit))
+        ≡ joined (universeIn (now (universe .entry))) (configurationIn (now (deployed .entry))) r z y ⌝ }
 {
     let n = row_of(universe, deployed, r, z);
     let m = sets::with(bound_row(deployed, n), y);
@@ -452,7 +456,8 @@ fn bind_to(universe: &Universe, deployed: &mut Deployed, r: u32, z: u32, y: u32)
 }
 
 fn unbind_to(universe: &Universe, deployed: &mut Deployed, r: u32, z: u32, y: u32)
-    ensures { λ n. ⌜ configurationIn (now (deployed .exit)) ≡ parted (universeIn (now (universe .entry))) (configurationIn (now (deployed .entry))) r z y ⌝ }
+    ensures { λ n. ⌜ configurationIn (now (deployed .exit))
+        ≡ parted (universeIn (now (universe .entry))) (configurationIn (now (deployed .entry))) r z y ⌝ }
 {
     let n = row_of(universe, deployed, r, z);
     let m = sets::without(bound_row(deployed, n), sets::only(y));
@@ -460,7 +465,8 @@ fn unbind_to(universe: &Universe, deployed: &mut Deployed, r: u32, z: u32, y: u3
 }
 
 fn carry_out(universe: &Universe, deployed: &mut Deployed, step: Step)
-    ensures { λ r. ⌜ configurationIn (now (deployed .exit)) ≡ effect (universeIn (now (universe .entry))) (configurationIn (now (deployed .entry))) (actionOf step) ⌝ }
+    ensures { λ r. ⌜ configurationIn (now (deployed .exit))
+        ≡ effect (universeIn (now (universe .entry))) (configurationIn (now (deployed .entry))) (actionOf step) ⌝ }
 {
     let verb = step.verb;
     match verb {
@@ -492,7 +498,8 @@ fn reach(universe: &Universe, deployed: &mut Deployed, step: Step) -> u32
 
 // The number of its refusal and nothing changed, or 0 and what it does.
 pub fn act(universe: &Universe, deployed: &mut Deployed, step: Step) -> u32
-    ensures { λ r. ⌜ record { refused = r; configuration = configurationIn (now (deployed .exit)) } ≡ act (universeIn (now (universe .entry))) (configurationIn (now (deployed .entry))) (actionOf step) ⌝ }
+    ensures { λ r. ⌜ record { refused = r; configuration = configurationIn (now (deployed .exit)) }
+        ≡ act (universeIn (now (universe .entry))) (configurationIn (now (deployed .entry))) (actionOf step) ⌝ }
 {
     let refused = own_check(universe, deployed, step);
     if refused != 0 {
@@ -511,7 +518,8 @@ fn step_count(plan: &Plan) -> u32
 
 // The run of a plan, to its end or to the first action that is refused.
 pub fn run(universe: &Universe, plan: &Plan, deployed: &mut Deployed) -> Passed
-    ensures { λ r. ⌜ record { accepted = r .accepted; refused = r .refused; configuration = configurationIn (now (deployed .exit)) } ≡ run (universeIn (now (universe .entry))) (configurationIn (now (deployed .entry))) (actionsOf (planIn (now (plan .entry)))) ⌝ }
+    ensures { λ r. ⌜ record { accepted = r .accepted; refused = r .refused; configuration = configurationIn (now (deployed .exit)) }
+        ≡ run (universeIn (now (universe .entry))) (configurationIn (now (deployed .entry))) (actionsOf (planIn (now (plan .entry)))) ⌝ }
 {
     let n = step_count(plan);
     let mut k: u32 = 0;

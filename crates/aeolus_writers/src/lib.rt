@@ -85,7 +85,8 @@ fn write_providers(t: &mut [u8], r: u32, z: u32, m: u32) -> usize
 
 // The lines of z for the interface r.
 fn write_requirer(t: &mut [u8], universe: &Universe, deployed: &Deployed, r: u32, z: u32) -> usize
-    ensures { λ n. ⌜ Written (now (t .entry)) (bindingsAt (universeIn (now (universe .entry))) (configurationIn (now (deployed .entry))) r z) (now (t .exit)) 0 n ⌝ }
+    ensures { λ n. ⌜ Written (now (t .entry))
+        (bindingsAt (universeIn (now (universe .entry))) (configurationIn (now (deployed .entry))) r z) (now (t .exit)) 0 n ⌝ }
 {
     if !is_deployed(deployed, z) {
         return 0;
@@ -99,7 +100,8 @@ fn write_requirer(t: &mut [u8], universe: &Universe, deployed: &Deployed, r: u32
 }
 
 fn write_requirers(t: &mut [u8], universe: &Universe, deployed: &Deployed, r: u32) -> usize
-    ensures { λ n. ⌜ Written (now (t .entry)) (inTurn (bindingsAt (universeIn (now (universe .entry))) (configurationIn (now (deployed .entry))) r) 32) (now (t .exit)) 0 n ⌝ }
+    ensures { λ n. ⌜ Written (now (t .entry))
+        (inTurn (bindingsAt (universeIn (now (universe .entry))) (configurationIn (now (deployed .entry))) r) 32) (now (t .exit)) 0 n ⌝ }
 {
     let mut used: usize = 0;
     let mut z: u32 = 0;
@@ -111,7 +113,8 @@ fn write_requirers(t: &mut [u8], universe: &Universe, deployed: &Deployed, r: u3
 }
 
 fn write_binding_lines(t: &mut [u8], universe: &Universe, deployed: &Deployed) -> usize
-    ensures { λ n. ⌜ Written (now (t .entry)) (bindingsText (universeIn (now (universe .entry))) (configurationIn (now (deployed .entry)))) (now (t .exit)) 0 n ⌝ }
+    ensures { λ n. ⌜ Written (now (t .entry))
+        (bindingsText (universeIn (now (universe .entry))) (configurationIn (now (deployed .entry)))) (now (t .exit)) 0 n ⌝ }
 {
     let mut used: usize = 0;
     let mut r: u32 = 0;
@@ -141,7 +144,8 @@ fn write_components(t: &mut [u8], deployed: &Deployed) -> usize
 
 // bindings= and a line for each
 fn write_bindings(t: &mut [u8], universe: &Universe, deployed: &Deployed) -> usize
-    ensures { λ r. ⌜ Written (now (t .entry)) (bindingsPart (universeIn (now (universe .entry))) (configurationIn (now (deployed .entry)))) (now (t .exit)) 0 r ⌝ }
+    ensures { λ r. ⌜ Written (now (t .entry))
+        (bindingsPart (universeIn (now (universe .entry))) (configurationIn (now (deployed .entry)))) (now (t .exit)) 0 r ⌝ }
 {
     let n = bindings(deployed);
     let used = write_count(t, b"bindings=", n as usize);
@@ -150,7 +154,8 @@ fn write_bindings(t: &mut [u8], universe: &Universe, deployed: &Deployed) -> usi
 
 // The whole report.
 pub fn write_report(t: &mut [u8], universe: &Universe, deployed: &Deployed, passed: Passed) -> usize
-    ensures { λ r. ⌜ Written (now (t .entry)) (report (universeIn (now (universe .entry))) (ran passed (configurationIn (now (deployed .entry))))) (now (t .exit)) 0 r ⌝ }
+    ensures { λ r. ⌜ Written (now (t .entry))
+        (report (universeIn (now (universe .entry))) (ran passed (configurationIn (now (deployed .entry))))) (now (t .exit)) 0 r ⌝ }
 {
     let mut used = write_head(t, passed);
     used += write_components(&mut t[used..], deployed);
