@@ -1,0 +1,57 @@
+-- What the course says of the judgement: after a fault, and after a run.
+-- Assumes nothing.
+use Prim.Native.Nat.{ℕ}
+use mathlib.Core.List.{List}
+use mathlib.Core.Bool.{Bool}
+use mathlib.Core.Path.{_≡_, refl, ap, _∙_}
+use lib.Dec.{leb}
+use lib.ListN.{length}
+use Rattle.model.specs.declared.Text.{Text}
+use Rattle.judged.specs.declared.Place.{Place}
+use Rattle.judged.specs.Course.{faulty, reached}
+use Rattle.judged.specs.Judged.{textOf, faultPlace, over}
+use Rattle.aeolus_model.specs.Model.{Universe}
+use Rattle.aeolus_rules.specs.Run.{Ran}
+use Rattle.aeolus_judged.specs.declared.Verdict.{Verdict}
+use Rattle.aeolus_judged.specs.Report.{report}
+use Rattle.aeolus_judged.specs.Course.{course}
+use Rattle.aeolus_judged.specs.Judged.{Judgement, afterFault, inRoom, ending, judged, buffer}
+use Rattle.aeolus_judged.specs.Once.{Promised}
+use Rattle.aeolus_judging.specs.declared.Judged.{Judged}
+use Rattle.aeolus_judging.specs.Comes.{Comes}
+
+module _ (s a : List ℕ) where
+  judged-fault : (room : ℕ) (x : Text) (n at : ℕ) → faulty x n at ≡ course s a → afterFault x n at (textOf x s a) ≡ judged s a room
+  unfolding judged ending
+  judged-fault room x n at e = rw (← e, judged, ending)
+
+  judged-run : (room : ℕ) (u : Universe) (w : Ran) → reached (u, w) ≡ course s a → inRoom room w (report u w) a ≡ judged s a room
+  unfolding judged ending
+  judged-run room u w e = rw (← e, judged, ending)
+
+  -- the verdict, the place, and the buffer that held `old`
+  comes : (old : List ℕ) {r : Judged} {after : List ℕ} {j : Judgement} → j ≡ judged s a (length old) → Comes r old after j → Promised s a old (r .verdict) after (r .place)
+  comes old e h = record {
+    verdict-is = h .verdict-is ∙ ap (λ (j : Judgement). j .verdict) e;
+    buffer-is = h .buffer-is ∙ ap (λ (j : Judgement). over (j .bytes) old) e;
+    place-is = h .place-is ∙ ap (λ (j : Judgement). j .place) e;
+  }
+
+  pub fault-promised : (old : List ℕ) {r : Judged} (x : Text) (n at : ℕ) → faulty x n at ≡ course s a → r .verdict ≡ afterFault x n at (textOf x s a) .verdict
+      → r .place ≡ faultPlace x n at (textOf x s a) → Promised s a old (r .verdict) old (r .place)
+  unfolding afterFault over
+  fault-promised old x n at e h g = comes old (judged-fault (length old) x n at e) (record { verdict-is = h; place-is = g; buffer-is = refl })
+
+  pub run-promised : (old : List ℕ) {r : Judged} {after : List ℕ} (u : Universe) (w : Ran) → reached (u, w) ≡ course s a
+      → Comes r old after (inRoom (length old) w (report u w) a) → Promised s a old (r .verdict) after (r .place)
+  run-promised old u w e h = comes old (judged-run (length old) u w e) h
+
+  -- the place alone
+  module _ (room : ℕ) {p : Place} where
+    pub fault-places : (x : Text) (n at : ℕ) → faulty x n at ≡ course s a → p ≡ faultPlace x n at (textOf x s a) → p ≡ judged s a room .place
+    unfolding afterFault
+    fault-places x n at e h = h ∙ ap (λ (j : Judgement). j .place) (judged-fault room x n at e)
+
+    pub run-places : (u : Universe) (w : Ran) {fits : Bool} → reached (u, w) ≡ course s a → fits ≡ leb (length (report u w)) room
+        → ((x : List ℕ) (most : ℕ) → fits ≡ leb (length x) most → p ≡ inRoom most w x a .place) → p ≡ judged s a room .place
+    run-places u w e h f = f (report u w) room h ∙ ap (λ (j : Judgement). j .place) (judged-run room u w e)
