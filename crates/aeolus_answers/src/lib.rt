@@ -3,6 +3,11 @@
 // words say the plan that it gives, whatever they held before.
 use aeolus_model::Plan;
 use aeolus_model::Step;
+use forms::BAD_CLAUSE;
+use forms::BAD_FORM;
+use forms::BEYOND_LIMIT;
+use forms::TOO_LONG;
+use lines::LONGEST;
 use lines::Line;
 use lines::Went;
 use runs::LinesRead;
@@ -47,13 +52,13 @@ fn new_step(s: &[u8], at: usize, types: u32) -> StepLine
     ensures { λ r. ⌜ Reads (now (s .entry)) (stepSays r) (newStep types (drop at (now (s .entry)))) ⌝ }
 {
     let TwoNumbers::Got(first, second, used) = texts::two_numbers(s, at, Digits::Five) else {
-        return StepLine::Refused(2);
+        return StepLine::Refused(BAD_FORM);
     };
     if 31 < first {
-        return StepLine::Refused(3);
+        return StepLine::Refused(BEYOND_LIMIT);
     }
     if types <= second {
-        return StepLine::Refused(3);
+        return StepLine::Refused(BEYOND_LIMIT);
     }
     let step = Step {
         verb: NEW,
@@ -69,10 +74,10 @@ fn del_step(s: &[u8], at: usize) -> StepLine
     ensures { λ r. ⌜ Reads (now (s .entry)) (stepSays r) (delStep (drop at (now (s .entry)))) ⌝ }
 {
     let Number::Got(first, used) = texts::one_number(s, at, Digits::Five) else {
-        return StepLine::Refused(2);
+        return StepLine::Refused(BAD_FORM);
     };
     if 31 < first {
-        return StepLine::Refused(3);
+        return StepLine::Refused(BEYOND_LIMIT);
     }
     let step = Step {
         verb: DEL,
@@ -89,16 +94,16 @@ fn change_step(s: &[u8], at: usize) -> StepLine
 {
     let ThreeNumbers::Got(first, second, third, used) = texts::three_numbers(s, at, Digits::Five)
     else {
-        return StepLine::Refused(2);
+        return StepLine::Refused(BAD_FORM);
     };
     if 31 < first {
-        return StepLine::Refused(3);
+        return StepLine::Refused(BEYOND_LIMIT);
     }
     if 15 < second {
-        return StepLine::Refused(3);
+        return StepLine::Refused(BEYOND_LIMIT);
     }
     if 15 < third {
-        return StepLine::Refused(3);
+        return StepLine::Refused(BEYOND_LIMIT);
     }
     let step = Step {
         verb: CHANGE,
@@ -115,19 +120,19 @@ fn ends_step(s: &[u8], at: usize, verb: u32) -> StepLine
 {
     let ThreeNumbers::Got(first, second, third, used) = texts::three_numbers(s, at, Digits::Five)
     else {
-        return StepLine::Refused(2);
+        return StepLine::Refused(BAD_FORM);
     };
     if 255 < first {
-        return StepLine::Refused(3);
+        return StepLine::Refused(BEYOND_LIMIT);
     }
     if 31 < second {
-        return StepLine::Refused(3);
+        return StepLine::Refused(BEYOND_LIMIT);
     }
     if 31 < third {
-        return StepLine::Refused(3);
+        return StepLine::Refused(BEYOND_LIMIT);
     }
     if second == third {
-        return StepLine::Refused(4);
+        return StepLine::Refused(BAD_CLAUSE);
     }
     let step = Step {
         verb,
@@ -157,7 +162,7 @@ pub fn step_line(s: &[u8], types: u32) -> StepLine
     if let Due::Past(i) = texts::past_key(s, 0, b"step=unbind,") {
         return ends_step(s, i, UNBIND);
     }
-    StepLine::Refused(2)
+    StepLine::Refused(BAD_FORM)
 }
 
 // The number of a line's refusal, 0 where the line was read.
@@ -260,8 +265,8 @@ fn refused_plan(went: Went, place: usize, words: &mut Plan) -> Place
 pub fn fill_plan(text: &[u8], types: u32, words: &mut Plan) -> Place
     ensures { λ r. ⌜ beside r (planIn (now (words .exit))) ≡ whole noPlan (plan types) (now (text .entry)) ⌝ }
 {
-    if 32768 < text.len() {
-        let long = Went::Stop(1);
+    if LONGEST < text.len() {
+        let long = Went::Stop(TOO_LONG);
         return refused_plan(long, 0, words);
     }
     let read = read_plan(text, types, words);

@@ -15,8 +15,8 @@ use Rattle.reading.proofs.Rests.{StopsAt}
 use Rattle.runs.specs.declared.Place.{Place}
 use Rattle.runs.specs.Whole.{Whole, outcome, whole, beside}
 use Rattle.judged.specs.Course.{Course, faulty, reached, short, read}
-use Rattle.judging.specs.declared.Outcome.{Outcome}
-use Rattle.judging.specs.declared.Outcome.the-variants.{InSheet, InAnswer, Reached}
+use Rattle.judging.specs.declared.pairs.Outcome.{Outcome}
+use Rattle.judging.specs.declared.pairs.Outcome.the-variants.{InSheet, InAnswer, Reached}
 use Rattle.judging.specs.Came.{came}
 use Rattle.judging.proofs.Order.{long, not-long, TextRead, went, stopped, FaultAt, at-start, at-line, Told, in-sheet, in-answer, walks, told-then}
 use Rattle.aeolus_model.specs.Model.{Universe, Configuration, noUniverse, nothing}

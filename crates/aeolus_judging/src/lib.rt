@@ -8,8 +8,12 @@ use aeolus_model::clear_deployed;
 use aeolus_model::types;
 use aeolus_steps::Passed;
 use aeolus_writers::write_report;
+use forms::BUFFER_SHORT;
+use forms::TOO_LONG;
+use judged::LENT_BYTES;
 use judged::Place;
-use judging::Outcome;
+use judging::pairs::Outcome;
+use lines::LONGEST;
 use model::Text;
 ghost use mathlib.Core.Path.{_≡_};
 ghost use mathlib.Core.List.{List};
@@ -33,9 +37,7 @@ ghost use Rattle.aeolus_judged.specs.Once.{Promised};
 ghost use Rattle.aeolus_writers.specs.Ran.{ran};
 ghost use Rattle.aeolus_judging.specs.Comes.{Read, Comes};
 
-// "Each text has at most 32,768 bytes"; no report that two texts come to has more than 1,811.
-const LONGEST: usize = 32768;
-
+// No report that two texts come to has more bytes.
 const LARGEST: usize = 1811;
 
 // ---- the two texts
@@ -64,10 +66,10 @@ fn outcome_of(sheet: Seen, answer: Seen) -> Outcome
         → Read a y p (whole noPlan (planText (u .count)) a) answer → came r (u, p) ≡ both s a) ⌝ }
 {
     if LONGEST < sheet.size {
-        return Outcome::InSheet(1, 0);
+        return Outcome::InSheet(TOO_LONG, 0);
     }
     if LONGEST < answer.size {
-        return Outcome::InAnswer(1, 0);
+        return Outcome::InAnswer(TOO_LONG, 0);
     }
     if sheet.refused != 0 {
         return Outcome::InSheet(sheet.refused, sheet.place);
@@ -113,7 +115,7 @@ fn run_texts(sheet: &[u8], answer: &[u8], universe: &mut Universe, deployed: &mu
 fn fault_verdict(x: Text, s: &[u8], n: u8, at: usize) -> Verdict
     ensures { λ r. ⌜ r ≡ afterFault x n at (now (s .entry)) .verdict ⌝ }
 {
-    let same = judging::after_fault(x, s, n, at);
+    let same = verdicts::after_fault(x, s, n, at);
     Verdict {
         refused: n,
         accepted: 0,
@@ -127,7 +129,7 @@ fn no_room() -> Verdict
     ensures { λ r. ⌜ r ≡ noRoom .verdict ⌝ }
 {
     Verdict {
-        refused: 6,
+        refused: BUFFER_SHORT,
         accepted: 0,
         written: 0,
         text: Text::Neither,
@@ -171,7 +173,7 @@ fn run_place(passed: Passed, fits: bool, answer: &[u8]) -> Place
             size: 0,
         };
     }
-    judging::step_place(at_step(passed.refused), passed.accepted as usize, answer)
+    verdicts::step_place(at_step(passed.refused), passed.accepted as usize, answer)
 }
 
 fn report_length(universe: &Universe, deployed: &Deployed, passed: Passed) -> usize
@@ -204,7 +206,7 @@ fn judge_fault(x: Text, s: &[u8], n: u8, at: usize) -> Judged
     ensures place { λ r. ⌜ r .place ≡ faultPlace x n at (now (s .entry)) ⌝ }
 {
     let verdict = fault_verdict(x, s, n, at);
-    let place = judging::fault_place(x, s, n, at);
+    let place = verdicts::fault_place(x, s, n, at);
     Judged { verdict, place }
 }
 
@@ -266,8 +268,8 @@ pub fn place(sheet: &[u8], answer: &[u8], room: usize) -> Place
     let outcome = came.outcome;
     let passed = came.passed;
     match outcome {
-        Outcome::InSheet(n, at) => judging::fault_place(Text::Sheet, sheet, n, at),
-        Outcome::InAnswer(n, at) => judging::fault_place(Text::Answer, answer, n, at),
+        Outcome::InSheet(n, at) => verdicts::fault_place(Text::Sheet, sheet, n, at),
+        Outcome::InAnswer(n, at) => verdicts::fault_place(Text::Answer, answer, n, at),
         Outcome::Reached => {
             let fits = has_room(&universe, &deployed, passed, room);
             run_place(passed, fits, answer)
@@ -290,7 +292,7 @@ pub fn offending<'a>(sheet: &'a [u8], answer: &'a [u8], room: usize) -> &'a [u8]
 }
 
 // What the `aeolus` program prints: the report, or after 1 to 5 the three lines.
-pub fn print(sheet: &[u8], answer: &[u8], out: &mut [u8; 8192]) -> usize
+pub fn print(sheet: &[u8], answer: &[u8], out: &mut [u8; LENT_BYTES]) -> usize
     ensures used { λ r. ⌜ r ≡ length (printed (now (sheet .entry)) (now (answer .entry))) ⌝ }
     ensures out { λ r. ⌜ now (out .exit) ≡ over (printed (now (sheet .entry)) (now (answer .entry))) (now (out .entry)) ⌝ }
     ensures counts { λ r. ⌜ Counts r (now (out .exit)) ⌝ }

@@ -3,6 +3,11 @@
 // Promised: for every text `fill_universe` answers the one number and place that `whole` gives of the paper's sheet, and the words say the
 // universe that it gives, whatever they held before.
 use aeolus_model::Universe;
+use forms::BAD_CLAUSE;
+use forms::BAD_FORM;
+use forms::BEYOND_LIMIT;
+use forms::TOO_LONG;
+use lines::LONGEST;
 use lines::Line;
 use lines::Went;
 use runs::LinesRead;
@@ -70,10 +75,10 @@ fn initial_line(s: &[u8], states: u32) -> Line
     ensures { λ r. ⌜ Reads (now (s .entry)) (lineSays r) (countLine (countKey Initial) (countOk Initial states) (now (s .entry))) ⌝ }
 {
     let Number::Got(state, used) = texts::number_line(s, b"initial=", Digits::Five) else {
-        return Line::Refused(2);
+        return Line::Refused(BAD_FORM);
     };
     if states <= state {
-        return Line::Refused(3);
+        return Line::Refused(BEYOND_LIMIT);
     }
     Line::Got(state, used)
 }
@@ -150,15 +155,15 @@ fn interface_name(
     ensures { λ r. ⌜ Reads (now (s .entry)) (interfaceSays r) (interfaceName (universeIn (now (universe .entry))) k j kind (drop at (now (s .entry)))) ⌝ }
 {
     let Number::Got(name, used) = texts::one_number(s, at, Digits::Five) else {
-        return InterfaceLine::Refused(2);
+        return InterfaceLine::Refused(BAD_FORM);
     };
     if 255 < name {
-        return InterfaceLine::Refused(3);
+        return InterfaceLine::Refused(BEYOND_LIMIT);
     }
     if above(universe, k, j, name) {
         return InterfaceLine::Got(kind, name, used);
     }
-    InterfaceLine::Refused(4)
+    InterfaceLine::Refused(BAD_CLAUSE)
 }
 
 // `interface=`: interface j of type k.
@@ -174,7 +179,7 @@ fn interface_line(s: &[u8], k: u32, j: u32, universe: &Universe) -> InterfaceLin
     if let Due::Past(i) = texts::past_key(s, 0, b"interface=both,") {
         return interface_name(s, i, k, j, BOTH, universe);
     }
-    InterfaceLine::Refused(2)
+    InterfaceLine::Refused(BAD_FORM)
 }
 
 fn interface_refusal(line: InterfaceLine) -> u8
@@ -260,10 +265,10 @@ fn to_line(s: &[u8], states: u32) -> Line
     ensures { λ r. ⌜ Reads (now (s .entry)) (lineSays r) (toLine states (now (s .entry))) ⌝ }
 {
     let OneList::Got(mask, top, used) = texts::list_line(s, b"to=", Digits::Five) else {
-        return Line::Refused(2);
+        return Line::Refused(BAD_FORM);
     };
     if states < top {
-        return Line::Refused(3);
+        return Line::Refused(BEYOND_LIMIT);
     }
     Line::Got(mask, used)
 }
@@ -331,20 +336,20 @@ fn row_port(s: &[u8], at: usize, k: u32, q: u32, m: u32, universe: &Universe) ->
     ensures { λ r. ⌜ Reads (now (s .entry)) (rowSays r) (rowPort (universeIn (now (universe .entry))) k q m (drop at (now (s .entry)))) ⌝ }
 {
     let TwoNumbers::Got(name, number, used) = texts::two_numbers(s, at, Digits::Five) else {
-        return RowLine::Refused(2);
+        return RowLine::Refused(BAD_FORM);
     };
     if 255 < name {
-        return RowLine::Refused(3);
+        return RowLine::Refused(BEYOND_LIMIT);
     }
     if 64 < number {
-        return RowLine::Refused(3);
+        return RowLine::Refused(BEYOND_LIMIT);
     }
     if keeps_clauses(universe, k, q, m, name) {
         let place = aeolus_model::place_of(universe, k, name);
         let more = number + 1;
         return RowLine::Got(m, place, more, used);
     }
-    RowLine::Refused(4)
+    RowLine::Refused(BAD_CLAUSE)
 }
 
 // `provide=`, `weak=` or `strong=`.
@@ -360,7 +365,7 @@ fn row_line(s: &[u8], k: u32, q: u32, universe: &Universe) -> RowLine
     if let Due::Past(i) = texts::past_key(s, 0, b"strong=") {
         return row_port(s, i, k, q, STRONG, universe);
     }
-    RowLine::Refused(2)
+    RowLine::Refused(BAD_FORM)
 }
 
 fn row_refusal(line: RowLine) -> u8
@@ -561,8 +566,8 @@ fn refused_sheet(went: Went, place: usize, universe: &mut Universe) -> Place
 pub fn fill_universe(text: &[u8], universe: &mut Universe) -> Place
     ensures { λ r. ⌜ beside r (universeIn (now (universe .exit))) ≡ whole noUniverse sheet (now (text .entry)) ⌝ }
 {
-    if 32768 < text.len() {
-        let long = Went::Stop(1);
+    if LONGEST < text.len() {
+        let long = Went::Stop(TOO_LONG);
         return refused_sheet(long, 0, universe);
     }
     let read = read_sheet(text, universe);

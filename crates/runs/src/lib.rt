@@ -1,5 +1,6 @@
 // Runs of lines, one after the other: each answers whether it went on, and the next line's place or that of the line at fault.
 // Promised: the due line and the end of a text as crate reading defines them.
+use forms::BAD_FORM;
 use lines::Went;
 use texts::Due;
 ghost use lib.ListN.{drop};
@@ -25,7 +26,7 @@ pub fn due_run(text: &[u8], start: usize, key: &[u8], number: u32) -> LinesRead
 {
     let Due::Past(at) = lines::due_at(text, start, key, number) else {
         let at = texts::place_in(text, start);
-        let went = Went::Stop(2);
+        let went = Went::Stop(BAD_FORM);
         return LinesRead { went, at };
     };
     let went = Went::On;
