@@ -88,10 +88,10 @@ fn count_line(s: &[u8], count: Count, states: u32) -> Line
     ensures { λ r. ⌜ Reads (now (s .entry)) (lineSays r) (countLine (countKey count) (countOk count states) (now (s .entry))) ⌝ }
 {
     match count {
-        Count::Types => lines::within_line(s, b"types=", Digits::Five, 1, 16),
-        Count::States => lines::within_line(s, b"states=", Digits::Five, 1, 16),
+        Count::Types => lines::within_at(s, 0, b"types=", Digits::Five, 1, 16),
+        Count::States => lines::within_at(s, 0, b"states=", Digits::Five, 1, 16),
         Count::Initial => initial_line(s, states),
-        Count::Interfaces => lines::within_line(s, b"interfaces=", Digits::Five, 0, 16),
+        Count::Interfaces => lines::within_at(s, 0, b"interfaces=", Digits::Five, 0, 16),
     }
 }
 
