@@ -33,8 +33,12 @@ module _ (s a : List ℕ) (room : ℕ) where
   unfolding judged
   fits = fits-ending (course s a)
 
-pub written-counts : (s a old : List ℕ) {v : Verdict} {new : List ℕ} → v ≡ judged s a (length old) .verdict → new ≡ buffer s a old → Counts (v .written) new
+-- so many bytes, which have room, stand in a buffer that they were written over
+pub counted : (bytes old : List ℕ) {n : ℕ} {new : List ℕ} → n ≡ length bytes → length bytes ≤ length old → new ≡ over bytes old → Counts n new
 unfolding over
+counted bytes old {n} {new} e few is = counts n new (rw (e, is) (simp (length-append, length-drop) (omega (arith, few))))
+
+pub written-counts : (s a old : List ℕ) {v : Verdict} {new : List ℕ} → v ≡ judged s a (length old) .verdict → new ≡ buffer s a old → Counts (v .written) new
 written-counts s a old {v} {new} e is =
     let f = fits s a (length old) in
-    counts (v .written) new (rw (e, is) (simp (length-append, length-drop) (omega (arith, f))))
+    counted (judged s a (length old) .bytes) old (rw e (f .0)) (f .1) is

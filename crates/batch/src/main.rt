@@ -1,5 +1,6 @@
-// For tests: standard input holds cases until it ends, each a line `case SHEETLEN ANSWERLEN ROOM` and the bytes of the two texts. Out goes for each a line
-// `REFUSED ACCEPTED NEXT TEXT LINE WHICH START LEN REPORTLEN` and the report. Promised by `judging`: what each line says, and the report's bytes.
+// For tests: standard input holds cases until it ends, each a line `case SHEETLEN ANSWERLEN ROOM` and the bytes of the two texts, or `plan ..` for two texts of
+// the Aeolus paper. Out goes for each a line `REFUSED ACCEPTED NEXT TEXT LINE WHICH START LEN REPORTLEN` (a plan has no NEXT: 0) and the report.
+// Promised by `judging` and `aeolus_judging`: what each line says, and the report's bytes.
 use judged::Place;
 use judged::Verdict;
 use judging::Judged;
@@ -25,8 +26,9 @@ const HEADER: usize = 23;
 // Past this place of the output a line and the widest report might lack room.
 const ENOUGH: usize = 49000;
 
-// What a header says, and how many bytes it has itself; 0 where no header stands there.
+// What a header says, and how many bytes it has itself; 0 where no header stands there. `plan` is whether the texts are the Aeolus paper's.
 struct Header {
+    plan: bool,
     sheet: usize,
     answer: usize,
     room: usize,
@@ -46,6 +48,7 @@ fn no_header() -> Header
     ensures { λ r. ⌜ Small r ⌝ }
 {
     Header {
+        plan: false,
         sheet: 0,
         answer: 0,
         room: 0,
@@ -53,7 +56,7 @@ fn no_header() -> Header
     }
 }
 
-fn header_of(sheet: u32, answer: u32, room: u32, size: usize) -> Header
+fn header_of(plan: bool, sheet: u32, answer: u32, room: u32, size: usize) -> Header
     ensures { λ r. ⌜ Small r ⌝ }
 {
     if LONGEST < sheet {
@@ -69,6 +72,7 @@ fn header_of(sheet: u32, answer: u32, room: u32, size: usize) -> Header
         return no_header();
     }
     Header {
+        plan,
         sheet: sheet as usize,
         answer: answer as usize,
         room: room as usize,
@@ -79,9 +83,19 @@ fn header_of(sheet: u32, answer: u32, room: u32, size: usize) -> Header
 fn read_header(s: &[u8]) -> Header
     ensures { λ r. ⌜ Small r ⌝ }
 {
-    let Due::Past(a) = texts::past_key(s, 0, b"case ") else {
-        return no_header();
-    };
+    if let Due::Past(a) = texts::past_key(s, 0, b"case ") {
+        return read_lengths(s, a, false);
+    }
+    if let Due::Past(a) = texts::past_key(s, 0, b"plan ") {
+        return read_lengths(s, a, true);
+    }
+    no_header()
+}
+
+// What follows the word of a header.
+fn read_lengths(s: &[u8], a: usize, plan: bool) -> Header
+    ensures { λ r. ⌜ Small r ⌝ }
+{
     let Number::Got(sheet, b) = texts::number_then(s, a, b' ', Digits::Five) else {
         return no_header();
     };
@@ -91,7 +105,7 @@ fn read_header(s: &[u8]) -> Header
     let Number::Got(room, size) = texts::number_then(s, c, b'\n', Digits::Five) else {
         return no_header();
     };
-    header_of(sheet, answer, room, size)
+    header_of(plan, sheet, answer, room, size)
 }
 
 // The bytes from `at` to `to` move to the start.
@@ -188,21 +202,50 @@ fn write_place(out: &mut [u8], at: usize, place: Place, written: usize) -> usize
     inks::write_byte(out, d, b'\n')
 }
 
-fn judge(sheet: &[u8], answer: &[u8], report: &mut [u8]) -> Judged
+fn judge_answer(sheet: &[u8], answer: &[u8], report: &mut [u8]) -> Judged
     ensures { λ r. ⌜ Counts (r .verdict .written) (now (report .exit)) ⌝ }
 {
     judging::judge_and_place(sheet, answer, report)
 }
 
+fn judge_plan(sheet: &[u8], answer: &[u8], report: &mut [u8]) -> Judged
+    ensures { λ r. ⌜ Counts (r .verdict .written) (now (report .exit)) ⌝ }
+{
+    let judged = aeolus_judging::judge_and_place(sheet, answer, report);
+    let said = judged.verdict;
+    let place = judged.place;
+    let text = said.text;
+    let verdict = Verdict {
+        refused: said.refused,
+        accepted: said.accepted,
+        next: 0,
+        written: said.written,
+        text,
+        line: said.line,
+    };
+    Judged { verdict, place }
+}
+
+fn judge(plan: bool, sheet: &[u8], answer: &[u8], report: &mut [u8]) -> Judged
+    ensures { λ r. ⌜ Counts (r .verdict .written) (now (report .exit)) ⌝ }
+{
+    if plan {
+        judge_plan(sheet, answer, report)
+    } else {
+        judge_answer(sheet, answer, report)
+    }
+}
+
 // The line and the report of one pair, with as much room as `report` has.
 fn judge_pair(
+    plan: bool,
     sheet: &[u8],
     answer: &[u8],
     report: &mut [u8],
     out: &mut [u8],
     used: usize,
 ) -> usize {
-    let judged = judge(sheet, answer, report);
+    let judged = judge(plan, sheet, answer, report);
     let verdict = judged.verdict;
     let place = judged.place;
     let written = verdict.written;
@@ -212,6 +255,7 @@ fn judge_pair(
 }
 
 fn judge_within(
+    plan: bool,
     sheet: &[u8],
     answer: &[u8],
     report: &mut [u8],
@@ -221,7 +265,7 @@ fn judge_within(
 ) -> usize
     requires { ⌜ room ≤ length (now report) ⌝ }
 {
-    judge_pair(sheet, answer, &mut report[..room], out, used)
+    judge_pair(plan, sheet, answer, &mut report[..room], out, used)
 }
 
 // The place in the output from which a line and a report have room.
@@ -247,7 +291,15 @@ fn judge_case(
     let b = a + header.sheet;
     let c = b + header.answer;
     let at = place_for(out, used);
-    judge_within(&case[a..b], &case[b..c], report, header.room, out, at)
+    judge_within(
+        header.plan,
+        &case[a..b],
+        &case[b..c],
+        report,
+        header.room,
+        out,
+        at,
+    )
 }
 
 fn bad_header(out: &mut [u8], flow: Flow) -> Flow
