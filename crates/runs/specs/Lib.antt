@@ -1,3 +1,4 @@
--- What a reader into words promises (Fills), and what reading a whole text answers (Whole).
+-- What a reader into words promises (Fills), what reading a whole text answers (Whole), and lines after what was read so far (Chain).
 pub mod Fills
 pub mod Whole
+pub mod Chain

@@ -1,17 +1,30 @@
 // Runs of lines, one after the other: each answers whether it went on, and the next line's place or that of the line at fault.
-// Promised: the due line and the end of a text as crate reading defines them.
+// In a chain each takes what was read so far, does nothing where that stopped, and answers for the next part of the definition's lines.
+// Promised: the due line, a line of one number and the end of a text as crate reading defines them, and what a whole text answers.
 use forms::BAD_FORM;
+use lines::Limit;
+use lines::Line;
 use lines::Went;
 use texts::Due;
-ghost use lib.ListN.{drop};
-ghost use Rattle.reading.specs.Kinds.{dueLine};
+ghost use mathlib.Core.Path.{_≡_};
+ghost use Prim.Native.Nat.{_≤_, min};
+ghost use lib.ListN.{length, drop};
+ghost use Rattle.reading.specs.Kinds.{dueLine, countLine};
 ghost use Rattle.reading.specs.Lines.{line, atEnd};
-ghost use Rattle.lines.specs.Runs.{RunsTo};
+ghost use Rattle.lines.specs.Counts.{limitOk, greatest};
+ghost use Rattle.lines.specs.Runs.{RunsTo, refusalOf};
+ghost use Rattle.runs.specs.Chain.{After, short, numberRun};
 
 // Whether a run of lines went on, and the place of the next line or of the line at fault.
 pub struct LinesRead {
     pub went: Went,
     pub at: usize,
+}
+
+// The same, and the one number of the last line, or its list as a set; 0 where the reading stopped.
+pub struct NumberRead {
+    pub read: LinesRead,
+    pub number: u32,
 }
 
 // The number of a text's refusal, or 0, and the place of the line at fault, or the text's end.
@@ -40,4 +53,80 @@ pub fn end_run(text: &[u8], start: usize) -> LinesRead
     let at = texts::place_in(text, start);
     let went = lines::at_end(text, at);
     LinesRead { went, at }
+}
+
+// A text that is not too long, at its start.
+pub fn length_run(text: &[u8]) -> LinesRead
+    ensures { λ r. ⌜ RunsTo (now (text .entry)) (r .went) (r .at) tt (short (now (text .entry))) ⌝ }
+{
+    if 32768 < text.len() {
+        let went = Went::Stop(1);
+        return LinesRead { went, at: 0 };
+    }
+    let went = Went::On;
+    LinesRead { went, at: 0 }
+}
+
+// What the line at a place comes to that has one number or one list.
+pub fn number_run(text: &[u8], start: usize, line: Line) -> NumberRead
+    ensures { λ r. ⌜ r ≡ numberRun (min start (length (now (text .entry)))) line ⌝ }
+{
+    let Line::Got(number, next) = line else {
+        let refused = lines::line_refusal(line);
+        let at = texts::place_in(text, start);
+        let went = Went::Stop(refused);
+        let read = LinesRead { went, at };
+        return NumberRead { read, number: 0 };
+    };
+    let went = Went::On;
+    let read = LinesRead { went, at: next };
+    NumberRead { read, number }
+}
+
+// After what was read so far: the line of a key and the number due.
+pub fn then_due(text: &[u8], read: LinesRead, key: &[u8], number: u32) -> LinesRead
+    ensures { λ r. ⌜ After (now (text .entry)) read (line (dueLine (now (key .entry)) number)) r tt ⌝ }
+{
+    let went = read.went;
+    let Went::On = went else {
+        return read;
+    };
+    due_run(text, read.at, key, number)
+}
+
+// The line of a key and a number within its limit.
+pub fn then_number(text: &[u8], read: LinesRead, key: &[u8], limit: Limit) -> NumberRead
+    ensures reads { λ r. ⌜ After (now (text .entry)) read (line (countLine (now (key .entry)) (limitOk limit))) (r .read) (r .number) ⌝ }
+    ensures few { λ r. ⌜ r .number ≤ greatest limit ⌝ }
+{
+    let went = read.went;
+    let Went::On = went else {
+        return NumberRead { read, number: 0 };
+    };
+    let at = read.at;
+    let line = lines::count_at(text, at, key, limit);
+    number_run(text, at, line)
+}
+
+// The end of the text.
+pub fn then_end(text: &[u8], read: LinesRead) -> LinesRead
+    ensures { λ r. ⌜ After (now (text .entry)) read atEnd r tt ⌝ }
+{
+    let went = read.went;
+    let Went::On = went else {
+        return read;
+    };
+    end_run(text, read.at)
+}
+
+// What the lines of a whole text come to.
+pub fn came_to(read: LinesRead) -> Place
+    ensures { λ r. ⌜ r ≡ record { refused = refusalOf (read .went); place = read .at } ⌝ }
+{
+    let went = read.went;
+    let refused = lines::refusal(went);
+    Place {
+        refused,
+        place: read.at,
+    }
 }

@@ -1,0 +1,32 @@
+-- Lines after what was read so far, and a line of one number or one list.
+use Prim.Native.Nat.{ℕ}
+use mathlib.Core.List.{List}
+use mathlib.Core.Bool.{true, false}
+use mathlib.Core.Path.{_≡_}
+use lib.ListN.{length, drop}
+use Rattle.reading.specs.Limits.{lengthOk}
+use Rattle.reading.specs.Lines.{Lines, on, stop, runOn}
+use Rattle.lines.specs.declared.Went.the-variants.{On, Stop}
+use Rattle.lines.specs.declared.Line.{Line}
+use Rattle.lines.specs.declared.Line.the-variants as line
+use Rattle.lines.specs.Runs.{RunsTo}
+use Rattle.runs.specs.declared.LinesRead.{LinesRead}
+use Rattle.runs.specs.declared.NumberRead.{NumberRead}
+
+-- on the text s, where a was answered of the lines before: r and the value b are what f comes to from there on, and nothing more is read
+-- where a had stopped
+pub record After {A : Type 0} (s : List ℕ) (a : LinesRead) (f : Lines A) (r : LinesRead) (b : A) : Type 0 where
+  pub went : a .went ≡ On → RunsTo s (r .went) (r .at) b (f (drop (a .at) s))
+  pub stopped : (k : ℕ) → a .went ≡ Stop k → r ≡ a
+
+-- "a text is too long": 1, at its start; and the lines m of a text that is not
+unfoldable pub short : Lines (Unit {0})
+short s = elim (lengthOk (length s)) [ true ↦ on tt s | false ↦ stop 1 s ]
+
+unfoldable pub shortly : {A : Type 0} → Lines A → Lines A
+shortly m s = runOn (short s) (λ _. m)
+
+-- what a line comes to that was to be read at the place at: beside a refusal its number is 0
+abbrev pub numberRun : ℕ → Line → NumberRead
+numberRun at (line.Got n next) = record { read = record { went = On; at = next }; number = n }
+numberRun at (line.Refused k) = record { read = record { went = Stop k; at = at }; number = 0 }
