@@ -1,0 +1,67 @@
+-- A row of the program or of the answer put is one instruction or step, and words that are all 0 say none.
+-- Assumes nothing.
+use mathlib.Core.Path.{_≡_, refl, sym, ap, _∙_}
+use mathlib.Core.Logic.{inl, inr}
+use mathlib.Core.List.{List, [], _∷_}
+use Prim.Native.Nat.{ℕ, _≤_, _<_}
+use native.Mathlib.Omega.{arith}
+use lib.ListN.{length, set, getD, replicate}
+use lib.Seq.{getD-set-same, getD-set-other}
+use Rattle.model.specs.declared.Instruction.{Instruction}
+use Rattle.model.specs.declared.Program.{Program}
+use Rattle.model.specs.declared.Step.{Step}
+use Rattle.model.specs.declared.Answer.{Answer}
+use Rattle.model.specs.Empty.{noInstruction, noStep, noProgram, noAnswer}
+use Rattle.model.specs.View.{listOf}
+use Rattle.reading.specs.Fill.{programOf, withInstruction, answerOf, withStep}
+use Rattle.words.specs.Rows.{word, rowAt, rows, puts, putsIn}
+use Rattle.words.specs.Words.{instructionIn, programIn, stepIn, answerIn}
+use Rattle.words.specs.Parts.{instructionOf, stepOf}
+use Rattle.words.proofs.Rows.{in-far, rows-put, rows-same, rows-at, rows-none, none-word}
+
+module _ (ws : List ℕ) (n : ℕ) where
+  pub step-at : (get : Step → ℕ) → get (stepIn n []) ≡ get noStep → get (getD (answerIn ws .steps) n noStep) ≡ get (stepIn n (rowAt ws 0 1024 3 n))
+  unfolding answerIn
+  step-at get e = rows-at stepIn 0 1024 3 noStep get ws n e
+
+  pub step-put : (a b d : ℕ) → length ws ≡ 3073 → answerIn (putsIn ws 0 1024 3 n 0 (a ∷ b ∷ d ∷ [])) ≡ withStep (answerIn ws) n (stepOf a b d)
+  unfolding answerIn withStep puts listOf
+  step-put a b d full i = record {
+    steps = rows-put stepIn 0 1024 3 noStep ws (a ∷ b ∷ d ∷ []) n 0 (omega arith) (omega arith) i;
+    count = in-far ws (a ∷ b ∷ d ∷ []) 0 1024 3 n 0 (omega arith) 3072 (inr (omega arith)) i;
+  }
+
+  pub instruction-at : (get : Instruction → ℕ) → get (instructionIn n []) ≡ get noInstruction
+      → get (getD (programIn ws .instructions) n noInstruction) ≡ get (instructionIn n (rowAt ws 0 256 5 n))
+  unfolding programIn
+  instruction-at get e = rows-at instructionIn 0 256 5 noInstruction get ws n e
+
+  pub instruction-put : (a b d e f : ℕ) → length ws ≡ 1281
+      → programIn (putsIn ws 0 256 5 n 0 (a ∷ b ∷ d ∷ e ∷ f ∷ [])) ≡ withInstruction (programIn ws) n (instructionOf a b d e f)
+  unfolding programIn withInstruction puts listOf
+  instruction-put a b d e f full i = record {
+    instructions = rows-put instructionIn 0 256 5 noInstruction ws (a ∷ b ∷ d ∷ e ∷ f ∷ []) n 0 (omega arith) (omega arith) i;
+    count = in-far ws (a ∷ b ∷ d ∷ e ∷ f ∷ []) 0 256 5 n 0 (omega arith) 1280 (inr (omega arith)) i;
+  }
+
+pub no-answer : answerIn (replicate 3073 0) ≡ noAnswer
+unfolding answerIn noAnswer
+no-answer i = record { steps = rows-none stepIn noStep 0 1024 3 3073 (λ k. refl) i; count = none-word 3073 3072 i }
+
+pub answer-start : (ws : List ℕ) (n : ℕ) → length ws ≡ 3073 → answerIn ws ≡ noAnswer → answerIn (set ws 3072 n) ≡ answerOf n
+unfolding answerIn answerOf
+answer-start ws n full e i = record {
+  steps = (rows-same stepIn 0 1024 3 ws (set ws 3072 n) (λ m l h. getD-set-other ws 3072 m n 0 (λ z. omega arith)) ∙ ap (λ (a : Answer). a .steps) e) i;
+  count = getD-set-same ws 3072 n 0 (omega arith) i;
+}
+
+pub no-program : programIn (replicate 1281 0) ≡ noProgram
+unfolding programIn noProgram
+no-program i = record { instructions = rows-none instructionIn noInstruction 0 256 5 1281 (λ k. refl) i; count = none-word 1281 1280 i }
+
+pub program-start : (ws : List ℕ) (n : ℕ) → length ws ≡ 1281 → programIn ws ≡ noProgram → programIn (set ws 1280 n) ≡ programOf n
+unfolding programIn programOf
+program-start ws n full e i = record {
+  instructions = (rows-same instructionIn 0 256 5 ws (set ws 1280 n) (λ m l h. getD-set-other ws 1280 m n 0 (λ z. omega arith)) ∙ ap (λ (p : Program). p .instructions) e) i;
+  count = getD-set-same ws 1280 n 0 (omega arith) i;
+}

@@ -1,0 +1,90 @@
+-- The same tables or configuration but for one part.
+use mathlib.Core.Bool.{Bool, cond}
+use mathlib.Core.List.{List}
+use Prim.Native.Nat.{ℕ}
+use lib.ListN.{set}
+use Rattle.sets.specs.Mask.{with, without, only}
+use Rattle.model.specs.declared.ComponentType.{ComponentType}
+use Rattle.model.specs.declared.Tables.{Tables}
+use Rattle.model.specs.declared.Instruction.{Instruction}
+use Rattle.model.specs.declared.Step.{Step}
+use Rattle.model.specs.declared.Instance.{Instance}
+use Rattle.model.specs.declared.Connection.{Connection}
+use Rattle.model.specs.declared.Configuration.{Configuration}
+use Rattle.model.specs.View.{withConnections, withQueue}
+use Rattle.reading.specs.Fill.{withTransition, withPort}
+
+-- transition j, behavior j, port j, each counted over all types
+abbrev pub withEnds : Tables → ℕ → ℕ → ℕ → Tables
+withEnds t j a b = record {
+  depth = t .depth;
+  count = t .count;
+  types = t .types;
+  transitions = withTransition (t .transitions) j a b;
+  behaviors = t .behaviors;
+  ports = t .ports;
+}
+
+abbrev pub withBehavior : Tables → ℕ → ℕ → Tables
+withBehavior t j xs = record {
+  depth = t .depth;
+  count = t .count;
+  types = t .types;
+  transitions = t .transitions;
+  behaviors = set (t .behaviors) j xs;
+  ports = t .ports;
+}
+
+abbrev pub withGroup : Tables → ℕ → ℕ → ℕ → ℕ → Tables
+withGroup t j uses places transitions = record {
+  depth = t .depth;
+  count = t .count;
+  types = t .types;
+  transitions = t .transitions;
+  behaviors = t .behaviors;
+  ports = withPort (t .ports) j uses places transitions;
+}
+
+-- what is known of type i
+abbrev pub withKind : Tables → ℕ → ComponentType → Tables
+withKind t i k = record {
+  depth = t .depth;
+  count = t .count;
+  types = set (t .types) i k;
+  transitions = t .transitions;
+  behaviors = t .behaviors;
+  ports = t .ports;
+}
+
+abbrev pub typeOfWords : ℕ → ℕ → ℕ → ℕ → ℕ → ComponentType
+typeOfWords a b c d e = record { places = a; initial = b; transitions = c; behaviors = d; ports = e }
+
+abbrev pub instructionOf : ℕ → ℕ → ℕ → ℕ → ℕ → Instruction
+instructionOf a b c d e = record { verb = a; id = b; number = c; provider = d; provideport = e }
+
+abbrev pub stepOf : ℕ → ℕ → ℕ → Step
+stepOf a b c = record { verb = a; id = b; number = c }
+
+-- v with these sets
+abbrev pub withSets : Instance → ℕ → ℕ → ℕ → Instance
+withSets v m r e = record { present = v .present; kind = v .kind; marked = m; running = r; ended = e; queued = v .queued }
+
+-- an instance with nothing held and nothing queued
+abbrev pub bare : Bool → ℕ → ℕ → Instance
+bare present kind marked = record { present = present; kind = kind; marked = marked; running = 0; ended = 0; queued = 0 }
+
+abbrev pub connectionOf : ℕ → ℕ → ℕ → ℕ → Connection
+connectionOf a b c d = record { user = a; useport = b; provider = c; provideport = d }
+
+abbrev pub withSlot : Configuration → ℕ → ℕ → Configuration
+withSlot c n x = withQueue c (set (c .queue) n x)
+
+abbrev pub withConnection : Configuration → ℕ → Connection → Configuration
+withConnection c l k = withConnections c (set (c .connections) l k) (c .count)
+
+abbrev pub withCount : Configuration → ℕ → Configuration
+withCount c n = withConnections c (c .connections) n
+
+-- the set m with i in it, or without it
+abbrev pub changed : ℕ → ℕ → Bool → ℕ
+changed m i here = cond here (with i m) (without m (only i))

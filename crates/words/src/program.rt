@@ -1,0 +1,85 @@
+// The words of a program.
+use crate::ProgramWords;
+use crate::cell;
+use crate::put_row;
+use crate::put_word;
+ghost use mathlib.Core.Path.{_≡_};
+ghost use lib.ListN.{getD};
+ghost use Rattle.model.specs.Empty.{noInstruction, noProgram};
+ghost use Rattle.reading.specs.Fill.{programOf, withInstruction};
+ghost use Rattle.words.specs.Words.{programIn};
+ghost use Rattle.words.specs.Parts.{instructionOf};
+
+pub fn instruction_verb(program: &ProgramWords, n: u32) -> u32
+    ensures { λ r. ⌜ r ≡ getD (programIn (now (program .entry)) .instructions) n noInstruction .verb ⌝ }
+{
+    cell(program, 0, 256, 5, n as usize, 0)
+}
+
+pub fn instruction_id(program: &ProgramWords, n: u32) -> u32
+    ensures { λ r. ⌜ r ≡ getD (programIn (now (program .entry)) .instructions) n noInstruction .id ⌝ }
+{
+    cell(program, 0, 256, 5, n as usize, 1)
+}
+
+pub fn instruction_number(program: &ProgramWords, n: u32) -> u32
+    ensures { λ r. ⌜ r ≡ getD (programIn (now (program .entry)) .instructions) n noInstruction .number ⌝ }
+{
+    cell(program, 0, 256, 5, n as usize, 2)
+}
+
+pub fn instruction_provider(program: &ProgramWords, n: u32) -> u32
+    ensures { λ r. ⌜ r ≡ getD (programIn (now (program .entry)) .instructions) n noInstruction .provider ⌝ }
+{
+    cell(program, 0, 256, 5, n as usize, 3)
+}
+
+pub fn instruction_provideport(program: &ProgramWords, n: u32) -> u32
+    ensures { λ r. ⌜ r ≡ getD (programIn (now (program .entry)) .instructions) n noInstruction .provideport ⌝ }
+{
+    cell(program, 0, 256, 5, n as usize, 4)
+}
+
+pub fn instructions(program: &ProgramWords) -> u32
+    ensures { λ r. ⌜ r ≡ programIn (now (program .entry)) .count ⌝ }
+{
+    program[1280]
+}
+
+// Instruction n; past the last nothing changes.
+pub fn put_instruction(
+    program: &mut ProgramWords,
+    n: u32,
+    verb: u32,
+    id: u32,
+    number: u32,
+    provider: u32,
+    provideport: u32,
+)
+    ensures { λ r. ⌜ programIn (now (program .exit))
+        ≡ withInstruction (programIn (now (program .entry))) n (instructionOf verb id number provider provideport) ⌝ }
+{
+    put_row(
+        program,
+        0,
+        256,
+        5,
+        n as usize,
+        0,
+        &[verb, id, number, provider, provideport],
+    );
+}
+
+// No instruction; then a program of so many, none written down yet.
+pub fn clear_program(program: &mut ProgramWords)
+    ensures { λ r. ⌜ programIn (now (program .exit)) ≡ noProgram ⌝ }
+{
+    *program = [0u32; 1281];
+}
+
+pub fn start_program(program: &mut ProgramWords, count: u32)
+    ensures { λ r. ⌜ programIn (now (program .exit)) ≡ programOf count ⌝ }
+{
+    *program = [0u32; 1281];
+    put_word(program, 1280, count);
+}
