@@ -1,0 +1,2 @@
+-- The checks that the moves share.
+pub mod Rows

@@ -1,0 +1,2 @@
+-- The questions of the port check as values, and what a move takes and gives.
+pub mod Tests

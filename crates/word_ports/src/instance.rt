@@ -1,0 +1,129 @@
+// One instance by itself: what is held, which ports are active, what leaves and enters a place, which ports refuse.
+use words::StateWords;
+use words::TableWords;
+use words::state::ended;
+use words::state::kind;
+use words::state::marked;
+use words::state::queued;
+use words::state::running;
+use words::state::slot;
+use words::tables::behavior_of;
+use words::tables::destination;
+use words::tables::group_places;
+use words::tables::group_transitions;
+use words::tables::source;
+ghost use mathlib.Core.Path.{_≡_};
+ghost use Rattle.sets.specs.Mask.{collect};
+ghost use Rattle.model.specs.View.{instance};
+ghost use Rattle.rules.specs.Instance.{held, active, endsAt, leaving, entering};
+ghost use Rattle.rules.specs.Ports.{behavior, wouldLeave};
+ghost use Rattle.words.specs.Words.{tablesIn, stateIn};
+ghost use Rattle.word_ports.specs.Tests.{endOf, activeWith, refusingAt};
+
+fn ends_at(tables: &TableWords, out: bool, k: u32, m: u32, p: u32, x: u32) -> bool
+    ensures { λ r. ⌜ r ≡ endsAt (endOf (tablesIn (now (tables .entry))) out k) m p x ⌝ }
+{
+    if !sets::member(m, x) {
+        return false;
+    }
+    if out {
+        source(tables, k, x) == p
+    } else {
+        destination(tables, k, x) == p
+    }
+}
+
+// The transitions of the set m of type k that leave p, or that lead to it.
+fn ending_at(tables: &TableWords, out: bool, k: u32, m: u32, p: u32) -> u32
+    ensures { λ r. ⌜ r ≡ collect 32 (endsAt (endOf (tablesIn (now (tables .entry))) out k) m p) ⌝ }
+{
+    let mut xs: u32 = 0;
+    let mut x: u32 = 0;
+    while x < 32 {
+        if ends_at(tables, out, k, m, p, x) {
+            xs = sets::with(xs, x);
+        }
+        x += 1;
+    }
+    xs
+}
+
+pub fn leaving(tables: &TableWords, k: u32, m: u32, p: u32) -> u32
+    ensures { λ r. ⌜ r ≡ leaving (tablesIn (now (tables .entry))) k m p ⌝ }
+{
+    ending_at(tables, true, k, m, p)
+}
+
+pub fn entering(tables: &TableWords, k: u32, m: u32, p: u32) -> u32
+    ensures { λ r. ⌜ r ≡ entering (tablesIn (now (tables .entry))) k m p ⌝ }
+{
+    ending_at(tables, false, k, m, p)
+}
+
+pub fn held(state: &StateWords, i: u32) -> u32
+    ensures { λ r. ⌜ r ≡ held (instance (stateIn (now (state .entry))) i) ⌝ }
+{
+    sets::joined(running(state, i), ended(state, i))
+}
+
+// Port q of an instance of type k is active, where these places are marked and these transitions held.
+pub fn active_with(tables: &TableWords, k: u32, marks: u32, holds: u32, q: u32) -> bool
+    ensures { λ r. ⌜ r ≡ activeWith (tablesIn (now (tables .entry))) k marks holds q ⌝ }
+{
+    sets::overlaps(marks, group_places(tables, k, q))
+        || sets::overlaps(holds, group_transitions(tables, k, q))
+}
+
+pub fn active(tables: &TableWords, state: &StateWords, i: u32, q: u32) -> bool
+    ensures { λ r. ⌜ r ≡ active (tablesIn (now (tables .entry))) (instance (stateIn (now (state .entry))) i) q ⌝ }
+{
+    active_with(tables, kind(state, i), marked(state, i), held(state, i), q)
+}
+
+// The current behavior of instance i: a set of transitions, none where its queue is empty.
+pub fn behavior(tables: &TableWords, state: &StateWords, i: u32) -> u32
+    ensures { λ r. ⌜ r ≡ behavior (tablesIn (now (tables .entry))) (stateIn (now (state .entry))) i ⌝ }
+{
+    if queued(state, i) == 0 {
+        return 0;
+    }
+    behavior_of(tables, kind(state, i), slot(state, i, 0))
+}
+
+fn would_leave(tables: &TableWords, state: &StateWords, i: u32, m: u32, q: u32, p: u32) -> bool
+    ensures { λ r. ⌜ r ≡ wouldLeave (tablesIn (now (tables .entry))) (instance (stateIn (now (state .entry))) i) m q p ⌝ }
+{
+    let marks = marked(state, i);
+    if !sets::member(marks, p) {
+        return false;
+    }
+    let k = kind(state, i);
+    let xs = leaving(tables, k, m, p);
+    if xs == 0 {
+        return false;
+    }
+    if sets::overlaps(xs, held(state, i)) {
+        return false;
+    }
+    let runs = sets::joined(running(state, i), xs);
+    let holds = sets::joined(runs, ended(state, i));
+    !active_with(tables, k, sets::without(marks, sets::only(p)), holds, q)
+}
+
+// Provide port q of instance i refuses.
+pub fn refusing(tables: &TableWords, state: &StateWords, i: u32, q: u32) -> bool
+    ensures { λ r. ⌜ r ≡ refusingAt (tablesIn (now (tables .entry))) (stateIn (now (state .entry))) i q ⌝ }
+{
+    if !active(tables, state, i, q) {
+        return false;
+    }
+    let m = behavior(tables, state, i);
+    let mut p: u32 = 0;
+    while p < 16 {
+        if would_leave(tables, state, i, m, q, p) {
+            return true;
+        }
+        p += 1;
+    }
+    false
+}
