@@ -1,0 +1,2 @@
+-- What is asked of a connection, as values.
+pub mod Queries

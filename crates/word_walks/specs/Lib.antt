@@ -1,0 +1,2 @@
+-- What a step and a walk have come to.
+pub mod Reached

@@ -1,0 +1,199 @@
+// One step by its verb, and the walk of an answer, in place.
+// Promised: what each leaves in the state and answers is the step and the walk of rules/specs.
+use word_instructions::add_check;
+use word_instructions::add_to;
+use word_instructions::con_check;
+use word_instructions::connections::connect;
+use word_instructions::connections::disconnect;
+use word_instructions::dcon_check;
+use word_instructions::del_check;
+use word_instructions::del_to;
+use word_instructions::push_to;
+use word_instructions::pushb_check;
+use word_instructions::wait_check;
+use word_moves::end_check;
+use word_moves::end_to;
+use word_moves::enter_check;
+use word_moves::enter_to;
+use word_moves::finish_check;
+use word_moves::finish_to;
+use word_moves::fire_check;
+use word_moves::fire_to;
+use words::AnswerWords;
+use words::ProgramWords;
+use words::StateWords;
+use words::TableWords;
+use words::answer::step_id;
+use words::answer::step_number;
+use words::answer::step_verb;
+use words::answer::steps;
+use words::program::instruction_id;
+use words::program::instruction_number;
+use words::program::instruction_provideport;
+use words::program::instruction_provider;
+use words::program::instruction_verb;
+use words::program::instructions;
+use words::state::done;
+use words::state::put_done;
+ghost use mathlib.Core.Path.{_≡_};
+ghost use Prim.Native.Nat.{ℕ, _<_, min};
+ghost use Rattle.model.specs.View.{stepsOf};
+ghost use Rattle.rules.specs.Action.{moveAction, actionCheck, effect};
+ghost use Rattle.rules.specs.Step.{actionAt, step};
+ghost use Rattle.rules.specs.Walk.{walk};
+ghost use Rattle.words.specs.Words.{tablesIn, programIn, answerIn, stateIn};
+ghost use Rattle.words.specs.Parts.{stepOf};
+ghost use Rattle.word_walks.specs.Reached.{tally, stepped, walked};
+
+const NO_INSTRUCTION_LEFT: u32 = 10;
+
+// How far a walk came: the steps allowed, and the number of the refusal, or 0.
+pub struct Passed {
+    pub accepted: u32,
+    pub refused: u32,
+}
+
+// The number of a move, by its verb: an unknown one counts as the last.
+fn move_check(tables: &TableWords, state: &StateWords, verb: u32, i: u32, n: u32) -> u32
+    ensures { λ r. ⌜ ((default : ℕ) → r ≡ actionCheck default (tablesIn (now (tables .entry))) (stateIn (now (state .entry))) (moveAction (stepOf verb i n))) ⌝ }
+{
+    match verb {
+        1 => fire_check(tables, state, i, n),
+        2 => end_check(state, i, n),
+        3 => enter_check(tables, state, i, n),
+        _ => finish_check(tables, state, i),
+    }
+}
+
+fn move_to(tables: &TableWords, state: &mut StateWords, verb: u32, i: u32, n: u32)
+    ensures { λ r. ⌜ stateIn (now (state .exit)) ≡ effect (tablesIn (now (tables .entry))) (stateIn (now (state .entry))) (moveAction (stepOf verb i n)) ⌝ }
+{
+    match verb {
+        1 => fire_to(tables, state, i, n),
+        2 => end_to(state, i, n),
+        3 => enter_to(tables, state, i, n),
+        _ => finish_to(state, i),
+    }
+}
+
+// The number of instruction n, by its verb: an unknown one counts as the last. Where it is 0 there is room for one more.
+fn line_check(
+    default: u32,
+    tables: &TableWords,
+    program: &ProgramWords,
+    state: &StateWords,
+    n: u32,
+) -> u32
+    ensures value { λ r. ⌜ r ≡ actionCheck default (tablesIn (now (tables .entry))) (stateIn (now (state .entry)))
+        (actionAt (programIn (now (program .entry))) n) ⌝ }
+    ensures room { λ r. ⌜ (r ≡ 0 → tally (stateIn (now (state .entry))) (actionAt (programIn (now (program .entry))) n) < 4294967295) ⌝ }
+{
+    let v = instruction_verb(program, n);
+    let i = instruction_id(program, n);
+    let m = instruction_number(program, n);
+    let w = instruction_provider(program, n);
+    let q = instruction_provideport(program, n);
+    match v {
+        0 => add_check(state, i),
+        1 => del_check(state, i),
+        2 => pushb_check(default, tables, state, i, m),
+        3 => con_check(tables, state, i, m, w, q),
+        4 => dcon_check(tables, state, i, m, w, q),
+        _ => wait_check(state, i),
+    }
+}
+
+fn line_to(tables: &TableWords, program: &ProgramWords, state: &mut StateWords, n: u32)
+    ensures { λ r. ⌜ (tally (stateIn (now (state .entry))) (actionAt (programIn (now (program .entry))) n) < 4294967295
+        → stateIn (now (state .exit)) ≡ effect (tablesIn (now (tables .entry))) (stateIn (now (state .entry)))
+        (actionAt (programIn (now (program .entry))) n)) ⌝ }
+{
+    let v = instruction_verb(program, n);
+    let i = instruction_id(program, n);
+    let m = instruction_number(program, n);
+    let w = instruction_provider(program, n);
+    let q = instruction_provideport(program, n);
+    match v {
+        0 => add_to(tables, state, i, m),
+        1 => del_to(state, i),
+        2 => push_to(state, i, m),
+        3 => connect(state, i, m, w, q),
+        4 => disconnect(state, i, m, w, q),
+        _ => {}
+    }
+}
+
+// One step: the number of its refusal and nothing changed, or 0 and what it changes.
+pub fn step(
+    default: u32,
+    tables: &TableWords,
+    program: &ProgramWords,
+    state: &mut StateWords,
+    verb: u32,
+    i: u32,
+    n: u32,
+) -> u32
+    ensures { λ r. ⌜ stepped r (stateIn (now (state .exit)))
+        ≡ step default (tablesIn (now (tables .entry))) (programIn (now (program .entry))) (stateIn (now (state .entry))) (stepOf verb i n) ⌝ }
+{
+    if verb != 0 {
+        let refused = move_check(tables, state, verb, i, n);
+        if refused != 0 {
+            return refused;
+        }
+        move_to(tables, state, verb, i, n);
+        return 0;
+    }
+    let at = done(state);
+    if instructions(program) <= at {
+        return NO_INSTRUCTION_LEFT;
+    }
+    let refused = line_check(default, tables, program, state, at);
+    if refused != 0 {
+        return refused;
+    }
+    line_to(tables, program, state, at);
+    put_done(state, at + 1);
+    0
+}
+
+// How many steps there are: no more than the array holds.
+fn step_count(answer: &AnswerWords) -> u32
+    ensures { λ r. ⌜ r ≡ min (answerIn (now (answer .entry)) .count) 1024 ⌝ }
+{
+    let n = steps(answer);
+    if n < 1024 { n } else { 1024 }
+}
+
+// The walk of an answer, to its end or to the first step that the rules forbid.
+pub fn walk(
+    default: u32,
+    tables: &TableWords,
+    program: &ProgramWords,
+    answer: &AnswerWords,
+    state: &mut StateWords,
+) -> Passed
+    ensures { λ r. ⌜ walked r (stateIn (now (state .exit)))
+        ≡ walk default (tablesIn (now (tables .entry))) (programIn (now (program .entry))) (stateIn (now (state .entry)))
+        (stepsOf (answerIn (now (answer .entry)))) ⌝ }
+{
+    let n = step_count(answer);
+    let mut k: u32 = 0;
+    while k < n {
+        let verb = step_verb(answer, k);
+        let i = step_id(answer, k);
+        let number = step_number(answer, k);
+        let refused = step(default, tables, program, state, verb, i, number);
+        if refused != 0 {
+            return Passed {
+                accepted: k,
+                refused,
+            };
+        }
+        k += 1;
+    }
+    Passed {
+        accepted: k,
+        refused: 0,
+    }
+}
