@@ -14,17 +14,18 @@ use Rattle.model.specs.declared.Configuration.{Configuration}
 use Rattle.model.specs.Empty.{noConnection}
 use Rattle.model.specs.View.{withConnections}
 use Rattle.rules.specs.Closing.{down, closed}
+use Rattle.rules.proofs.Closing.{down-none, down-next}
 use Rattle.rules.specs.DCon.{firstBelow}
 
 module _ (c : Configuration) (at : ℕ) where
   pub list-start : c ≡ withConnections c (down noConnection (c .connections) at 0) (c .count)
-  unfolding withConnections down
-  list-start = refl
+  unfolding withConnections
+  list-start = rw (down-none noConnection (c .connections) at)
 
   module _ (d : Configuration) (k : ℕ) (e : d ≡ withConnections c (down noConnection (c .connections) at k) (c .count)) where
     pub list-more : withConnections d (set (d .connections) (at + k) (getD (d .connections) (at + k + 1) noConnection)) (d .count) ≡ withConnections c (down noConnection (c .connections) at (k + 1)) (c .count)
-    unfolding withConnections down
-    list-more = rw (e, add-one k)
+    unfolding withConnections
+    list-more = rw (e, add-one k, down-next noConnection (c .connections) at k)
 
     pub list-end : (end : ℕ) → k ≤ end - 1 - at → end - 1 - at ≤ k
         → withConnections d (set (d .connections) (end - 1) noConnection) (d .count) ≡ withConnections c (closed noConnection (c .connections) at end) (c .count)

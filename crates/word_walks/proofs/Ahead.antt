@@ -20,7 +20,7 @@ use Rattle.model.specs.declared.Walked.{Walked}
 use Rattle.model.specs.Empty.{noStep}
 use Rattle.model.specs.View.{stepsOf}
 use Rattle.rules.specs.Step.{step}
-use Rattle.rules.specs.Walk.{oneMore, walk}
+use Rattle.rules.specs.Walk.{oneMore, walkBy, walk}
 
 -- the steps that are left at step i: none, or the one that is due and those after it
 module _ (a : Answer) (full : length (a .steps) ≡ 1024) (i : ℕ) where
@@ -56,8 +56,19 @@ module _ (default : ℕ) (t : Tables) (p : Program) (a : Answer) (c : Configurat
       pub walk-refused : m .refused ≢ 0
           → rest default t p a i c ≡ record { accepted = i; refused = m .refused; configuration = m .configuration }
       unfolding rest walk
-      walk-refused d = rw (one-left a full i within, walk, ← is, ne-eqb (m .refused) 0 d, ← is, add-zero)
+      walk-refused d = rw (one-left a full i within, walkBy, ← is, ne-eqb (m .refused) 0 d, ← is, add-zero)
 
       pub walk-more : m .refused ≡ 0 → rest default t p a i c ≡ rest default t p a (i + 1) (m .configuration)
       unfolding rest walk oneMore
-      walk-more e = rw (one-left a full i within, walk, ← is, eq-eqb (m .refused) 0 e, ← is, add-suc, add-one, suc-add)
+      walk-more e = rw (one-left a full i within, walkBy, ← is, eq-eqb (m .refused) 0 e, ← is, add-suc, add-one, suc-add)
+
+-- an answer of one step
+pub walk-alone : (default : ℕ) (t : Tables) (p : Program) (c : Configuration) (s : Step) (w : Walked) → w ≡ walk default t p c (s ∷ [])
+    → record { refused = w .refused; configuration = w .configuration } ≡ step default t p c s
+unfolding walk oneMore
+walk-alone default t p c s w e =
+    let m = step default t p c s in
+    let numbered : ℕ → Stepped = λ n. record { refused = n; configuration = m .configuration } in
+    by-cases (ℕ-discrete (m .refused) 0)
+    (λ z. rw (e, walkBy, eq-eqb (m .refused) 0 z) (ap numbered (sym z)))
+    (λ d. rw (e, walkBy, ne-eqb (m .refused) 0 d))

@@ -158,7 +158,7 @@ pub fn step(
 }
 
 // How many steps there are: no more than the array holds.
-fn step_count(answer: &AnswerWords) -> u32
+pub fn step_count(answer: &AnswerWords) -> u32
     ensures { λ r. ⌜ r ≡ min (answerIn (now (answer .entry)) .count) 1024 ⌝ }
 {
     let n = steps(answer);
