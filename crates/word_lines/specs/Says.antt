@@ -1,0 +1,16 @@
+-- What each case of each enum says: the values of the line and the bytes used, or 01's number.
+use Rattle.model.specs.declared.Instruction.{Instruction}
+use Rattle.texts.specs.Reads.{Outcome, past, fault}
+use Rattle.word_lines.specs.declared.Row.{Row}
+use Rattle.word_lines.specs.declared.RowLine.{RowLine}
+use Rattle.word_lines.specs.declared.RowLine.the-variants as row
+use Rattle.word_lines.specs.declared.Do.{Do}
+use Rattle.word_lines.specs.declared.Do.the-variants as instruction
+
+abbrev pub rowSays : RowLine → Outcome Row
+rowSays (row.Got x n) = past x n
+rowSays (row.Refused k) = fault k
+
+abbrev pub instructionSays : Do → Outcome Instruction
+instructionSays (instruction.Got v a b c d n) = past (record { verb = v; id = a; number = b; provider = c; provideport = d }) n
+instructionSays (instruction.Refused k) = fault k

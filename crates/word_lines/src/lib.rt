@@ -1,0 +1,262 @@
+// The kinds of lines that only a sheet has, each read from the part of the text that starts with it, and held to its limits.
+// Promised: each answers what its definition in crate reading replies to that part: the values and the bytes used, or 01's number.
+use lines::Line;
+use texts::Digits;
+use texts::Due;
+use texts::FourNumbers;
+use texts::Number;
+use texts::OneList;
+use texts::TwoLists;
+use texts::TwoNumbers;
+ghost use mathlib.Core.Path.{_≡_};
+ghost use lib.ListN.{drop};
+ghost use Rattle.texts.specs.Reads.{Reads, refusal};
+ghost use Rattle.lines.specs.Counts.{lineSays};
+ghost use Rattle.reading.specs.Limits.{typeOk};
+ghost use Rattle.reading.specs.Kinds.{initialLine, doId, doNumber, doEnds, doLine};
+ghost use Rattle.word_lines.specs.declared.Rows.the-variants.{Transitions, Behaviors, Ports};
+ghost use Rattle.word_lines.specs.Says.{rowSays, instructionSays};
+ghost use Rattle.word_lines.specs.Rows.{portAfter, rowLine};
+
+// The rows that a type has.
+pub enum Rows {
+    Transitions,
+    Behaviors,
+    Ports,
+}
+
+// The numbers that the line of a row has, and 0 for those that it has not: a transition its ends, a behavior its transitions,
+// a port 1 for use and 0 for provide, and its group.
+pub struct Row {
+    pub source: u32,
+    pub destination: u32,
+    pub uses: u32,
+    pub places: u32,
+    pub transitions: u32,
+}
+
+// What the rows of a type are held to: how many places it has, which are initial, and how many transitions it has.
+pub struct Known {
+    pub places: u32,
+    pub initial: u32,
+    pub transitions: u32,
+}
+
+pub enum RowLine {
+    Got(Row, usize),
+    Refused(u8),
+}
+
+// Verb, id, number, provider and provideport, 0 for those that the line has not.
+pub enum Do {
+    Got(u32, u32, u32, u32, u32, usize),
+    Refused(u8),
+}
+
+// `initial=` list, in a type of so many places.
+pub fn initial_line(s: &[u8], places: u32) -> Line
+    ensures { λ r. ⌜ Reads (now (s .entry)) (lineSays r) (initialLine places (now (s .entry))) ⌝ }
+{
+    let OneList::Got(mask, top, used) = texts::list_line(s, b"initial=", Digits::Five) else {
+        return Line::Refused(2);
+    };
+    if places < top {
+        return Line::Refused(3);
+    }
+    if top == 0 {
+        return Line::Refused(4);
+    }
+    Line::Got(mask, used)
+}
+
+// `tran=source,destination`, in a type of which so much is known.
+fn tran_line(s: &[u8], known: Known) -> RowLine
+    ensures { λ r. ⌜ Reads (now (s .entry)) (rowSays r) (rowLine Transitions known (now (s .entry))) ⌝ }
+{
+    let TwoNumbers::Got(a, b, used) = texts::two_numbers_line(s, b"tran=", Digits::Five) else {
+        return RowLine::Refused(2);
+    };
+    if known.places <= a {
+        return RowLine::Refused(3);
+    }
+    if known.places <= b {
+        return RowLine::Refused(3);
+    }
+    if a == b {
+        return RowLine::Refused(4);
+    }
+    let row = Row {
+        source: a,
+        destination: b,
+        uses: 0,
+        places: 0,
+        transitions: 0,
+    };
+    RowLine::Got(row, used)
+}
+
+// `behavior=` list of transitions.
+fn behavior_line(s: &[u8], known: Known) -> RowLine
+    ensures { λ r. ⌜ Reads (now (s .entry)) (rowSays r) (rowLine Behaviors known (now (s .entry))) ⌝ }
+{
+    let OneList::Got(mask, top, used) = texts::list_line(s, b"behavior=", Digits::Five) else {
+        return RowLine::Refused(2);
+    };
+    if known.transitions < top {
+        return RowLine::Refused(3);
+    }
+    let row = Row {
+        source: 0,
+        destination: 0,
+        uses: 0,
+        places: 0,
+        transitions: mask,
+    };
+    RowLine::Got(row, used)
+}
+
+// What follows `port=use,` or `port=provide,`. A provide port may have initial places: it is held to none of them.
+fn port_after(s: &[u8], at: usize, uses: u32, known: Known, initial: u32) -> RowLine
+    ensures { λ r. ⌜ Reads (now (s .entry)) (rowSays r) (portAfter uses (known .places) (known .transitions) initial (drop at (now (s .entry)))) ⌝ }
+{
+    let TwoLists::Got(places, m, transitions, n, used) = texts::two_lists(s, at, Digits::Five)
+    else {
+        return RowLine::Refused(2);
+    };
+    if known.places < m {
+        return RowLine::Refused(3);
+    }
+    if known.transitions < n {
+        return RowLine::Refused(3);
+    }
+    if sets::overlaps(initial, places) {
+        return RowLine::Refused(4);
+    }
+    let row = Row {
+        source: 0,
+        destination: 0,
+        uses,
+        places,
+        transitions,
+    };
+    RowLine::Got(row, used)
+}
+
+// `port=`
+fn port_line(s: &[u8], known: Known) -> RowLine
+    ensures { λ r. ⌜ Reads (now (s .entry)) (rowSays r) (rowLine Ports known (now (s .entry))) ⌝ }
+{
+    if let Due::Past(i) = texts::past_key(s, 0, b"port=use,") {
+        return port_after(s, i, 1, known, known.initial);
+    }
+    if let Due::Past(i) = texts::past_key(s, 0, b"port=provide,") {
+        return port_after(s, i, 0, known, 0);
+    }
+    RowLine::Refused(2)
+}
+
+// The line of a row, in a type of which so much is known.
+pub fn row_line(s: &[u8], rows: Rows, known: Known) -> RowLine
+    ensures { λ r. ⌜ Reads (now (s .entry)) (rowSays r) (rowLine rows known (now (s .entry))) ⌝ }
+{
+    match rows {
+        Rows::Transitions => tran_line(s, known),
+        Rows::Behaviors => behavior_line(s, known),
+        Rows::Ports => port_line(s, known),
+    }
+}
+
+// What follows `do=del,` and `do=wait,`.
+fn do_id(s: &[u8], at: usize, verb: u32) -> Do
+    ensures { λ r. ⌜ Reads (now (s .entry)) (instructionSays r) (doId verb (drop at (now (s .entry)))) ⌝ }
+{
+    let Number::Got(a, used) = texts::one_number(s, at, Digits::Five) else {
+        return Do::Refused(2);
+    };
+    if 31 < a {
+        return Do::Refused(3);
+    }
+    Do::Got(verb, a, 0, 0, 0, used)
+}
+
+// What follows `do=add,` and `do=pushb,`: the number is below so many.
+fn do_number(s: &[u8], at: usize, verb: u32, below: u32) -> Do
+    ensures { λ r. ⌜ Reads (now (s .entry)) (instructionSays r) (doNumber verb (typeOk below) (drop at (now (s .entry)))) ⌝ }
+{
+    let TwoNumbers::Got(a, b, used) = texts::two_numbers(s, at, Digits::Five) else {
+        return Do::Refused(2);
+    };
+    if 31 < a {
+        return Do::Refused(3);
+    }
+    if below <= b {
+        return Do::Refused(3);
+    }
+    Do::Got(verb, a, b, 0, 0, used)
+}
+
+// What follows `do=con,` and `do=dcon,`.
+fn do_ends(s: &[u8], at: usize, verb: u32) -> Do
+    ensures { λ r. ⌜ Reads (now (s .entry)) (instructionSays r) (doEnds verb (drop at (now (s .entry)))) ⌝ }
+{
+    let FourNumbers::Got(a, b, c, d, used) = texts::four_numbers(s, at, Digits::Five) else {
+        return Do::Refused(2);
+    };
+    if 31 < a {
+        return Do::Refused(3);
+    }
+    if 15 < b {
+        return Do::Refused(3);
+    }
+    if 31 < c {
+        return Do::Refused(3);
+    }
+    if 15 < d {
+        return Do::Refused(3);
+    }
+    Do::Got(verb, a, b, c, d, used)
+}
+
+// `do=`, in a sheet of so many types.
+pub fn do_line(s: &[u8], types: u32) -> Do
+    ensures { λ r. ⌜ Reads (now (s .entry)) (instructionSays r) (doLine types (now (s .entry))) ⌝ }
+{
+    if let Due::Past(i) = texts::past_key(s, 0, b"do=add,") {
+        return do_number(s, i, 0, types);
+    }
+    if let Due::Past(i) = texts::past_key(s, 0, b"do=del,") {
+        return do_id(s, i, 1);
+    }
+    if let Due::Past(i) = texts::past_key(s, 0, b"do=pushb,") {
+        return do_number(s, i, 2, 8);
+    }
+    if let Due::Past(i) = texts::past_key(s, 0, b"do=con,") {
+        return do_ends(s, i, 3);
+    }
+    if let Due::Past(i) = texts::past_key(s, 0, b"do=dcon,") {
+        return do_ends(s, i, 4);
+    }
+    if let Due::Past(i) = texts::past_key(s, 0, b"do=wait,") {
+        return do_id(s, i, 5);
+    }
+    Do::Refused(2)
+}
+
+// The number of a line's refusal, 0 where the line was read.
+pub fn row_refusal(line: RowLine) -> u8
+    ensures { λ r. ⌜ r ≡ refusal (rowSays line) ⌝ }
+{
+    match line {
+        RowLine::Got(_, _) => 0,
+        RowLine::Refused(k) => k,
+    }
+}
+
+pub fn do_refusal(line: Do) -> u8
+    ensures { λ r. ⌜ r ≡ refusal (instructionSays line) ⌝ }
+{
+    match line {
+        Do::Got(_, _, _, _, _, _) => 0,
+        Do::Refused(k) => k,
+    }
+}
