@@ -11,7 +11,7 @@ use Rattle.forms.specs.Reader.{Reader}
 use Rattle.forms.proofs.Tests.{by-test}
 use Rattle.texts.specs.Reads.{Reads}
 use Rattle.reading.specs.Limits.{lengthOk}
-use Rattle.reading.specs.Lines.{Run, Lines, runOn, handOn, line}
+use Rattle.reading.specs.Lines.{Run, Lines, on, stop, runOn, handOn, line}
 use Rattle.lines.specs.declared.Went.{Went}
 use Rattle.lines.specs.declared.Went.the-variants.{On, Stop}
 use Rattle.lines.specs.declared.Line.{Line}
@@ -39,6 +39,10 @@ module _ {A : Type 0} {s : List ℕ} {a : LinesRead} {f : Lines A} {b : A} where
 
   pub after-went : {r : LinesRead} → a .went ≡ On → RunsTo s (r .went) (r .at) b (f (drop (a .at) s)) → After s a f r b
   after-went e h = record { went = λ _. h; stopped = λ k g. absurd (not-both (sym e ∙ g)) }
+
+  -- the same where the lines were read from the place at on
+  pub after-from : {r : LinesRead} (at : ℕ) → a .went ≡ On → at ≡ min (a .at) (length s) → RunsTo s (r .went) (r .at) b (f (drop at s)) → After s a f r b
+  after-from at e p h = after-went e (rw (same-rest s (a .at) at p) at h)
 
 -- a run m, then what follows it
 module _ {A B : Type 0} {s : List ℕ} {r q : LinesRead} {b : A} {c : B} (m : Run A) (g : A → Lines B) where
@@ -95,3 +99,12 @@ module _ {A : Type 0} (none : A) (m : Lines A) (s : List ℕ) where
 
     pub came-read : w ≡ On → record { refused = refusalOf w; place = at; value = a } ≡ whole none m s
     came-read e = let g = rw e at h in rw (e, whole-shortly, sym (g .same), place-is s at (g .within))
+
+-- beside a refusal nothing is handed out
+module _ {A : Type 0} (none : A) (m : Lines A) (s : List ℕ) where
+  outcome-none : (x : Run A) → (outcome none s x .refused ≡ 0 → ⊥) → outcome none s x .value ≡ none
+  outcome-none (on a r) n = absurd (n refl)
+  outcome-none (stop k r) n = refl
+
+  pub nothing-beside : (whole none m s .refused ≡ 0 → ⊥) → whole none m s .value ≡ none
+  nothing-beside n = rw (whole-shortly none m s) (outcome-none (shortly m s) (λ e. n (rw (whole-shortly none m s) e)))

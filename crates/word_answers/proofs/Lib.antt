@@ -1,0 +1,2 @@
+-- That no other answer fits the promises (Once).
+pub mod Once

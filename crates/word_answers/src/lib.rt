@@ -1,0 +1,171 @@
+// An answer read whole into lent words: its two first lines, then its steps, each line from the part of the text that starts with it.
+// Promised: for every text `fill_answer` answers the one number and place that `answerRead` gives of it, and the words say the answer that it
+// gives, whatever they held before.
+use lines::Limit;
+use lines::Went;
+use runs::LinesRead;
+use runs::NumberRead;
+use runs::Place;
+use texts::Digits;
+use texts::Due;
+use texts::Number;
+use texts::TwoNumbers;
+use words::AnswerWords;
+ghost use mathlib.Core.Path.{_≡_};
+ghost use lib.ListN.{drop};
+ghost use Rattle.texts.specs.Reads.{Reads, refusal};
+ghost use Rattle.reading.specs.Lines.{each};
+ghost use Rattle.reading.specs.Kinds.{stepId, stepNumber, stepLine};
+ghost use Rattle.reading.specs.Texts.{stepAt};
+ghost use Rattle.lines.specs.Runs.{RunsTo};
+ghost use Rattle.runs.specs.Chain.{After};
+ghost use Rattle.runs.specs.Whole.{beside};
+ghost use Rattle.words.specs.Words.{answerIn};
+ghost use Rattle.word_answers.specs.Says.{runsTo, stepSays};
+ghost use Rattle.word_answers.specs.Answer.{answerLines, answerRead};
+
+// The codes of the verbs, as in model::Step.
+const NEXT: u32 = 0;
+
+const FIRE: u32 = 1;
+
+const END: u32 = 2;
+
+const ENTER: u32 = 3;
+
+const FINISH: u32 = 4;
+
+// Verb, id and number, 0 for those that the line has not, and the bytes that the line used; or the number of the refusal.
+pub enum StepLine {
+    Got(u32, u32, u32, usize),
+    Refused(u8),
+}
+
+// What follows `step=finish,`.
+fn step_id(s: &[u8], at: usize, verb: u32) -> StepLine
+    ensures { λ r. ⌜ Reads (now (s .entry)) (stepSays r) (stepId verb (drop at (now (s .entry)))) ⌝ }
+{
+    let Number::Got(a, used) = texts::one_number(s, at, Digits::Five) else {
+        return StepLine::Refused(2);
+    };
+    if 31 < a {
+        return StepLine::Refused(3);
+    }
+    StepLine::Got(verb, a, 0, used)
+}
+
+// What follows `step=fire,`, `step=end,` and `step=enter,`: an id, and a number that runs to the greatest.
+fn step_number(s: &[u8], at: usize, verb: u32, greatest: u32) -> StepLine
+    ensures { λ r. ⌜ Reads (now (s .entry)) (stepSays r) (stepNumber verb (runsTo greatest) (drop at (now (s .entry)))) ⌝ }
+{
+    let TwoNumbers::Got(a, b, used) = texts::two_numbers(s, at, Digits::Five) else {
+        return StepLine::Refused(2);
+    };
+    if 31 < a {
+        return StepLine::Refused(3);
+    }
+    if greatest < b {
+        return StepLine::Refused(3);
+    }
+    StepLine::Got(verb, a, b, used)
+}
+
+// `step=`
+pub fn step_line(s: &[u8]) -> StepLine
+    ensures { λ r. ⌜ Reads (now (s .entry)) (stepSays r) (stepLine (now (s .entry))) ⌝ }
+{
+    if let Due::Past(used) = texts::past_key(s, 0, b"step=next\n") {
+        return StepLine::Got(NEXT, 0, 0, used);
+    }
+    if let Due::Past(i) = texts::past_key(s, 0, b"step=fire,") {
+        return step_number(s, i, FIRE, 15);
+    }
+    if let Due::Past(i) = texts::past_key(s, 0, b"step=end,") {
+        return step_number(s, i, END, 31);
+    }
+    if let Due::Past(i) = texts::past_key(s, 0, b"step=enter,") {
+        return step_number(s, i, ENTER, 15);
+    }
+    if let Due::Past(i) = texts::past_key(s, 0, b"step=finish,") {
+        return step_id(s, i, FINISH);
+    }
+    StepLine::Refused(2)
+}
+
+// The number of a line's refusal, 0 where the line was read.
+pub fn step_refusal(line: StepLine) -> u8
+    ensures { λ r. ⌜ r ≡ refusal (stepSays line) ⌝ }
+{
+    match line {
+        StepLine::Got(_, _, _, _) => 0,
+        StepLine::Refused(k) => k,
+    }
+}
+
+// Step n, from the part of the text that starts with its line.
+fn read_step(text: &[u8], start: usize, n: u32, answer: &mut AnswerWords) -> LinesRead
+    ensures { λ r. ⌜ RunsTo (now (text .entry)) (r .went) (r .at) (answerIn (now (answer .exit)))
+        (stepAt n (answerIn (now (answer .entry))) (drop start (now (text .entry)))) ⌝ }
+{
+    let at = texts::place_in(text, start);
+    let line = step_line(&text[at..]);
+    let StepLine::Got(verb, id, number, used) = line else {
+        let refused = step_refusal(line);
+        let went = Went::Stop(refused);
+        return LinesRead { went, at };
+    };
+    words::answer::put_step(answer, n, verb, id, number);
+    let next = at + used;
+    let went = Went::On;
+    LinesRead { went, at: next }
+}
+
+// As many steps as the last line said.
+fn then_steps(text: &[u8], count: NumberRead, answer: &mut AnswerWords) -> LinesRead
+    ensures { λ r. ⌜ After (now (text .entry)) (count .read) (each stepAt (count .number) 0 (answerIn (now (answer .entry)))) r (answerIn (now (answer .exit))) ⌝ }
+{
+    let read = count.read;
+    let went = read.went;
+    let Went::On = went else {
+        return read;
+    };
+    let most = count.number;
+    let mut at = texts::place_in(text, read.at);
+    let mut i: u32 = 0;
+    while i < most {
+        let read = read_step(text, at, i, answer);
+        let went = read.went;
+        let Went::On = went else {
+            return read;
+        };
+        at = read.at;
+        i = i + 1;
+    }
+    let went = Went::On;
+    LinesRead { went, at }
+}
+
+// The lines of an answer, up to the text's end.
+fn read_lines(text: &[u8], answer: &mut AnswerWords) -> LinesRead
+    ensures { λ r. ⌜ RunsTo (now (text .entry)) (r .went) (r .at) (answerIn (now (answer .exit))) (answerLines (now (text .entry))) ⌝ }
+{
+    let length = runs::length_run(text);
+    let first = runs::then_due(text, length, b"answer=", 1);
+    let count = runs::then_number(text, first, b"steps=", Limit::Steps);
+    words::answer::start_answer(answer, count.number);
+    let steps = then_steps(text, count, answer);
+    runs::then_end(text, steps)
+}
+
+// The answer of a text of any length, in the lent words, whatever these held before; beside a refusal they are all 0.
+pub fn fill_answer(text: &[u8], answer: &mut AnswerWords) -> Place
+    ensures { λ r. ⌜ beside r (answerIn (now (answer .exit))) ≡ answerRead (now (text .entry)) ⌝ }
+{
+    let read = read_lines(text, answer);
+    let went = read.went;
+    let Went::On = went else {
+        words::answer::clear_answer(answer);
+        return runs::came_to(read);
+    };
+    runs::came_to(read)
+}
