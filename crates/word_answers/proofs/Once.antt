@@ -1,7 +1,7 @@
 -- That no other answer fits the promise of a step line, and no other outcome and no other words that of an answer's text.
 -- Assumes nothing.
 use Prim.Native.Nat.{ℕ}
-use mathlib.Core.Path.{_≡_, refl, sym, ap, _∙_}
+use mathlib.Core.Path.{refl, sym, ap, _∙_}
 use lib.ListN.{length-replicate}
 use Rattle.model.specs.declared.Answer.{Answer}
 use Rattle.model.specs.Empty.{noAnswer}

@@ -122,7 +122,8 @@ fn read_step(text: &[u8], start: usize, n: u32, answer: &mut AnswerWords) -> Lin
 
 // As many steps as the last line said.
 fn then_steps(text: &[u8], count: NumberRead, answer: &mut AnswerWords) -> LinesRead
-    ensures { λ r. ⌜ After (now (text .entry)) (count .read) (each stepAt (count .number) 0 (answerIn (now (answer .entry)))) r (answerIn (now (answer .exit))) ⌝ }
+    ensures { λ r. ⌜ After (now (text .entry)) (count .read) (each stepAt (count .number) 0 (answerIn (now (answer .entry)))) r
+        (answerIn (now (answer .exit))) ⌝ }
 {
     let read = count.read;
     let went = read.went;

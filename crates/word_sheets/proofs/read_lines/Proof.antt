@@ -1,0 +1,26 @@
+use Rattle.reading.specs.Texts.{sheet}
+use Rattle.runs.specs.Chain.{shortly}
+use Rattle.runs.proofs.Chain.{run-after, after-then, after-give}
+use borrow.Author.Needs.{needs}
+use Rattle.word_sheets.proofs.read_lines.Statement.{statement}
+use Rattle.word_sheets.proofs.read_lines.Tie as tie
+
+then-types-requires : tie.Need-then-types-requires
+then-types-requires c κs = c .before .before .before .then-number2 .ensures .1
+
+returns : tie.Need-returns
+unfolding shortly sheet
+returns c =
+    run-after _ _ (c .before .before .before .before .before .before .before .before .before .before .before .before .before .before .before .before .before .length-run .ensures)
+    (after-then _ _ (c .before .before .before .before .before .before .before .before .before .before .before .before .before .before .before .then-due .ensures)
+    (after-then _ _ (c .before .before .before .before .before .before .before .before .before .before .before .before .before .then-number .ensures .0)
+    (after-then _ _ (c .before .before .before .before .before .before .before .before .before .before .before .then-number2 .ensures .0)
+    (after-then _ _ (rw (c .before .before .before .before .before .before .before .before .before .start-tables .ensures) at (c .before .before .before .before .before .before .before .then-types .ensures))
+    (after-then _ _ (c .before .before .before .before .before .then-number3 .ensures .0)
+    (after-then _ _ (rw (c .before .before .before .start-program .ensures) at (c .before .then-instructions .ensures))
+    (after-give _ _ (c .then-end .ensures))))))))
+
+pub read-lines-spec : {M : Type 1} → statement M
+read-lines-spec =
+    tie.close
+    (tie.spec (λ c κs. search needs) (λ c. search needs) (λ c κs. search needs) (λ c. search needs) (λ c κs. search needs) (λ c. search needs) (λ c κs. search needs) (λ c κs. search needs) then-types-requires (λ c. search needs) (λ c κs. search needs) (λ c κs. search needs) (λ c κs. search needs) (λ c κs. search needs) returns)

@@ -1,0 +1,52 @@
+// A sheet read whole into lent words: its types with their rows, then its program, each line from the part of the text that starts with it.
+// Promised: for every text `fill_sheet` answers the one number and place that `sheetRead` gives of it, and the words say the tables and the
+// program that it gives, whatever they held before.
+mod programs;
+mod types;
+
+use lines::Limit;
+use lines::Went;
+use programs::then_instructions;
+use runs::LinesRead;
+use runs::Place;
+use types::then_types;
+use words::ProgramWords;
+use words::TableWords;
+ghost use mathlib.Core.Path.{_≡_};
+ghost use Rattle.reading.specs.Texts.{sheet};
+ghost use Rattle.lines.specs.Runs.{RunsTo};
+ghost use Rattle.runs.specs.Chain.{shortly};
+ghost use Rattle.runs.specs.Whole.{beside};
+ghost use Rattle.words.specs.Words.{tablesIn, programIn};
+ghost use Rattle.word_sheets.specs.Sheet.{sheetRead};
+
+// The lines of a sheet, up to the text's end.
+fn read_lines(text: &[u8], tables: &mut TableWords, program: &mut ProgramWords) -> LinesRead
+    ensures { λ r. ⌜ RunsTo (now (text .entry)) (r .went) (r .at) (tablesIn (now (tables .exit)), programIn (now (program .exit)))
+        (shortly sheet (now (text .entry))) ⌝ }
+{
+    let length = runs::length_run(text);
+    let first = runs::then_due(text, length, b"sheet=", 1);
+    let depth = runs::then_number(text, first, b"depth=", Limit::Depth);
+    let types = runs::then_number(text, depth.read, b"types=", Limit::Types);
+    words::tables::start_tables(tables, depth.number, types.number);
+    let filled = then_types(text, types, tables);
+    let count = runs::then_number(text, filled, b"program=", Limit::Program);
+    words::program::start_program(program, count.number);
+    let instructions = then_instructions(text, count, types.number, program);
+    runs::then_end(text, instructions)
+}
+
+// The sheet of a text of any length, in the lent words, whatever these held before; beside a refusal they are all 0.
+pub fn fill_sheet(text: &[u8], tables: &mut TableWords, program: &mut ProgramWords) -> Place
+    ensures { λ r. ⌜ beside r (tablesIn (now (tables .exit)), programIn (now (program .exit))) ≡ sheetRead (now (text .entry)) ⌝ }
+{
+    let read = read_lines(text, tables, program);
+    let went = read.went;
+    let Went::On = went else {
+        words::tables::clear_tables(tables);
+        words::program::clear_program(program);
+        return runs::came_to(read);
+    };
+    runs::came_to(read)
+}
