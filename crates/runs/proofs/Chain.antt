@@ -23,13 +23,13 @@ use Rattle.lines.proofs.Runs.{stopped, went-on, run-refused, run-then, run-seen
 use Rattle.runs.specs.declared.LinesRead.{LinesRead}
 use Rattle.runs.specs.declared.NumberRead.{NumberRead}
 use Rattle.runs.specs.Whole.{outcome, whole}
-use Rattle.runs.specs.Chain.{After, short, shortly, numberRun}
+use Rattle.runs.specs.Chain.{After, Held, short, shortly, numberRun}
 
 -- a reading either went on or stopped
-not-both : {k : ℕ} → On ≡ Stop k → ⊥
+pub not-both : {k : ℕ} → On ≡ Stop k → ⊥
 not-both e = let z : _≡_ {A = ℕ} 0 1 = cc in absurd (omega arith)
 
-one-of : (w : Went) → (w ≡ On) ⊎ ((k : ℕ) × (w ≡ Stop k))
+pub one-of : (w : Went) → (w ≡ On) ⊎ ((k : ℕ) × (w ≡ Stop k))
 one-of On = inl refl
 one-of (Stop k) = inr (k, refl)
 
@@ -71,9 +71,9 @@ module _ (m : Reader ℕ) (s : List ℕ) (start : ℕ) where
   number-read (line.Got n to) h e = rw e (went-on (h .within) (rw (sym (h .same))))
   number-read (line.Refused k) h e = rw e (stopped (omega arith) (rw (sym (h .same), same-rest s start (min start (length s)) refl)))
 
-pub number-few : (a b : ℕ) (s : List ℕ) (start : ℕ) (x : Line) {r : NumberRead} → Lies a b x → r ≡ numberRun (min start (length s)) x → r .number ≤ b
-number-few a b s start (line.Got n to) l e = rw e (l .1)
-number-few a b s start (line.Refused k) l e = rw e zero-le
+pub number-held : (a b : ℕ) (s : List ℕ) (start : ℕ) (x : Line) {r : NumberRead} → Lies a b x → r ≡ numberRun (min start (length s)) x → Held b r
+number-held a b s start (line.Got n to) l e = rw e (record { few = l .1; none = λ k g. absurd (not-both g) })
+number-held a b s start (line.Refused k) l e = rw e (record { few = zero-le; none = λ j g. refl })
 
 -- ---- a whole text
 module _ (s : List ℕ) where

@@ -1,3 +1,4 @@
--- A line that is put into what was read so far, and what a whole text comes to (Laws), and lines in a chain (Chain).
+-- A line that is put into what was read so far, and what a whole text comes to (Laws), lines in a chain (Chain), and that no other answer fits (Once).
 pub mod Laws
 pub mod Chain
+pub mod Once

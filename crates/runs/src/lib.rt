@@ -7,13 +7,13 @@ use lines::Line;
 use lines::Went;
 use texts::Due;
 ghost use mathlib.Core.Path.{_≡_};
-ghost use Prim.Native.Nat.{_≤_, min};
+ghost use Prim.Native.Nat.{min};
 ghost use lib.ListN.{length, drop};
 ghost use Rattle.reading.specs.Kinds.{dueLine, countLine};
 ghost use Rattle.reading.specs.Lines.{line, atEnd};
 ghost use Rattle.lines.specs.Counts.{limitOk, greatest};
 ghost use Rattle.lines.specs.Runs.{RunsTo, refusalOf};
-ghost use Rattle.runs.specs.Chain.{After, short, numberRun};
+ghost use Rattle.runs.specs.Chain.{After, Held, short, numberRun};
 
 // Whether a run of lines went on, and the place of the next line or of the line at fault.
 pub struct LinesRead {
@@ -97,7 +97,7 @@ pub fn then_due(text: &[u8], read: LinesRead, key: &[u8], number: u32) -> LinesR
 // The line of a key and a number within its limit.
 pub fn then_number(text: &[u8], read: LinesRead, key: &[u8], limit: Limit) -> NumberRead
     ensures reads { λ r. ⌜ After (now (text .entry)) read (line (countLine (now (key .entry)) (limitOk limit))) (r .read) (r .number) ⌝ }
-    ensures few { λ r. ⌜ r .number ≤ greatest limit ⌝ }
+    ensures held { λ r. ⌜ Held (greatest limit) r ⌝ }
 {
     let went = read.went;
     let Went::On = went else {

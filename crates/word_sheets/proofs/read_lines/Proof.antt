@@ -6,7 +6,7 @@ use Rattle.word_sheets.proofs.read_lines.Statement.{statement}
 use Rattle.word_sheets.proofs.read_lines.Tie as tie
 
 then-types-requires : tie.Need-then-types-requires
-then-types-requires c κs = c .before .before .before .then-number2 .ensures .1
+then-types-requires c κs = c .before .before .before .then-number2 .ensures .1 .few
 
 returns : tie.Need-returns
 unfolding shortly sheet

@@ -9,13 +9,13 @@ use Rattle.word_sheets.proofs.types.read_type.Statement.{statement}
 use Rattle.word_sheets.proofs.types.read_type.Tie as tie
 
 then-rows-requires : tie.Need-then-rows-requires
-then-rows-requires c κs = (c .before .before .before .before .before .before .before .before .before .pre, c .before .then-number2 .ensures .1)
+then-rows-requires c κs = (c .before .before .before .before .before .before .before .before .before .pre, c .before .then-number2 .ensures .1 .few)
 
 then-rows-requires-2 : tie.Need-then-rows-requires-2
-then-rows-requires-2 c κs = (c .before .before .before .before .before .before .before .before .before .before .before .before .before .pre, omega (arith, c .before .then-number3 .ensures .1))
+then-rows-requires-2 c κs = (c .before .before .before .before .before .before .before .before .before .before .before .before .before .pre, omega (arith, c .before .then-number3 .ensures .1 .few))
 
 then-rows-requires-3 : tie.Need-then-rows-requires-3
-then-rows-requires-3 c κs = (c .before .before .before .before .before .before .before .before .before .before .before .before .before .before .before .before .before .pre, omega (arith, c .before .then-number4 .ensures .1))
+then-rows-requires-3 c κs = (c .before .before .before .before .before .before .before .before .before .before .before .before .before .before .before .before .before .pre, omega (arith, c .before .then-number4 .ensures .1 .few))
 
 returns : tie.Need-returns
 unfolding typeRows
