@@ -2,6 +2,8 @@
 // In a chain each takes what was read so far, does nothing where that stopped, and answers for the next part of the definition's lines.
 // Promised: the due line, a line of one number and the end of a text as crate reading defines them, and what a whole text answers.
 use forms::BAD_FORM;
+use forms::TOO_LONG;
+use lines::LONGEST;
 use lines::Limit;
 use lines::Line;
 use lines::Went;
@@ -59,8 +61,8 @@ pub fn end_run(text: &[u8], start: usize) -> LinesRead
 pub fn length_run(text: &[u8]) -> LinesRead
     ensures { λ r. ⌜ RunsTo (now (text .entry)) (r .went) (r .at) tt (short (now (text .entry))) ⌝ }
 {
-    if 32768 < text.len() {
-        let went = Went::Stop(1);
+    if LONGEST < text.len() {
+        let went = Went::Stop(TOO_LONG);
         return LinesRead { went, at: 0 };
     }
     let went = Went::On;

@@ -1,6 +1,8 @@
 // An answer read whole into lent words: its two first lines, then its steps, each line from the part of the text that starts with it.
 // Promised: for every text `fill_answer` answers the one number and place that `answerRead` gives of it, and the words say the answer that it
 // gives, whatever they held before.
+use forms::BAD_FORM;
+use forms::BEYOND_LIMIT;
 use lines::Limit;
 use lines::Went;
 use runs::LinesRead;
@@ -46,10 +48,10 @@ fn step_id(s: &[u8], at: usize, verb: u32) -> StepLine
     ensures { λ r. ⌜ Reads (now (s .entry)) (stepSays r) (stepId verb (drop at (now (s .entry)))) ⌝ }
 {
     let Number::Got(a, used) = texts::one_number(s, at, Digits::Five) else {
-        return StepLine::Refused(2);
+        return StepLine::Refused(BAD_FORM);
     };
     if 31 < a {
-        return StepLine::Refused(3);
+        return StepLine::Refused(BEYOND_LIMIT);
     }
     StepLine::Got(verb, a, 0, used)
 }
@@ -59,13 +61,13 @@ fn step_number(s: &[u8], at: usize, verb: u32, greatest: u32) -> StepLine
     ensures { λ r. ⌜ Reads (now (s .entry)) (stepSays r) (stepNumber verb (runsTo greatest) (drop at (now (s .entry)))) ⌝ }
 {
     let TwoNumbers::Got(a, b, used) = texts::two_numbers(s, at, Digits::Five) else {
-        return StepLine::Refused(2);
+        return StepLine::Refused(BAD_FORM);
     };
     if 31 < a {
-        return StepLine::Refused(3);
+        return StepLine::Refused(BEYOND_LIMIT);
     }
     if greatest < b {
-        return StepLine::Refused(3);
+        return StepLine::Refused(BEYOND_LIMIT);
     }
     StepLine::Got(verb, a, b, used)
 }
@@ -89,7 +91,7 @@ pub fn step_line(s: &[u8]) -> StepLine
     if let Due::Past(i) = texts::past_key(s, 0, b"step=finish,") {
         return step_id(s, i, FINISH);
     }
-    StepLine::Refused(2)
+    StepLine::Refused(BAD_FORM)
 }
 
 // The number of a line's refusal, 0 where the line was read.

@@ -1,5 +1,8 @@
 // The kinds of lines that only a sheet has, each read from the part of the text that starts with it, and held to its limits.
 // Promised: each answers what its definition in crate reading replies to that part: the values and the bytes used, or 01's number.
+use forms::BAD_CLAUSE;
+use forms::BAD_FORM;
+use forms::BEYOND_LIMIT;
 use lines::Line;
 use texts::Digits;
 use texts::Due;
@@ -58,13 +61,13 @@ pub fn initial_line(s: &[u8], places: u32) -> Line
     ensures { λ r. ⌜ Reads (now (s .entry)) (lineSays r) (initialLine places (now (s .entry))) ⌝ }
 {
     let OneList::Got(mask, top, used) = texts::list_line(s, b"initial=", Digits::Five) else {
-        return Line::Refused(2);
+        return Line::Refused(BAD_FORM);
     };
     if places < top {
-        return Line::Refused(3);
+        return Line::Refused(BEYOND_LIMIT);
     }
     if top == 0 {
-        return Line::Refused(4);
+        return Line::Refused(BAD_CLAUSE);
     }
     Line::Got(mask, used)
 }
@@ -74,16 +77,16 @@ fn tran_line(s: &[u8], known: Known) -> RowLine
     ensures { λ r. ⌜ Reads (now (s .entry)) (rowSays r) (rowLine Transitions known (now (s .entry))) ⌝ }
 {
     let TwoNumbers::Got(a, b, used) = texts::two_numbers_line(s, b"tran=", Digits::Five) else {
-        return RowLine::Refused(2);
+        return RowLine::Refused(BAD_FORM);
     };
     if known.places <= a {
-        return RowLine::Refused(3);
+        return RowLine::Refused(BEYOND_LIMIT);
     }
     if known.places <= b {
-        return RowLine::Refused(3);
+        return RowLine::Refused(BEYOND_LIMIT);
     }
     if a == b {
-        return RowLine::Refused(4);
+        return RowLine::Refused(BAD_CLAUSE);
     }
     let row = Row {
         source: a,
@@ -100,10 +103,10 @@ fn behavior_line(s: &[u8], known: Known) -> RowLine
     ensures { λ r. ⌜ Reads (now (s .entry)) (rowSays r) (rowLine Behaviors known (now (s .entry))) ⌝ }
 {
     let OneList::Got(mask, top, used) = texts::list_line(s, b"behavior=", Digits::Five) else {
-        return RowLine::Refused(2);
+        return RowLine::Refused(BAD_FORM);
     };
     if known.transitions < top {
-        return RowLine::Refused(3);
+        return RowLine::Refused(BEYOND_LIMIT);
     }
     let row = Row {
         source: 0,
@@ -121,16 +124,16 @@ fn port_after(s: &[u8], at: usize, uses: u32, known: Known, initial: u32) -> Row
 {
     let TwoLists::Got(places, m, transitions, n, used) = texts::two_lists(s, at, Digits::Five)
     else {
-        return RowLine::Refused(2);
+        return RowLine::Refused(BAD_FORM);
     };
     if known.places < m {
-        return RowLine::Refused(3);
+        return RowLine::Refused(BEYOND_LIMIT);
     }
     if known.transitions < n {
-        return RowLine::Refused(3);
+        return RowLine::Refused(BEYOND_LIMIT);
     }
     if sets::overlaps(initial, places) {
-        return RowLine::Refused(4);
+        return RowLine::Refused(BAD_CLAUSE);
     }
     let row = Row {
         source: 0,
@@ -152,7 +155,7 @@ fn port_line(s: &[u8], known: Known) -> RowLine
     if let Due::Past(i) = texts::past_key(s, 0, b"port=provide,") {
         return port_after(s, i, 0, known, 0);
     }
-    RowLine::Refused(2)
+    RowLine::Refused(BAD_FORM)
 }
 
 // The line of a row, in a type of which so much is known.
@@ -171,10 +174,10 @@ fn do_id(s: &[u8], at: usize, verb: u32) -> Do
     ensures { λ r. ⌜ Reads (now (s .entry)) (instructionSays r) (doId verb (drop at (now (s .entry)))) ⌝ }
 {
     let Number::Got(a, used) = texts::one_number(s, at, Digits::Five) else {
-        return Do::Refused(2);
+        return Do::Refused(BAD_FORM);
     };
     if 31 < a {
-        return Do::Refused(3);
+        return Do::Refused(BEYOND_LIMIT);
     }
     Do::Got(verb, a, 0, 0, 0, used)
 }
@@ -184,13 +187,13 @@ fn do_number(s: &[u8], at: usize, verb: u32, below: u32) -> Do
     ensures { λ r. ⌜ Reads (now (s .entry)) (instructionSays r) (doNumber verb (typeOk below) (drop at (now (s .entry)))) ⌝ }
 {
     let TwoNumbers::Got(a, b, used) = texts::two_numbers(s, at, Digits::Five) else {
-        return Do::Refused(2);
+        return Do::Refused(BAD_FORM);
     };
     if 31 < a {
-        return Do::Refused(3);
+        return Do::Refused(BEYOND_LIMIT);
     }
     if below <= b {
-        return Do::Refused(3);
+        return Do::Refused(BEYOND_LIMIT);
     }
     Do::Got(verb, a, b, 0, 0, used)
 }
@@ -200,19 +203,19 @@ fn do_ends(s: &[u8], at: usize, verb: u32) -> Do
     ensures { λ r. ⌜ Reads (now (s .entry)) (instructionSays r) (doEnds verb (drop at (now (s .entry)))) ⌝ }
 {
     let FourNumbers::Got(a, b, c, d, used) = texts::four_numbers(s, at, Digits::Five) else {
-        return Do::Refused(2);
+        return Do::Refused(BAD_FORM);
     };
     if 31 < a {
-        return Do::Refused(3);
+        return Do::Refused(BEYOND_LIMIT);
     }
     if 15 < b {
-        return Do::Refused(3);
+        return Do::Refused(BEYOND_LIMIT);
     }
     if 31 < c {
-        return Do::Refused(3);
+        return Do::Refused(BEYOND_LIMIT);
     }
     if 15 < d {
-        return Do::Refused(3);
+        return Do::Refused(BEYOND_LIMIT);
     }
     Do::Got(verb, a, b, c, d, used)
 }
@@ -239,7 +242,7 @@ pub fn do_line(s: &[u8], types: u32) -> Do
     if let Due::Past(i) = texts::past_key(s, 0, b"do=wait,") {
         return do_id(s, i, 5);
     }
-    Do::Refused(2)
+    Do::Refused(BAD_FORM)
 }
 
 // The number of a line's refusal, 0 where the line was read.
