@@ -4,4 +4,4 @@ pub mod Alike
 pub mod Clauses
 pub mod Slots
 pub mod Once
-pub mod Machine
+pub mod Words

@@ -1,12 +1,15 @@
--- No other outcome fits: each promise is an equation with the definition.
+-- No other outcome fits: each promise is an equation with the definition, and words that say the same are the same.
 -- Assumes nothing.
 use mathlib.Core.Path.{sym, _∙_}
-use Rattle.hall.specs.Once.{NoOtherStepped, NoOtherLeft}
-
-pub stepped-once : NoOtherStepped
-unfolding NoOtherStepped
-stepped-once t p c s m n h g = h ∙ sym g
+use Rattle.words.specs.Words.{stateIn}
+use Rattle.words.proofs.Whole.{state-words}
+use Rattle.hall.specs.Once.{NoOtherLeft, NoOtherWords}
 
 pub left-once : NoOtherLeft
 unfolding NoOtherLeft
 left-once t p c s m n d e h g = (h .0 ∙ sym (g .0), h .1 ∙ sym (g .1))
+
+pub words-once : NoOtherWords
+unfolding NoOtherLeft NoOtherWords
+words-once tables program before s m n ws vs a b h g =
+    (h .0 ∙ sym (g .0), state-words ws vs (a .many) (b .many) (a .small) (b .small) (h .1 ∙ sym (g .1)))

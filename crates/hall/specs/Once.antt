@@ -1,24 +1,27 @@
--- "That no other outcome fits the promise is itself proved": two results that meet the promise of `hall_step`, or that of `hall`, are one.
+-- "That no other outcome fits the promise is itself proved": two results that meet the promise of the screen, of either door or of the step
+-- by value, are one: the same number, the same configuration, and word for word the same words.
 use Prim.Native.Nat.{ℕ}
 use mathlib.Core.Path.{_≡_}
+use mathlib.Core.List.{List}
 use Rattle.model.specs.declared.Tables.{Tables}
 use Rattle.model.specs.declared.Program.{Program}
 use Rattle.model.specs.declared.Step.{Step}
 use Rattle.model.specs.declared.Configuration.{Configuration}
-use Rattle.model.specs.declared.Stepped.{Stepped}
-use Rattle.hall.specs.Screen.{hallStep, Left}
+use Rattle.hall.specs.Screen.{Left}
+use Rattle.hall.specs.Words.{LeftWords, Configured}
 
-unfoldable pub NoOtherStepped : Type 0
-NoOtherStepped =
-    (t : Tables) (p : Program) (c : Configuration) (s : Step) (m n : Stepped)
-    → m ≡ hallStep t p c s
-    → n ≡ hallStep t p c s
-    → m ≡ n
-
--- the number, and what stands in the lent configuration afterwards
 unfoldable pub NoOtherLeft : Type 0
 NoOtherLeft =
     (t : Tables) (p : Program) (c : Configuration) (s : Step) (m n : ℕ) (d e : Configuration)
     → Left t p c s m d
     → Left t p c s n e
     → (m ≡ n) × (d ≡ e)
+
+unfoldable pub NoOtherWords : Type 0
+NoOtherWords =
+    (tables program before : List ℕ) (s : Step) (m n : ℕ) (ws vs : List ℕ)
+    → Configured ws
+    → Configured vs
+    → LeftWords tables program before s m ws
+    → LeftWords tables program before s n vs
+    → (m ≡ n) × (ws ≡ vs)

@@ -1,49 +1,117 @@
-// The screen in the hall: one step on lent tables, program and configuration, with number 7 before all of 10 to 37.
-// Promised: the number and every slot of the configuration after it, for all that can be lent; a refusal leaves it untouched.
+// The screen in the hall: one step on lent tables, program and configuration, with number 7 before all of 10 to 37. It has two doors:
+// `hall` is over the step by value, `lent_step` moves the lent words on in place, for terminals with a small stack.
+// Promised of both: the number and every word of the configuration after it, for all that can be lent; a refusal leaves it untouched.
 use judged::DEFAULT_DEPTH;
 use lawfulness::configuration_lawful;
 use lawfulness::program_lawful;
 use lawfulness::step_lawful;
 use lawfulness::tables_lawful;
-use model::Configuration;
-use model::Program;
-use model::Step;
-use model::Stepped;
-use model::Tables;
-use walks::step;
+use word_walks::step;
+use words::ProgramWords;
+use words::StateWords;
+use words::TableWords;
+use words::tables::types;
 ghost use mathlib.Core.Path.{_≡_};
-ghost use Rattle.hall.specs.Screen.{lentLawful, hallStep, Left};
+ghost use Rattle.words.specs.Words.{tablesIn, programIn, stateIn};
+ghost use Rattle.words.specs.Parts.{stepOf};
+ghost use Rattle.hall.specs.Screen.{lentLawful};
+ghost use Rattle.hall.specs.Words.{LeftWords};
 
-const LIMIT_BROKEN: u8 = 7;
+const LIMIT_BROKEN: u32 = 7;
 
-fn lent_lawful(t: Tables, p: Program, c: Configuration, s: Step) -> bool
-    ensures { λ r. ⌜ r ≡ lentLawful t p c s ⌝ }
+// What the step by value answers: the number, and every word of the configuration after it.
+pub struct Moved {
+    pub refused: u32,
+    pub configuration: StateWords,
+}
+
+// The configuration is looked at where tables, program and step are lawful: its queues are then no longer than the depth.
+fn lent_lawful(
+    tables: &TableWords,
+    program: &ProgramWords,
+    configuration: &StateWords,
+    verb: u32,
+    i: u32,
+    n: u32,
+) -> bool
+    ensures { λ r. ⌜ r ≡ lentLawful (tablesIn (now (tables .entry))) (programIn (now (program .entry)))
+        (stateIn (now (configuration .entry))) (stepOf verb i n) ⌝ }
 {
-    tables_lawful(t)
-        & (program_lawful(t.count, p)
-            & (step_lawful(s) & configuration_lawful(DEFAULT_DEPTH, t, p, c)))
+    if !tables_lawful(tables) {
+        return false;
+    }
+    if !program_lawful(types(tables), program) {
+        return false;
+    }
+    if !step_lawful(verb, i, n) {
+        return false;
+    }
+    configuration_lawful(DEFAULT_DEPTH as u32, tables, program, configuration)
+}
+
+// The lean door: the step in place.
+pub fn lent_step(
+    tables: &TableWords,
+    program: &ProgramWords,
+    configuration: &mut StateWords,
+    verb: u32,
+    i: u32,
+    n: u32,
+) -> u32
+    ensures { λ r. ⌜ LeftWords (now (tables .entry)) (now (program .entry)) (now (configuration .entry)) (stepOf verb i n)
+        r (now (configuration .exit)) ⌝ }
+{
+    if !lent_lawful(tables, program, configuration, verb, i, n) {
+        return LIMIT_BROKEN;
+    }
+    step(
+        DEFAULT_DEPTH as u32,
+        tables,
+        program,
+        configuration,
+        verb,
+        i,
+        n,
+    )
 }
 
 // The step by value.
-pub fn hall_step(t: Tables, p: Program, c: Configuration, s: Step) -> Stepped
-    ensures { λ r. ⌜ r ≡ hallStep t p c s ⌝ }
+pub fn hall_step(
+    tables: &TableWords,
+    program: &ProgramWords,
+    configuration: StateWords,
+    verb: u32,
+    i: u32,
+    n: u32,
+) -> Moved
+    ensures { λ r. ⌜ LeftWords (now (tables .entry)) (now (program .entry)) configuration (stepOf verb i n)
+        (r .refused) (r .configuration) ⌝ }
 {
-    if lent_lawful(t, p, c, s) {
-        return step(DEFAULT_DEPTH, t, p, c, s);
-    }
-    Stepped {
-        refused: LIMIT_BROKEN,
-        configuration: c,
+    let mut after = configuration;
+    let refused = lent_step(tables, program, &mut after, verb, i, n);
+    Moved {
+        refused,
+        configuration: after,
     }
 }
 
-// Stores the result, or leaves the lent configuration on a refusal. Its proof is a walk by hand.
-pub fn hall(t: Tables, p: Program, configuration: &mut Configuration, s: Step) -> u8
-    ensures { λ r. ⌜ Left t p (now (configuration .entry)) s r (now (configuration .exit)) ⌝ }
+// Stores the result, or leaves the lent configuration on a refusal.
+pub fn hall(
+    tables: &TableWords,
+    program: &ProgramWords,
+    configuration: &mut StateWords,
+    verb: u32,
+    i: u32,
+    n: u32,
+) -> u32
+    ensures { λ r. ⌜ LeftWords (now (tables .entry)) (now (program .entry)) (now (configuration .entry)) (stepOf verb i n)
+        r (now (configuration .exit)) ⌝ }
 {
-    let m = hall_step(t, p, *configuration, s);
-    if m.refused == 0 {
-        *configuration = m.configuration;
+    let m = hall_step(tables, program, *configuration, verb, i, n);
+    if m.refused != 0 {
+        return m.refused;
     }
-    m.refused
+    let after = m.configuration;
+    *configuration = after;
+    0
 }

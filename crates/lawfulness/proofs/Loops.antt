@@ -1,10 +1,11 @@
 -- A loop that looks for a number below n that fails the test: what it knows at i, and the four turns of it. Each loop here cites these.
 -- Assumes nothing.
 use mathlib.Core.Path.{_≡_, sym, _∙_}
-use mathlib.Core.Bool.{Bool, true, false, not}
+use mathlib.Core.Bool.{Bool, true, false, not, _&&_}
 use Prim.Native.Nat.{ℕ, _+_, _≤_, _<_}
 use native.Mathlib.Omega.{arith}
-use borrow.Author.Tests.{not-true, not-false}
+use lib.Dec.{leb}
+use borrow.Author.Tests.{not-true, not-false, lt-leb, le-leb}
 use Rattle.sets.specs.Test.{allBelow}
 use Rattle.sets.proofs.Laws.{all-start, all-more, all-miss, all-end}
 
@@ -24,3 +25,11 @@ module _ (n : ℕ) (test : ℕ → Bool) where
 
     pub one-more : Passed n test i → not r ≡ false → Passed n test (i + 1)
     one-more h e = (omega arith, all-more i test (h .1) (sym is ∙ not-false r e))
+
+-- a count that has a limit, and what is counted
+module _ (n limit : ℕ) (test : ℕ → Bool) where
+  pub too-many : limit < n → false ≡ (leb n limit && allBelow n test)
+  too-many h = rw (lt-leb n limit h)
+
+  pub few : {b : Bool} → n ≤ limit → b ≡ allBelow n test → b ≡ (leb n limit && allBelow n test)
+  few h e = rw (le-leb n limit h) e

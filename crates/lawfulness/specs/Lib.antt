@@ -1,3 +1,3 @@
--- The clauses of number 7 on a configuration, and the clauses on tables as functions of lent arrays see them.
+-- The clauses of number 7 on a configuration (Lawful), and the parts of clauses that a function says by itself (Parts).
 pub mod Lawful
-pub mod Lent
+pub mod Parts

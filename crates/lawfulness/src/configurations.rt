@@ -1,38 +1,51 @@
 // Every present instance of the configuration, and every connection.
 use crate::types::mask_ok;
-use model::ComponentType;
-use model::Configuration;
-use model::Connection;
-use model::Instance;
-use model::Tables;
-use model::connection_of;
-use model::depth_of;
-use model::instance_of;
-use model::is_use;
-use model::number_at;
-use model::type_of;
-use model::wide;
+use word_instructions::connections::Query;
+use word_instructions::connections::some_before;
+use word_instructions::depth_of;
+use word_instructions::is_port;
+use words::StateWords;
+use words::TableWords;
+use words::state::connections;
+use words::state::ended;
+use words::state::kind;
+use words::state::marked;
+use words::state::present;
+use words::state::provideport;
+use words::state::provider;
+use words::state::queued;
+use words::state::running;
+use words::state::slot;
+use words::state::useport;
+use words::state::user;
+use words::tables::behaviors_of;
+use words::tables::places_of;
+use words::tables::transitions_of;
+use words::tables::types;
 ghost use mathlib.Core.Path.{_≡_};
-ghost use Prim.Native.Nat.{_≤_};
-ghost use lib.Dec.{ltb};
 ghost use Rattle.sets.specs.Test.{allBelow};
-ghost use Rattle.rules.specs.Instance.{portsOf};
-ghost use Rattle.lawfulness.specs.Lent.{queuedLent};
-ghost use Rattle.lawfulness.specs.Lawful.{numbersLawful, instanceLawful, connectedBefore, endsLawful, connectionLawful, connectionsLawful};
+ghost use Rattle.words.specs.Words.{tablesIn, stateIn};
+ghost use Rattle.words.specs.Parts.{connectionOf};
+ghost use Rattle.lawfulness.specs.Parts.{queueLawful};
+ghost use Rattle.lawfulness.specs.Lawful.{queuedLawful, numbersLawful, instanceLawful, endsLawful, connectionLawful, connectionsLawful};
 
-fn queued_lawful(queue: &[u8; 256], v: ComponentType, i: u8, r: u8) -> bool
-    ensures { λ b. ⌜ b ≡ queuedLent (now (queue .entry)) v i r ⌝ }
+fn queued_lawful(tables: &TableWords, state: &StateWords, i: u32, r: u32) -> bool
+    ensures { λ b. ⌜ b ≡ queuedLawful (tablesIn (now (tables .entry))) (stateIn (now (state .entry))) i r ⌝ }
 {
-    number_at(queue, wide(i) * 8 + wide(r)) < wide(v.behaviors)
+    slot(state, i, r) < behaviors_of(tables, kind(state, i))
 }
 
-// The first n slots alone: what a queue had before is not looked at.
-fn queue_lawful(queue: &[u8; 256], v: ComponentType, i: u8, n: u8) -> bool
-    ensures { λ b. ⌜ b ≡ allBelow n (queuedLent (now (queue .entry)) v i) ⌝ }
+// The slots within the queue alone: what it had before is not looked at.
+fn queue_lawful(default: u32, tables: &TableWords, state: &StateWords, i: u32) -> bool
+    ensures { λ b. ⌜ b ≡ queueLawful default (tablesIn (now (tables .entry))) (stateIn (now (state .entry))) i ⌝ }
 {
-    let mut r: u8 = 0;
+    let n = queued(state, i);
+    if depth_of(default, tables) < n {
+        return false;
+    }
+    let mut r: u32 = 0;
     while r < n {
-        if !queued_lawful(queue, v, i, r) {
+        if !queued_lawful(tables, state, i, r) {
             return false;
         }
         r += 1;
@@ -40,32 +53,33 @@ fn queue_lawful(queue: &[u8; 256], v: ComponentType, i: u8, n: u8) -> bool
     true
 }
 
-fn numbers_lawful(default: u8, t: Tables, c: Configuration, i: u8) -> bool
-    ensures { λ r. ⌜ r ≡ numbersLawful default t c i ⌝ }
+fn numbers_lawful(default: u32, tables: &TableWords, state: &StateWords, i: u32) -> bool
+    ensures { λ r. ⌜ r ≡ numbersLawful default (tablesIn (now (tables .entry))) (stateIn (now (state .entry))) i ⌝ }
 {
-    let v = instance_of(c, wide(i));
-    let kind = type_of(t, wide(v.kind));
-    let queue = queue_lawful(&c.queue, kind, i, v.queued);
-    let marked = mask_ok(kind.places, v.marked);
-    let running = mask_ok(kind.transitions, v.running);
-    let ended = mask_ok(kind.transitions, v.ended);
-    let depth = depth_of(default, t.depth);
-    (v.kind < t.count) & (marked & (running & (ended & ((v.queued <= depth) & queue))))
+    let k = kind(state, i);
+    let marks = mask_ok(places_of(tables, k), marked(state, i));
+    let n = transitions_of(tables, k);
+    let runs = mask_ok(n, running(state, i));
+    let ends = mask_ok(n, ended(state, i));
+    let queue = queue_lawful(default, tables, state, i);
+    (k < types(tables)) & (marks & (runs & (ends & queue)))
 }
 
-fn instance_lawful(default: u8, t: Tables, c: Configuration, i: u8) -> bool
-    ensures { λ r. ⌜ r ≡ instanceLawful default t c i ⌝ }
+fn instance_lawful(default: u32, tables: &TableWords, state: &StateWords, i: u32) -> bool
+    ensures { λ r. ⌜ r ≡ instanceLawful default (tablesIn (now (tables .entry))) (stateIn (now (state .entry))) i ⌝ }
 {
-    let v = instance_of(c, wide(i));
-    !v.present | numbers_lawful(default, t, c, i)
+    if !present(state, i) {
+        return true;
+    }
+    numbers_lawful(default, tables, state, i)
 }
 
-pub fn instances_lawful(default: u8, t: Tables, c: Configuration) -> bool
-    ensures { λ r. ⌜ r ≡ allBelow 32 (instanceLawful default t c) ⌝ }
+pub fn instances_lawful(default: u32, tables: &TableWords, state: &StateWords) -> bool
+    ensures { λ r. ⌜ r ≡ allBelow 32 (instanceLawful default (tablesIn (now (tables .entry))) (stateIn (now (state .entry)))) ⌝ }
 {
-    let mut i: u8 = 0;
+    let mut i: u32 = 0;
     while i < 32 {
-        if !instance_lawful(default, t, c, i) {
+        if !instance_lawful(default, tables, state, i) {
             return false;
         }
         i += 1;
@@ -73,60 +87,37 @@ pub fn instances_lawful(default: u8, t: Tables, c: Configuration) -> bool
     true
 }
 
-// One of the first l connections is of the same use port as k.
-fn is_connected_before(c: Configuration, k: Connection, l: u8) -> bool
-    requires { ⌜ l ≤ 64 ⌝ }
-    ensures { λ r. ⌜ r ≡ connectedBefore c k l ⌝ }
+fn ends_lawful(tables: &TableWords, state: &StateWords, u: u32, uq: u32, v: u32, vq: u32) -> bool
+    ensures { λ r. ⌜ r ≡ endsLawful (tablesIn (now (tables .entry))) (stateIn (now (state .entry))) (connectionOf u uq v vq) ⌝ }
 {
-    let mut m: u8 = 0;
-    while m < l {
-        // the array is read here: to pass the configuration on for each connection would be to copy it
-        let at = wide(m);
-        let other = c.connections[at];
-        if (other.user == k.user) & (other.useport == k.useport) {
-            return true;
-        }
-        m += 1;
-    }
-    false
+    let user = present(state, u);
+    let provider = present(state, v);
+    let uses = is_port(tables, state, u, uq, true);
+    let provides = is_port(tables, state, v, vq, false);
+    user & (provider & (uses & (provides & (u != v))))
 }
 
-fn has_port(t: Tables, v: Instance, q: u8) -> bool
-    ensures { λ r. ⌜ r ≡ ltb q (portsOf t v) ⌝ }
+// A use port already connected is one that a connection before l has.
+fn connection_lawful(tables: &TableWords, state: &StateWords, l: u32) -> bool
+    ensures { λ r. ⌜ r ≡ connectionLawful (tablesIn (now (tables .entry))) (stateIn (now (state .entry))) l ⌝ }
 {
-    let kind = type_of(t, wide(v.kind));
-    q < kind.ports
+    let u = user(state, l);
+    let uq = useport(state, l);
+    let v = provider(state, l);
+    let vq = provideport(state, l);
+    ends_lawful(tables, state, u, uq, v, vq) & !some_before(Query::IsOf(u, uq), state, l)
 }
 
-fn ends_lawful(t: Tables, c: Configuration, k: Connection) -> bool
-    ensures { λ r. ⌜ r ≡ endsLawful t c k ⌝ }
+pub fn connections_lawful(tables: &TableWords, state: &StateWords) -> bool
+    ensures { λ r. ⌜ r ≡ connectionsLawful (tablesIn (now (tables .entry))) (stateIn (now (state .entry))) ⌝ }
 {
-    let user = instance_of(c, wide(k.user));
-    let provider = instance_of(c, wide(k.provider));
-    let uses = has_port(t, user, k.useport) & is_use(&t.ports.uses, user.kind, k.useport);
-    let provides = has_port(t, provider, k.provideport)
-        & !is_use(&t.ports.uses, provider.kind, k.provideport);
-    user.present & (provider.present & (uses & (provides & (k.user != k.provider))))
-}
-
-fn connection_lawful(t: Tables, c: Configuration, l: u8) -> bool
-    requires { ⌜ l ≤ 64 ⌝ }
-    ensures { λ r. ⌜ r ≡ connectionLawful t c l ⌝ }
-{
-    let k = connection_of(c, wide(l));
-    ends_lawful(t, c, k) & !is_connected_before(c, k, l)
-}
-
-pub fn connections_lawful(t: Tables, c: Configuration) -> bool
-    ensures { λ r. ⌜ r ≡ connectionsLawful t c ⌝ }
-{
-    let n = c.count;
+    let n = connections(state);
     if 64 < n {
         return false;
     }
-    let mut l: u8 = 0;
+    let mut l: u32 = 0;
     while l < n {
-        if !connection_lawful(t, c, l) {
+        if !connection_lawful(tables, state, l) {
             return false;
         }
         l += 1;

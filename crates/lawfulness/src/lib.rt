@@ -5,56 +5,76 @@ mod types;
 
 use configurations::connections_lawful;
 use configurations::instances_lawful;
-use model::Configuration;
-use model::Instruction;
-use model::Program;
-use model::Step;
-use model::Tables;
 use types::types_lawful;
+use words::ProgramWords;
+use words::StateWords;
+use words::TableWords;
+use words::program::instruction_id;
+use words::program::instruction_number;
+use words::program::instruction_provideport;
+use words::program::instruction_provider;
+use words::program::instruction_verb;
+use words::program::instructions;
+use words::state::done;
+use words::tables::depth;
+use words::tables::types;
 ghost use mathlib.Core.Path.{_≡_};
+ghost use lib.ListN.{getD};
+ghost use Rattle.model.specs.Empty.{noInstruction};
 ghost use Rattle.reading.specs.Lawful.{tablesLawful, verbLawful, instructionLawful, programLawful, stepLawful};
+ghost use Rattle.words.specs.Words.{tablesIn, programIn, stateIn};
+ghost use Rattle.words.specs.Parts.{instructionOf, stepOf};
 ghost use Rattle.lawfulness.specs.Lawful.{configurationLawful};
 
-// Every type counts, also one that no instance has.
-pub fn tables_lawful(t: Tables) -> bool
-    ensures { λ r. ⌜ r ≡ tablesLawful t ⌝ }
+// Every type counts, also one that no instance has; more than 16 are not looked at.
+pub fn tables_lawful(tables: &TableWords) -> bool
+    ensures { λ r. ⌜ r ≡ tablesLawful (tablesIn (now (tables .entry))) ⌝ }
 {
-    (t.depth <= 8) & (((1 <= t.count) & (t.count <= 16)) & types_lawful(t))
+    let n = types(tables);
+    let head = (depth(tables) <= 8) & ((1 <= n) & (n <= 16));
+    if !head {
+        return false;
+    }
+    types_lawful(tables, n)
 }
 
 // A code that no line says is refused like a number beyond its limit.
-fn verb_lawful(n: u8, x: Instruction) -> bool
-    ensures { λ r. ⌜ r ≡ verbLawful n x ⌝ }
+fn verb_lawful(n: u32, verb: u32, number: u32, provider: u32, provideport: u32) -> bool
+    ensures { λ r. ⌜ r ≡ verbLawful n (instructionOf verb 0 number provider provideport) ⌝ }
 {
-    let verb = x.verb;
     match verb {
-        0 => x.number < n,
+        0 => number < n,
         1 => true,
-        2 => x.number <= 7,
-        3 => (x.number <= 15) & ((x.provider <= 31) & (x.provideport <= 15)),
-        4 => (x.number <= 15) & ((x.provider <= 31) & (x.provideport <= 15)),
+        2 => number <= 7,
+        3 => (number <= 15) & ((provider <= 31) & (provideport <= 15)),
+        4 => (number <= 15) & ((provider <= 31) & (provideport <= 15)),
         5 => true,
         _ => false,
     }
 }
 
-fn instruction_lawful(n: u8, x: Instruction) -> bool
-    ensures { λ r. ⌜ r ≡ instructionLawful n x ⌝ }
+fn instruction_lawful(n: u32, program: &ProgramWords, j: u32) -> bool
+    ensures { λ r. ⌜ r ≡ instructionLawful n (getD (programIn (now (program .entry)) .instructions) j noInstruction) ⌝ }
 {
-    (x.id <= 31) & verb_lawful(n, x)
+    let id = instruction_id(program, j);
+    let verb = instruction_verb(program, j);
+    let number = instruction_number(program, j);
+    let provider = instruction_provider(program, j);
+    let provideport = instruction_provideport(program, j);
+    (id <= 31) & verb_lawful(n, verb, number, provider, provideport)
 }
 
 // Every instruction counts, done or not.
-pub fn program_lawful(n: u8, p: Program) -> bool
-    ensures { λ r. ⌜ r ≡ programLawful n p ⌝ }
+pub fn program_lawful(n: u32, program: &ProgramWords) -> bool
+    ensures { λ r. ⌜ r ≡ programLawful n (programIn (now (program .entry))) ⌝ }
 {
-    let count = p.count;
+    let count = instructions(program);
     if 256 < count {
         return false;
     }
-    let mut j: usize = 0;
+    let mut j: u32 = 0;
     while j < count {
-        if !instruction_lawful(n, p.instructions[j]) {
+        if !instruction_lawful(n, program, j) {
             return false;
         }
         j += 1;
@@ -62,22 +82,29 @@ pub fn program_lawful(n: u8, p: Program) -> bool
     true
 }
 
-pub fn step_lawful(s: Step) -> bool
-    ensures { λ r. ⌜ r ≡ stepLawful s ⌝ }
+pub fn step_lawful(verb: u32, id: u32, number: u32) -> bool
+    ensures { λ r. ⌜ r ≡ stepLawful (stepOf verb id number) ⌝ }
 {
-    let verb = s.verb;
     match verb {
         0 => true,
-        1 => (s.id <= 31) & (s.number <= 15),
-        2 => (s.id <= 31) & (s.number <= 31),
-        3 => (s.id <= 31) & (s.number <= 15),
-        4 => s.id <= 31,
+        1 => (id <= 31) & (number <= 15),
+        2 => (id <= 31) & (number <= 31),
+        3 => (id <= 31) & (number <= 15),
+        4 => id <= 31,
         _ => false,
     }
 }
 
-pub fn configuration_lawful(default: u8, t: Tables, p: Program, c: Configuration) -> bool
-    ensures { λ r. ⌜ r ≡ configurationLawful default t p c ⌝ }
+pub fn configuration_lawful(
+    default: u32,
+    tables: &TableWords,
+    program: &ProgramWords,
+    state: &StateWords,
+) -> bool
+    ensures { λ r. ⌜ r ≡ configurationLawful default (tablesIn (now (tables .entry))) (programIn (now (program .entry)))
+        (stateIn (now (state .entry))) ⌝ }
 {
-    instances_lawful(default, t, c) & ((c.done <= p.count) & connections_lawful(t, c))
+    let instances = instances_lawful(default, tables, state);
+    let due = done(state) <= instructions(program);
+    instances & (due & connections_lawful(tables, state))
 }

@@ -1,52 +1,85 @@
-// Every type of the tables, by its rows of the lent arrays.
-use model::ComponentType;
-use model::Tables;
-use model::mask_at;
-use model::number_at;
-use model::type_of;
-use model::wide;
-use sets::overlaps;
+// Every type of the tables, by its rows.
+use words::TableWords;
+use words::tables::behavior_of;
+use words::tables::behaviors_of;
+use words::tables::destination;
+use words::tables::group_places;
+use words::tables::group_transitions;
+use words::tables::initial_of;
+use words::tables::places_of;
+use words::tables::port_kind;
+use words::tables::ports_of;
+use words::tables::source;
+use words::tables::transitions_of;
 ghost use mathlib.Core.Path.{_≡_};
+ghost use mathlib.Core.Bool.{_&&_};
+ghost use lib.Dec.{leb};
 ghost use Rattle.sets.specs.Test.{allBelow};
 ghost use Rattle.reading.specs.Limits.{maskOk};
-ghost use Rattle.reading.specs.Lawful.{typeLawful};
-ghost use Rattle.lawfulness.specs.Lent.{transitionLent, behaviorLent, portLent};
+ghost use Rattle.reading.specs.Lawful.{transitionLawful, behaviorLawful, portLawful, typeLawful};
+ghost use Rattle.words.specs.Words.{tablesIn};
+ghost use Rattle.lawfulness.specs.Parts.{partLawful};
+
+// The rows that a type has.
+pub enum Part {
+    Transition,
+    Behavior,
+    Port,
+}
 
 // All members of the set lie below n, which a lent table may give as any number.
-pub fn mask_ok(n: u8, m: u32) -> bool
+pub fn mask_ok(n: u32, m: u32) -> bool
     ensures { λ r. ⌜ r ≡ maskOk n m ⌝ }
 {
     if n < 32 { m < 1 << n } else { true }
 }
 
-fn transition_lawful<'a>(
-    source: &'a [u8; 512],
-    destination: &'a [u8; 512],
-    v: ComponentType,
-    i: u8,
-    x: u8,
-) -> bool
-    ensures { λ r. ⌜ r ≡ transitionLent (now (source .entry)) (now (destination .entry)) v i x ⌝ }
+fn transition_lawful(tables: &TableWords, k: u32, x: u32) -> bool
+    ensures { λ r. ⌜ r ≡ transitionLawful (tablesIn (now (tables .entry))) k x ⌝ }
 {
-    let at = wide(i) * 32 + wide(x);
-    let from = number_at(source, at);
-    let to = number_at(destination, at);
-    let n = wide(v.places);
+    let from = source(tables, k, x);
+    let to = destination(tables, k, x);
+    let n = places_of(tables, k);
     (from < n) & ((to < n) & (from != to))
 }
 
-fn transitions_lawful<'a>(
-    source: &'a [u8; 512],
-    destination: &'a [u8; 512],
-    v: ComponentType,
-    i: u8,
-) -> bool
-    ensures { λ r. ⌜ r ≡ allBelow (v .transitions) (transitionLent (now (source .entry)) (now (destination .entry)) v i) ⌝ }
+fn behavior_lawful(tables: &TableWords, k: u32, b: u32) -> bool
+    ensures { λ r. ⌜ r ≡ behaviorLawful (tablesIn (now (tables .entry))) k b ⌝ }
 {
-    let n = v.transitions;
-    let mut x: u8 = 0;
+    mask_ok(transitions_of(tables, k), behavior_of(tables, k, b))
+}
+
+fn port_lawful(tables: &TableWords, k: u32, q: u32) -> bool
+    ensures { λ r. ⌜ r ≡ portLawful (tablesIn (now (tables .entry))) k q ⌝ }
+{
+    let kind = port_kind(tables, k, q);
+    let group = group_places(tables, k, q);
+    let held = group_transitions(tables, k, q);
+    let apart = !sets::overlaps(initial_of(tables, k), group);
+    let places = mask_ok(places_of(tables, k), group);
+    places & (mask_ok(transitions_of(tables, k), held) & ((kind <= 1) & ((kind != 1) | apart)))
+}
+
+fn part_lawful(part: Part, tables: &TableWords, k: u32, x: u32) -> bool
+    ensures { λ r. ⌜ r ≡ partLawful part (tablesIn (now (tables .entry))) k x ⌝ }
+{
+    match part {
+        Part::Transition => transition_lawful(tables, k, x),
+        Part::Behavior => behavior_lawful(tables, k, x),
+        Part::Port => port_lawful(tables, k, x),
+    }
+}
+
+// At most so many rows, and each of them.
+fn parts_lawful(part: Part, tables: &TableWords, k: u32, n: u32, limit: u32) -> bool
+    ensures { λ r. ⌜ r ≡ (leb n limit && allBelow n (partLawful part (tablesIn (now (tables .entry))) k)) ⌝ }
+{
+    if limit < n {
+        return false;
+    }
+    let mut x: u32 = 0;
     while x < n {
-        if !transition_lawful(source, destination, v, i, x) {
+        if !part_lawful(part, tables, k, x) {
             return false;
         }
         x += 1;
@@ -54,91 +87,28 @@ fn transitions_lawful<'a>(
     true
 }
 
-fn behavior_lawful(behaviors: &[u32; 128], v: ComponentType, i: u8, b: u8) -> bool
-    ensures { λ r. ⌜ r ≡ behaviorLent (now (behaviors .entry)) v i b ⌝ }
+fn type_lawful(tables: &TableWords, k: u32) -> bool
+    ensures { λ r. ⌜ r ≡ typeLawful (tablesIn (now (tables .entry))) k ⌝ }
 {
-    mask_ok(v.transitions, mask_at(behaviors, wide(i) * 8 + wide(b)))
+    let places = places_of(tables, k);
+    let initial = initial_of(tables, k);
+    let within = mask_ok(places, initial);
+    let transitions = parts_lawful(Part::Transition, tables, k, transitions_of(tables, k), 32);
+    let behaviors = parts_lawful(Part::Behavior, tables, k, behaviors_of(tables, k), 8);
+    let ports = parts_lawful(Part::Port, tables, k, ports_of(tables, k), 16);
+    ((1 <= places) & (places <= 16))
+        & (within & ((initial != 0) & (transitions & (behaviors & ports))))
 }
 
-fn behaviors_lawful(behaviors: &[u32; 128], v: ComponentType, i: u8) -> bool
-    ensures { λ r. ⌜ r ≡ allBelow (v .behaviors) (behaviorLent (now (behaviors .entry)) v i) ⌝ }
+pub fn types_lawful(tables: &TableWords, n: u32) -> bool
+    ensures { λ r. ⌜ r ≡ allBelow n (typeLawful (tablesIn (now (tables .entry)))) ⌝ }
 {
-    let n = v.behaviors;
-    let mut b: u8 = 0;
-    while b < n {
-        if !behavior_lawful(behaviors, v, i, b) {
+    let mut k: u32 = 0;
+    while k < n {
+        if !type_lawful(tables, k) {
             return false;
         }
-        b += 1;
-    }
-    true
-}
-
-fn port_lawful<'a>(
-    uses: &'a [u8; 256],
-    places: &'a [u32; 256],
-    transitions: &'a [u32; 256],
-    v: ComponentType,
-    i: u8,
-    q: u8,
-) -> bool
-    ensures { λ r. ⌜ r ≡ portLent (now (uses .entry)) (now (places .entry)) (now (transitions .entry)) v i q ⌝ }
-{
-    let at = wide(i) * 16 + wide(q);
-    let kind = number_at(uses, at);
-    let group = mask_at(places, at);
-    let held = mask_at(transitions, at);
-    let apart = !overlaps(v.initial, group);
-    mask_ok(v.places, group)
-        & (mask_ok(v.transitions, held) & ((kind <= 1) & ((kind != 1) | apart)))
-}
-
-fn ports_lawful<'a>(
-    uses: &'a [u8; 256],
-    places: &'a [u32; 256],
-    transitions: &'a [u32; 256],
-    v: ComponentType,
-    i: u8,
-) -> bool
-    ensures { λ r. ⌜ r ≡ allBelow (v .ports) (portLent (now (uses .entry)) (now (places .entry)) (now (transitions .entry)) v i) ⌝ }
-{
-    let n = v.ports;
-    let mut q: u8 = 0;
-    while q < n {
-        if !port_lawful(uses, places, transitions, v, i, q) {
-            return false;
-        }
-        q += 1;
-    }
-    true
-}
-
-fn type_lawful(t: Tables, i: u8) -> bool
-    ensures { λ r. ⌜ r ≡ typeLawful t i ⌝ }
-{
-    let v = type_of(t, wide(i));
-    let transitions = transitions_lawful(&t.transitions.source, &t.transitions.destination, v, i);
-    let behaviors = behaviors_lawful(&t.behaviors, v, i);
-    let ports = ports_lawful(&t.ports.uses, &t.ports.places, &t.ports.transitions, v, i);
-    let initial = mask_ok(v.places, v.initial);
-    ((1 <= v.places) & (v.places <= 16))
-        & (initial
-            & ((v.initial != 0)
-                & ((v.transitions <= 32)
-                    & (transitions
-                        & ((v.behaviors <= 8) & (behaviors & ((v.ports <= 16) & ports)))))))
-}
-
-pub fn types_lawful(t: Tables) -> bool
-    ensures { λ r. ⌜ r ≡ allBelow (t .count) (typeLawful t) ⌝ }
-{
-    let n = t.count;
-    let mut i: u8 = 0;
-    while i < n {
-        if !type_lawful(t, i) {
-            return false;
-        }
-        i += 1;
+        k += 1;
     }
     true
 }

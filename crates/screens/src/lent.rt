@@ -1,34 +1,38 @@
-// What is lent, from its 6,254 bytes, little-endian: tables, program at 3,970, configuration at 5,254, step at 6,251.
-use model::ComponentType;
-use model::Configuration;
-use model::Connection;
-use model::Instance;
-use model::Instruction;
-use model::Ports;
-use model::Program;
-use model::Step;
-use model::Tables;
-use model::Transitions;
-use model::no_program;
-use model::no_tables;
-use model::start;
-ghost use Prim.Native.Nat.{_+_, _*_, _≤_, _<_};
-ghost use lib.ListN.{length};
+// What is lent, as words, from its 6,254 bytes, little-endian: tables, program at 3,970, configuration at 5,254, step at 6,251.
+use words::ProgramWords;
+use words::StateWords;
+use words::TableWords;
+use words::program::put_instruction;
+use words::program::start_program;
+use words::state::clear_state;
+use words::state::put_bare;
+use words::state::put_connection;
+use words::state::put_count;
+use words::state::put_done;
+use words::state::put_queued;
+use words::state::put_sets;
+use words::state::put_slot;
+use words::tables::put_behavior;
+use words::tables::put_ends;
+use words::tables::put_port;
+use words::tables::put_type;
+use words::tables::start_tables;
+ghost use Prim.Native.Nat.{_≤_, _<_};
 
 pub const BYTES: usize = 6254;
-
-fn byte_at(bytes: &[u8; BYTES], at: usize) -> u8 {
-    if at < BYTES { bytes[at] } else { 0 }
-}
 
 fn long(x: u8) -> u32 {
     x as u32
 }
 
+pub(crate) fn byte_at(bytes: &[u8; BYTES], at: usize) -> u32 {
+    if at < BYTES { long(bytes[at]) } else { 0 }
+}
+
 fn pair_at(bytes: &[u8; BYTES], at: usize) -> u32
     requires { ⌜ at ≤ 6252 ⌝ }
 {
-    long(byte_at(bytes, at)) | (long(byte_at(bytes, at + 1)) << 8)
+    byte_at(bytes, at) | (byte_at(bytes, at + 1) << 8)
 }
 
 fn mask_at(bytes: &[u8; BYTES], at: usize) -> u32
@@ -37,176 +41,119 @@ fn mask_at(bytes: &[u8; BYTES], at: usize) -> u32
     pair_at(bytes, at) | (pair_at(bytes, at + 2) << 16)
 }
 
-fn count_at(bytes: &[u8; BYTES], at: usize) -> usize
-    requires { ⌜ at ≤ 6250 ⌝ }
+fn fill_type(tables: &mut TableWords, bytes: &[u8; BYTES], k: u32)
+    requires { ⌜ k < 16 ⌝ }
 {
-    mask_at(bytes, at) as usize
+    let at = 2 + (k as usize) * 8;
+    let places = byte_at(bytes, at);
+    let initial = mask_at(bytes, at + 1);
+    let transitions = byte_at(bytes, at + 5);
+    let behaviors = byte_at(bytes, at + 6);
+    let ports = byte_at(bytes, at + 7);
+    put_type(tables, k, places, initial, transitions, behaviors, ports);
 }
 
-fn read_bytes(bytes: &[u8; BYTES], at: usize, to: &mut [u8])
-    requires { ⌜ at + length (now to) ≤ 6254 ⌝ }
+// Transition j, port j, behavior j and type j, as far as there are so many.
+fn fill_row(tables: &mut TableWords, bytes: &[u8; BYTES], j: u32)
+    requires { ⌜ j < 512 ⌝ }
 {
-    let mut i: usize = 0;
-    while i < to.len() {
-        to[i] = byte_at(bytes, at + i);
-        i += 1;
+    let at = j as usize;
+    put_ends(
+        tables,
+        j,
+        byte_at(bytes, 130 + at),
+        byte_at(bytes, 642 + at),
+    );
+    if j < 256 {
+        let uses = byte_at(bytes, 1666 + at);
+        put_port(
+            tables,
+            j,
+            uses,
+            mask_at(bytes, 1922 + at * 4),
+            mask_at(bytes, 2946 + at * 4),
+        );
+    }
+    if j < 128 {
+        put_behavior(tables, j, mask_at(bytes, 1154 + at * 4));
+    }
+    if j < 16 {
+        fill_type(tables, bytes, j);
     }
 }
 
-fn read_masks(bytes: &[u8; BYTES], at: usize, to: &mut [u32])
-    requires { ⌜ at + length (now to) * 4 ≤ 6254 ⌝ }
+pub(crate) fn fill_tables(tables: &mut TableWords, bytes: &[u8; BYTES]) {
+    start_tables(tables, byte_at(bytes, 0), byte_at(bytes, 1));
+    for j in 0..512u32 {
+        fill_row(tables, bytes, j);
+    }
+}
+
+fn fill_instruction(program: &mut ProgramWords, bytes: &[u8; BYTES], n: u32)
+    requires { ⌜ n < 256 ⌝ }
 {
-    let mut i: usize = 0;
-    while i < to.len() {
-        to[i] = mask_at(bytes, at + i * 4);
-        i += 1;
+    let at = 3970 + (n as usize) * 5;
+    let verb = byte_at(bytes, at);
+    let id = byte_at(bytes, at + 1);
+    let number = byte_at(bytes, at + 2);
+    let provider = byte_at(bytes, at + 3);
+    let provideport = byte_at(bytes, at + 4);
+    put_instruction(program, n, verb, id, number, provider, provideport);
+}
+
+pub(crate) fn fill_program(program: &mut ProgramWords, bytes: &[u8; BYTES]) {
+    start_program(program, mask_at(bytes, 5250));
+    for n in 0..256u32 {
+        fill_instruction(program, bytes, n);
     }
 }
 
-fn type_at(bytes: &[u8; BYTES], at: usize) -> ComponentType
-    requires { ⌜ at ≤ 6000 ⌝ }
+fn fill_instance(state: &mut StateWords, bytes: &[u8; BYTES], i: u32)
+    requires { ⌜ i < 32 ⌝ }
 {
-    ComponentType {
-        places: byte_at(bytes, at),
-        initial: mask_at(bytes, at + 1),
-        transitions: byte_at(bytes, at + 5),
-        behaviors: byte_at(bytes, at + 6),
-        ports: byte_at(bytes, at + 7),
-    }
+    let at = 5254 + (i as usize) * 15;
+    let kind = byte_at(bytes, at + 1);
+    let marked = mask_at(bytes, at + 2);
+    put_bare(state, i, byte_at(bytes, at) != 0, kind, marked);
+    put_sets(
+        state,
+        i,
+        marked,
+        mask_at(bytes, at + 6),
+        mask_at(bytes, at + 10),
+    );
+    put_queued(state, i, byte_at(bytes, at + 14));
 }
 
-fn with_types(t: Tables, bytes: &[u8; BYTES]) -> Tables {
-    let mut next = t;
-    for i in 0..16usize {
-        next.types[i] = type_at(bytes, 2 + i * 8);
-    }
-    next
-}
-
-fn transitions_of(bytes: &[u8; BYTES]) -> Transitions {
-    let mut source = [0u8; 512];
-    read_bytes(bytes, 130, &mut source);
-    let mut destination = [0u8; 512];
-    read_bytes(bytes, 642, &mut destination);
-    Transitions {
-        source: source,
-        destination: destination,
-    }
-}
-
-fn ports_of(bytes: &[u8; BYTES]) -> Ports {
-    let mut uses = [0u8; 256];
-    read_bytes(bytes, 1666, &mut uses);
-    let mut places = [0u32; 256];
-    read_masks(bytes, 1922, &mut places);
-    let mut transitions = [0u32; 256];
-    read_masks(bytes, 2946, &mut transitions);
-    Ports {
-        uses: uses,
-        places: places,
-        transitions: transitions,
-    }
-}
-
-pub(crate) fn tables_of(bytes: &[u8; BYTES]) -> Tables {
-    let t = with_types(no_tables(), bytes);
-    let types = t.types;
-    let mut behaviors = [0u32; 128];
-    read_masks(bytes, 1154, &mut behaviors);
-    Tables {
-        depth: byte_at(bytes, 0),
-        count: byte_at(bytes, 1),
-        types: types,
-        transitions: transitions_of(bytes),
-        behaviors: behaviors,
-        ports: ports_of(bytes),
-    }
-}
-
-fn instruction_at(bytes: &[u8; BYTES], at: usize) -> Instruction
-    requires { ⌜ at ≤ 6000 ⌝ }
+fn fill_connection(state: &mut StateWords, bytes: &[u8; BYTES], l: u32)
+    requires { ⌜ l < 64 ⌝ }
 {
-    Instruction {
-        verb: byte_at(bytes, at),
-        id: byte_at(bytes, at + 1),
-        number: byte_at(bytes, at + 2),
-        provider: byte_at(bytes, at + 3),
-        provideport: byte_at(bytes, at + 4),
-    }
+    let at = 5990 + (l as usize) * 4;
+    let user = byte_at(bytes, at);
+    let useport = byte_at(bytes, at + 1);
+    let provider = byte_at(bytes, at + 2);
+    put_connection(state, l, user, useport, provider, byte_at(bytes, at + 3));
 }
 
-pub(crate) fn program_of(bytes: &[u8; BYTES]) -> Program {
-    let mut next = no_program();
-    for i in 0..256usize {
-        next.instructions[i] = instruction_at(bytes, 3970 + i * 5);
-    }
-    next.count = count_at(bytes, 5250);
-    next
-}
-
-fn instance_at(bytes: &[u8; BYTES], at: usize) -> Instance
-    requires { ⌜ at ≤ 6000 ⌝ }
+// Queue slot n, connection n and instance n, as far as there are so many.
+fn fill_slot(state: &mut StateWords, bytes: &[u8; BYTES], n: u32)
+    requires { ⌜ n < 256 ⌝ }
 {
-    Instance {
-        present: byte_at(bytes, at) != 0,
-        kind: byte_at(bytes, at + 1),
-        marked: mask_at(bytes, at + 2),
-        running: mask_at(bytes, at + 6),
-        ended: mask_at(bytes, at + 10),
-        queued: byte_at(bytes, at + 14),
+    let at = n as usize;
+    put_slot(state, at, byte_at(bytes, 5734 + at));
+    if n < 64 {
+        fill_connection(state, bytes, n);
+    }
+    if n < 32 {
+        fill_instance(state, bytes, n);
     }
 }
 
-fn connection_at(bytes: &[u8; BYTES], at: usize) -> Connection
-    requires { ⌜ at ≤ 6250 ⌝ }
-{
-    Connection {
-        user: byte_at(bytes, at),
-        useport: byte_at(bytes, at + 1),
-        provider: byte_at(bytes, at + 2),
-        provideport: byte_at(bytes, at + 3),
+pub(crate) fn fill_state(state: &mut StateWords, bytes: &[u8; BYTES]) {
+    clear_state(state);
+    for n in 0..256u32 {
+        fill_slot(state, bytes, n);
     }
-}
-
-// Instance i and connection i.
-fn with_row(c: Configuration, bytes: &[u8; BYTES], i: usize) -> Configuration
-    requires { ⌜ i < 64 ⌝ }
-{
-    let mut next = c;
-    if i < 32 {
-        next.instances[i] = instance_at(bytes, 5254 + i * 15);
-    }
-    next.connections[i] = connection_at(bytes, 5990 + i * 4);
-    next
-}
-
-fn with_rows(c: Configuration, bytes: &[u8; BYTES]) -> Configuration {
-    let mut next = c;
-    for i in 0..64usize {
-        next = with_row(next, bytes, i);
-    }
-    next
-}
-
-pub(crate) fn configuration_of(bytes: &[u8; BYTES]) -> Configuration {
-    let c = with_rows(start(), bytes);
-    let instances = c.instances;
-    let connections = c.connections;
-    let mut queue = [0u8; 256];
-    read_bytes(bytes, 5734, &mut queue);
-    Configuration {
-        instances: instances,
-        queue: queue,
-        connections: connections,
-        count: byte_at(bytes, 6246),
-        done: count_at(bytes, 6247),
-    }
-}
-
-pub(crate) fn step_of(bytes: &[u8; BYTES]) -> Step {
-    Step {
-        verb: byte_at(bytes, 6251),
-        id: byte_at(bytes, 6252),
-        number: byte_at(bytes, 6253),
-    }
+    put_count(state, byte_at(bytes, 6246));
+    put_done(state, mask_at(bytes, 6247));
 }

@@ -6,10 +6,10 @@ mod shown;
 
 use hall::hall;
 use lent::BYTES;
-use lent::configuration_of;
-use lent::program_of;
-use lent::step_of;
-use lent::tables_of;
+use lent::byte_at;
+use lent::fill_program;
+use lent::fill_state;
+use lent::fill_tables;
 use libc::STDIN_FILENO;
 use libc::STDOUT_FILENO;
 use lines::Line;
@@ -18,41 +18,28 @@ use lines::ended;
 use lines::fresh;
 use lines::is_over;
 use lines::read_byte;
-use model::Configuration;
-use model::Program;
-use model::Step;
-use model::Stepped;
-use model::Tables;
-use model::wide;
 use shown::show;
-ghost use mathlib.Core.Path.{_≡_};
-ghost use Rattle.hall.specs.Screen.{hallStep};
+use words::ProgramWords;
+use words::StateWords;
+use words::TableWords;
 
-fn answered(refused: u8, c: Configuration) -> Stepped
-    ensures { λ r. ⌜ r ≡ record { refused = refused; configuration = c } ⌝ }
-{
-    Stepped {
-        refused: refused,
-        configuration: c,
-    }
-}
-
-// Lends a configuration of its own. Its proof is a walk by hand.
-fn lend(t: Tables, p: Program, c: Configuration, s: Step) -> Stepped
-    ensures { λ r. ⌜ r ≡ hallStep t p c s ⌝ }
-{
-    let mut lent = c;
-    let refused = hall(t, p, &mut lent, s);
-    answered(refused, lent)
+fn wide(x: u32) -> usize {
+    x as usize
 }
 
 fn run_case(name: &[u8; 64], size: usize, bytes: &[u8; BYTES]) {
-    let tables = tables_of(bytes);
-    let program = program_of(bytes);
-    let before = configuration_of(bytes);
-    let step = step_of(bytes);
-    let after = lend(tables, program, before, step);
-    show(name, size, wide(after.refused), before, after.configuration);
+    let mut tables: TableWords = [0; 2002];
+    fill_tables(&mut tables, bytes);
+    let mut program: ProgramWords = [0; 1281];
+    fill_program(&mut program, bytes);
+    let mut state: StateWords = [0; 675];
+    fill_state(&mut state, bytes);
+    let before = state;
+    let verb = byte_at(bytes, 6251);
+    let id = byte_at(bytes, 6252);
+    let number = byte_at(bytes, 6253);
+    let refused = hall(&tables, &program, &mut state, verb, id, number);
+    show(name, size, wide(refused), &before, &state);
 }
 
 // At the end of a line its case is run, and the next line begins with nothing lent.

@@ -3,79 +3,89 @@ use inks::write_byte;
 use inks::write_key;
 use inks::write_number;
 use libc::STDOUT_FILENO;
-use model::Configuration;
-use model::Connection;
-use model::Instance;
 use model::wide;
+use words::StateWords;
+use words::state::connections;
+use words::state::done;
+use words::state::ended;
+use words::state::kind;
+use words::state::marked;
+use words::state::present;
+use words::state::provideport;
+use words::state::provider;
+use words::state::queued;
+use words::state::running;
+use words::state::slot_at;
+use words::state::useport;
+use words::state::user;
 ghost use Prim.Native.Nat.{_≤_, _<_};
 
 const BYTES: usize = 997;
 
 const ROOM: usize = 8192;
 
-fn put_byte(out: &mut [u8; BYTES], at: usize, b: u8) {
+fn put_byte(out: &mut [u8; BYTES], at: usize, x: u32) {
     if at < BYTES {
-        out[at] = b;
+        out[at] = (x % 256) as u8;
     }
 }
 
-fn put_pair(out: &mut [u8; BYTES], at: usize, n: usize)
+fn put_pair(out: &mut [u8; BYTES], at: usize, x: u32)
     requires { ⌜ at ≤ 996 ⌝ }
 {
-    put_byte(out, at, (n % 256) as u8);
-    put_byte(out, at + 1, (n / 256 % 256) as u8);
+    put_byte(out, at, x);
+    put_byte(out, at + 1, x / 256);
 }
 
-fn put_long(out: &mut [u8; BYTES], at: usize, n: usize)
+fn put_long(out: &mut [u8; BYTES], at: usize, x: u32)
     requires { ⌜ at ≤ 994 ⌝ }
 {
-    put_pair(out, at, n);
-    put_pair(out, at + 2, n / 65536);
+    put_pair(out, at, x);
+    put_pair(out, at + 2, x / 65536);
 }
 
-fn long(m: u32) -> usize {
-    m as usize
-}
-
-fn put_instance(out: &mut [u8; BYTES], at: usize, v: Instance)
-    requires { ⌜ at ≤ 480 ⌝ }
+fn put_instance(out: &mut [u8; BYTES], state: &StateWords, i: u32)
+    requires { ⌜ i < 32 ⌝ }
 {
-    put_byte(out, at, if v.present { 1 } else { 0 });
-    put_byte(out, at + 1, v.kind);
-    put_long(out, at + 2, long(v.marked));
-    put_long(out, at + 6, long(v.running));
-    put_long(out, at + 10, long(v.ended));
-    put_byte(out, at + 14, v.queued);
+    let at = (i as usize) * 15;
+    put_byte(out, at, if present(state, i) { 1 } else { 0 });
+    put_byte(out, at + 1, kind(state, i));
+    put_long(out, at + 2, marked(state, i));
+    put_long(out, at + 6, running(state, i));
+    put_long(out, at + 10, ended(state, i));
+    put_byte(out, at + 14, queued(state, i));
 }
 
-fn put_connection(out: &mut [u8; BYTES], at: usize, k: Connection)
-    requires { ⌜ at ≤ 990 ⌝ }
+fn put_connection(out: &mut [u8; BYTES], state: &StateWords, l: u32)
+    requires { ⌜ l < 64 ⌝ }
 {
-    put_byte(out, at, k.user);
-    put_byte(out, at + 1, k.useport);
-    put_byte(out, at + 2, k.provider);
-    put_byte(out, at + 3, k.provideport);
+    let at = 736 + (l as usize) * 4;
+    put_byte(out, at, user(state, l));
+    put_byte(out, at + 1, useport(state, l));
+    put_byte(out, at + 2, provider(state, l));
+    put_byte(out, at + 3, provideport(state, l));
 }
 
-// Queue slot i, instance i and connection i.
-fn put_row(out: &mut [u8; BYTES], c: Configuration, i: usize)
-    requires { ⌜ i < 256 ⌝ }
+// Queue slot n, instance n and connection n, as far as there are so many.
+fn put_row(out: &mut [u8; BYTES], state: &StateWords, n: u32)
+    requires { ⌜ n < 256 ⌝ }
 {
-    put_byte(out, 480 + i, c.queue[i]);
-    if i < 32 {
-        put_instance(out, i * 15, c.instances[i]);
+    let at = n as usize;
+    put_byte(out, 480 + at, slot_at(state, at));
+    if n < 32 {
+        put_instance(out, state, n);
     }
-    if i < 64 {
-        put_connection(out, 736 + i * 4, c.connections[i]);
+    if n < 64 {
+        put_connection(out, state, n);
     }
 }
 
-fn put_configuration(out: &mut [u8; BYTES], c: Configuration) {
-    for i in 0..256usize {
-        put_row(out, c, i);
+fn put_state(out: &mut [u8; BYTES], state: &StateWords) {
+    for n in 0..256u32 {
+        put_row(out, state, n);
     }
-    put_byte(out, 992, c.count);
-    put_long(out, 993, c.done);
+    put_byte(out, 992, connections(state));
+    put_long(out, 993, done(state));
 }
 
 // Nothing for a byte that stands as it was lent.
@@ -134,13 +144,13 @@ pub(crate) fn show(
     name: &[u8],
     size: usize,
     refused: usize,
-    before: Configuration,
-    after: Configuration,
+    before: &StateWords,
+    after: &StateWords,
 ) {
     let mut old = [0u8; BYTES];
-    put_configuration(&mut old, before);
+    put_state(&mut old, before);
     let mut new = [0u8; BYTES];
-    put_configuration(&mut new, after);
+    put_state(&mut new, after);
     let mut line = [0u8; ROOM];
     let end = write_line(&mut line, name, size, refused, &old, &new);
     print_line(&line, end);

@@ -5,10 +5,9 @@ use Rattle.lawfulness.proofs.configuration_lawful.Tie as tie
 
 returns : tie.Need-returns
 unfolding configurationLawful
-returns c = rw (c .before .before .before .instances-lawful .ensures, c .connections-lawful .ensures)
+returns c =
+    let i = c .before in
+    rw (← i .before .before .instances-lawful .ensures, ← c .connections-lawful .ensures, ← i .instructions .ensures, ← i .before .done .ensures)
 
 pub configuration-lawful-spec : {M : Type 1} → statement M
-configuration-lawful-spec =
-    tie.close
-    (tie.spec
-    (λ c κs. search needs) (λ c κs. search needs) returns)
+configuration-lawful-spec = tie.close (tie.spec (λ c κs. search needs) (λ c κs. search needs) (λ c κs. search needs) (λ c κs. search needs) returns)

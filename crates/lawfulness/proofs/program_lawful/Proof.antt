@@ -1,22 +1,23 @@
 use Prim.Native.Nat.{_-_}
-use borrow.Author.Needs.{needs}
-use lib.ListN.{getD}
 use borrow.Author.Tests.{lt-leb, le-leb}
+use lib.ListN.{getD}
 use Rattle.model.specs.Empty.{noInstruction}
+use Rattle.words.specs.Words.{programIn}
 use Rattle.reading.specs.Lawful.{instructionLawful, programLawful}
 use Rattle.lawfulness.proofs.Loops.{Passed, none-yet, one-fails, one-more, all-passed}
+use borrow.Author.Needs.{needs}
 use Rattle.lawfulness.proofs.program_lawful.Statement.{statement}
 use Rattle.lawfulness.proofs.program_lawful.Tie as tie
 
 abbrev Inv-loop : tie.InvT-loop
-Inv-loop n p count j₀ j = Passed count (λ x. instructionLawful n (getD (p .instructions) x noInstruction)) j
+Inv-loop n program count j₀ j = Passed count (λ x. instructionLawful n (getD (programIn program .instructions) x noInstruction)) j
 
 abbrev μ-loop : tie.MeasureT-loop
-μ-loop n p count j₀ j = count - j
+μ-loop n program count j₀ j = count - j
 
 returns : tie.Need-returns Inv-loop μ-loop
 unfolding programLawful
-returns c = rw (lt-leb _ _ (c .if1 .taken))
+returns c = rw (← c .before .instructions .ensures, lt-leb _ _ (c .if1 .taken))
 
 loop-holds : tie.Need-loop-holds Inv-loop μ-loop
 loop-holds c = none-yet _ _
@@ -24,21 +25,20 @@ loop-holds c = none-yet _ _
 returns-2 : tie.Need-returns-2 Inv-loop μ-loop
 unfolding programLawful
 returns-2 c =
-    rw (le-leb _ _ (c .before .before .before .before .before .if1 .left))
-    (one-fails _ _ (c .before .before .before .before .loop .j) _ (c .before .before .before .loop-test .taken) (c .before .instruction-lawful .ensures) (c .if2 .taken))
+    let l = c .before .before .before in
+    rw (← l .before .before .instructions .ensures, le-leb _ _ (l .before .if1 .left))
+    (one-fails _ _ (l .loop .j) _ (c .before .before .loop-test .taken) (c .before .instruction-lawful .ensures) (c .if2 .taken))
 
 loop-again : tie.Need-loop-again Inv-loop μ-loop
-loop-again c = one-more _ _ (c .before .before .before .before .loop .j) _ (c .before .before .before .loop-test .taken) (c .before .instruction-lawful .ensures) (c .before .before .before .before .loop .inv) (c .if2 .left)
+loop-again c =
+    let l = c .before .before .before in
+    one-more _ _ (l .loop .j) _ (c .before .before .loop-test .taken) (c .before .instruction-lawful .ensures) (l .loop .inv) (c .if2 .left)
 
 returns-3 : tie.Need-returns-3 Inv-loop μ-loop
 unfolding programLawful
 returns-3 c =
-    rw (le-leb _ _ (c .before .before .if1 .left))
-    (all-passed _ _ (c .before .loop .j) (c .before .loop .inv) (c .loop-test .left))
+    let l = c .before in
+    rw (← l .before .before .instructions .ensures, le-leb _ _ (l .before .if1 .left)) (all-passed _ _ (l .loop .j) (l .loop .inv) (c .loop-test .left))
 
 pub program-lawful-spec : {M : Type 1} → statement M
-program-lawful-spec =
-    tie.close
-    (tie.spec
-    Inv-loop μ-loop returns loop-holds (λ c. search needs) (λ c. search needs)
-    (λ c κs. search needs) returns-2 (λ c. search needs) (λ c. search needs) loop-again returns-3)
+program-lawful-spec = tie.close (tie.spec Inv-loop μ-loop (λ c κs. search needs) returns loop-holds (λ c κs. search needs) returns-2 (λ c. search needs) (λ c. search needs) loop-again returns-3)

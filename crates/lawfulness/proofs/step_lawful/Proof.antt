@@ -12,19 +12,19 @@ returns c = rw (c .match .keys1)
 
 returns-2 : tie.Need-returns-2
 unfolding stepLawful
-returns-2 c = rw (c .before .before .match .keys2)
+returns-2 c = rw (c .match .keys2)
 
 returns-3 : tie.Need-returns-3
 unfolding stepLawful
-returns-3 c = rw (c .before .before .match .keys3)
+returns-3 c = rw (c .match .keys3)
 
 returns-4 : tie.Need-returns-4
 unfolding stepLawful
-returns-4 c = rw (c .before .before .match .keys4)
+returns-4 c = rw (c .match .keys4)
 
 returns-5 : tie.Need-returns-5
 unfolding stepLawful
-returns-5 c = rw (c .before .match .keys5) (sym (and-true _))
+returns-5 c = rw (c .match .keys5) (sym (and-true _))
 
 returns-6 : tie.Need-returns-6
 unfolding stepLawful
@@ -36,7 +36,7 @@ returns-6 c =
       ne-eqb _ _ (r .0 .0 .1),
       ne-eqb _ _ (r .0 .1),
       ne-eqb _ _ (r .1),
-    ) (sym (and-false (idOk (c .before .args .s .id))))
+    ) (sym (and-false (idOk (c .before .args .id))))
 
 pub step-lawful-spec : {M : Type 1} → statement M
 step-lawful-spec = tie.close (tie.spec returns returns-2 returns-3 returns-4 returns-5 returns-6)

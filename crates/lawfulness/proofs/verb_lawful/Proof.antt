@@ -3,19 +3,19 @@ use Rattle.lawfulness.proofs.verb_lawful.Statement.{statement}
 use Rattle.lawfulness.proofs.verb_lawful.Tie as tie
 
 returns : tie.Need-returns
-returns c = rw (c .before .match .keys1)
+returns c = rw (c .match .keys1)
 
 returns-2 : tie.Need-returns-2
 returns-2 c = rw (c .match .keys2)
 
 returns-3 : tie.Need-returns-3
-returns-3 c = rw (c .before .match .keys3)
+returns-3 c = rw (c .match .keys3)
 
 returns-4 : tie.Need-returns-4
-returns-4 c = rw (c .before .before .before .match .keys4)
+returns-4 c = rw (c .match .keys4)
 
 returns-5 : tie.Need-returns-5
-returns-5 c = rw (c .before .before .before .match .keys5)
+returns-5 c = rw (c .match .keys5)
 
 returns-6 : tie.Need-returns-6
 returns-6 c = rw (c .match .keys6)

@@ -1,20 +1,28 @@
-use Prim.Native.Nat.{_-_}
-use borrow.Author.Needs.{needs}
-use borrow.Author.Tests.{lt-leb, le-leb}
+use mathlib.Core.Path.{ap, _∙_}
+use mathlib.Core.Bool.{Bool, _&&_}
+use Prim.Native.Nat.{ℕ, _-_}
+use lib.Dec.{leb}
+use Rattle.sets.specs.Test.{allBelow}
+use Rattle.words.specs.Words.{tablesIn, stateIn}
 use Rattle.lawfulness.specs.Lawful.{connectionLawful, connectionsLawful}
-use Rattle.lawfulness.proofs.Loops.{Passed, none-yet, one-fails, one-more, all-passed}
+use Rattle.lawfulness.proofs.Loops.{Passed, none-yet, one-fails, one-more, all-passed, too-many, few}
+use borrow.Author.Needs.{needs}
 use Rattle.lawfulness.proofs.configurations.connections_lawful.Statement.{statement}
 use Rattle.lawfulness.proofs.configurations.connections_lawful.Tie as tie
 
 abbrev Inv-loop : tie.InvT-loop
-Inv-loop t c n l₀ l = Passed n (connectionLawful t c) l
+Inv-loop tables state n l₀ l = Passed n (connectionLawful (tablesIn tables) (stateIn state)) l
 
 abbrev μ-loop : tie.MeasureT-loop
-μ-loop t c n l₀ l = n - l
+μ-loop tables state n l₀ l = n - l
+
+-- the first n connections
+abbrev first : tie.Start Inv-loop μ-loop → ℕ → Bool
+first s n = leb n 64 && allBelow n (connectionLawful (tablesIn (s .args .tables .now)) (stateIn (s .args .state .now)))
 
 returns : tie.Need-returns Inv-loop μ-loop
 unfolding connectionsLawful
-returns c = rw (lt-leb _ _ (c .if1 .taken))
+returns c = too-many _ 64 _ (c .if1 .taken) ∙ ap (first (c .before .before)) (c .before .connections .ensures)
 
 loop-holds : tie.Need-loop-holds Inv-loop μ-loop
 loop-holds c = none-yet _ _
@@ -22,21 +30,24 @@ loop-holds c = none-yet _ _
 returns-2 : tie.Need-returns-2 Inv-loop μ-loop
 unfolding connectionsLawful
 returns-2 c =
-    rw (le-leb _ _ (c .before .before .before .before .if1 .left))
-    (one-fails _ _ (c .before .before .before .loop .l) _ (c .before .before .loop-test .taken) (c .before .connection-lawful .ensures) (c .if2 .taken))
+    let l = c .before .before .before in
+    let e = l .before in
+    few _ 64 _ (e .if1 .left) (one-fails _ _ (l .loop .l) _ (c .before .before .loop-test .taken) (c .before .connection-lawful .ensures) (c .if2 .taken))
+    ∙ ap (first (e .before .before)) (e .before .connections .ensures)
 
 loop-again : tie.Need-loop-again Inv-loop μ-loop
-loop-again c = one-more _ _ (c .before .before .before .loop .l) _ (c .before .before .loop-test .taken) (c .before .connection-lawful .ensures) (c .before .before .before .loop .inv) (c .if2 .left)
+loop-again c =
+    let l = c .before .before .before in
+    one-more _ _ (l .loop .l) _ (c .before .before .loop-test .taken) (c .before .connection-lawful .ensures) (l .loop .inv) (c .if2 .left)
 
 returns-3 : tie.Need-returns-3 Inv-loop μ-loop
 unfolding connectionsLawful
 returns-3 c =
-    rw (le-leb _ _ (c .before .before .if1 .left))
-    (all-passed _ _ (c .before .loop .l) (c .before .loop .inv) (c .loop-test .left))
+    let l = c .before in
+    let e = l .before in
+    few _ 64 _ (e .if1 .left) (all-passed _ _ (l .loop .l) (l .loop .inv) (c .loop-test .left)) ∙ ap (first (e .before .before)) (e .before .connections .ensures)
 
 pub connections-lawful-spec : {M : Type 1} → statement M
 connections-lawful-spec =
     tie.close
-    (tie.spec
-    Inv-loop μ-loop returns loop-holds (λ c κs. search needs) returns-2
-    (λ c. search needs) (λ c. search needs) loop-again returns-3)
+    (tie.spec Inv-loop μ-loop (λ c κs. search needs) returns loop-holds (λ c κs. search needs) returns-2 (λ c. search needs) (λ c. search needs) loop-again returns-3)

@@ -1,3 +1,4 @@
+use borrow.Author.Tests.{not-true, not-false}
 use Rattle.lawfulness.specs.Lawful.{instanceLawful}
 use borrow.Author.Needs.{needs}
 use Rattle.lawfulness.proofs.configurations.instance_lawful.Statement.{statement}
@@ -5,13 +6,11 @@ use Rattle.lawfulness.proofs.configurations.instance_lawful.Tie as tie
 
 returns : tie.Need-returns
 unfolding instanceLawful
-returns c =
-    let b = c .before .before in
-    let v = rw (b .before .wide .ensures .0) at (b .instance-of .ensures) in
-    rw (← v, c .numbers-lawful .ensures)
+returns c = rw (← c .before .present .ensures, c .if1 .taken)
+
+returns-2 : tie.Need-returns-2
+unfolding instanceLawful
+returns-2 c = rw (← c .before .before .present .ensures, c .before .if1 .left) (c .numbers-lawful .ensures)
 
 pub instance-lawful-spec : {M : Type 1} → statement M
-instance-lawful-spec =
-    tie.close
-    (tie.spec
-    (λ c κs. search needs) (λ c κs. search needs) (λ c κs. search needs) returns)
+instance-lawful-spec = tie.close (tie.spec (λ c κs. search needs) returns (λ c κs. search needs) returns-2)

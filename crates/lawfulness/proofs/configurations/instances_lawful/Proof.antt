@@ -1,31 +1,32 @@
 use Prim.Native.Nat.{_-_}
-use borrow.Author.Needs.{needs}
+use Rattle.words.specs.Words.{tablesIn, stateIn}
 use Rattle.lawfulness.specs.Lawful.{instanceLawful}
 use Rattle.lawfulness.proofs.Loops.{Passed, none-yet, one-fails, one-more, all-passed}
+use borrow.Author.Needs.{needs}
 use Rattle.lawfulness.proofs.configurations.instances_lawful.Statement.{statement}
 use Rattle.lawfulness.proofs.configurations.instances_lawful.Tie as tie
 
 abbrev Inv-loop : tie.InvT-loop
-Inv-loop default t c i₀ i = Passed 32 (instanceLawful default t c) i
+Inv-loop default tables state i₀ i = Passed 32 (instanceLawful default (tablesIn tables) (stateIn state)) i
 
 abbrev μ-loop : tie.MeasureT-loop
-μ-loop default t c i₀ i = 32 - i
+μ-loop default tables state i₀ i = 32 - i
 
 loop-holds : tie.Need-loop-holds Inv-loop μ-loop
 loop-holds c = none-yet _ _
 
 returns : tie.Need-returns Inv-loop μ-loop
-returns c = one-fails _ _ (c .before .before .before .loop .i) _ (c .before .before .loop-test .taken) (c .before .instance-lawful .ensures) (c .if1 .taken)
+returns c =
+    let l = c .before .before .before in
+    one-fails _ _ (l .loop .i) _ (c .before .before .loop-test .taken) (c .before .instance-lawful .ensures) (c .if1 .taken)
 
 loop-again : tie.Need-loop-again Inv-loop μ-loop
-loop-again c = one-more _ _ (c .before .before .before .loop .i) _ (c .before .before .loop-test .taken) (c .before .instance-lawful .ensures) (c .before .before .before .loop .inv) (c .if1 .left)
+loop-again c =
+    let l = c .before .before .before in
+    one-more _ _ (l .loop .i) _ (c .before .before .loop-test .taken) (c .before .instance-lawful .ensures) (l .loop .inv) (c .if1 .left)
 
 returns-2 : tie.Need-returns-2 Inv-loop μ-loop
 returns-2 c = all-passed _ _ (c .before .loop .i) (c .before .loop .inv) (c .loop-test .left)
 
 pub instances-lawful-spec : {M : Type 1} → statement M
-instances-lawful-spec =
-    tie.close
-    (tie.spec
-    Inv-loop μ-loop loop-holds (λ c κs. search needs) returns (λ c. search needs)
-    (λ c. search needs) loop-again returns-2)
+instances-lawful-spec = tie.close (tie.spec Inv-loop μ-loop loop-holds (λ c κs. search needs) returns (λ c. search needs) (λ c. search needs) loop-again returns-2)

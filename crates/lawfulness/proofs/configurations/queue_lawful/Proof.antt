@@ -1,31 +1,39 @@
 use Prim.Native.Nat.{_-_}
-use borrow.Author.Needs.{needs}
-use Rattle.lawfulness.specs.Lent.{queuedLent}
+use borrow.Author.Tests.{lt-leb, le-leb}
+use Rattle.words.specs.Words.{tablesIn, stateIn}
+use Rattle.lawfulness.specs.Lawful.{queuedLawful}
 use Rattle.lawfulness.proofs.Loops.{Passed, none-yet, one-fails, one-more, all-passed}
+use borrow.Author.Needs.{needs}
 use Rattle.lawfulness.proofs.configurations.queue_lawful.Statement.{statement}
 use Rattle.lawfulness.proofs.configurations.queue_lawful.Tie as tie
 
 abbrev Inv-loop : tie.InvT-loop
-Inv-loop queue v i n r₀ r = Passed n (queuedLent queue v i) r
+Inv-loop default tables state i n r₀ r = Passed n (queuedLawful (tablesIn tables) (stateIn state) i) r
 
 abbrev μ-loop : tie.MeasureT-loop
-μ-loop queue v i n r₀ r = n - r
+μ-loop default tables state i n r₀ r = n - r
+
+returns : tie.Need-returns Inv-loop μ-loop
+returns c = rw (← c .before .before .queued .ensures, ← c .before .depth-of .ensures, lt-leb _ _ (c .if1 .taken))
 
 loop-holds : tie.Need-loop-holds Inv-loop μ-loop
 loop-holds c = none-yet _ _
 
-returns : tie.Need-returns Inv-loop μ-loop
-returns c = one-fails _ _ (c .before .before .before .loop .r) _ (c .before .before .loop-test .taken) (c .before .queued-lawful .ensures) (c .if1 .taken)
+returns-2 : tie.Need-returns-2 Inv-loop μ-loop
+returns-2 c =
+    let l = c .before .before .before in
+    rw (← l .before .before .before .queued .ensures, ← l .before .before .depth-of .ensures, le-leb _ _ (l .before .if1 .left))
+    (one-fails _ _ (l .loop .r) _ (c .before .before .loop-test .taken) (c .before .queued-lawful .ensures) (c .if2 .taken))
 
 loop-again : tie.Need-loop-again Inv-loop μ-loop
-loop-again c = one-more _ _ (c .before .before .before .loop .r) _ (c .before .before .loop-test .taken) (c .before .queued-lawful .ensures) (c .before .before .before .loop .inv) (c .if1 .left)
+loop-again c =
+    let l = c .before .before .before in
+    one-more _ _ (l .loop .r) _ (c .before .before .loop-test .taken) (c .before .queued-lawful .ensures) (l .loop .inv) (c .if2 .left)
 
-returns-2 : tie.Need-returns-2 Inv-loop μ-loop
-returns-2 c = all-passed _ _ (c .before .loop .r) (c .before .loop .inv) (c .loop-test .left)
+returns-3 : tie.Need-returns-3 Inv-loop μ-loop
+returns-3 c =
+    let l = c .before in
+    rw (← l .before .before .before .queued .ensures, ← l .before .before .depth-of .ensures, le-leb _ _ (l .before .if1 .left)) (all-passed _ _ (l .loop .r) (l .loop .inv) (c .loop-test .left))
 
 pub queue-lawful-spec : {M : Type 1} → statement M
-queue-lawful-spec =
-    tie.close
-    (tie.spec
-    Inv-loop μ-loop loop-holds (λ c κs. search needs) returns (λ c. search needs)
-    (λ c. search needs) loop-again returns-2)
+queue-lawful-spec = tie.close (tie.spec Inv-loop μ-loop (λ c κs. search needs) (λ c κs. search needs) returns loop-holds (λ c κs. search needs) returns-2 (λ c. search needs) (λ c. search needs) loop-again returns-3)

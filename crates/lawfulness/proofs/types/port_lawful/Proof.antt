@@ -1,30 +1,16 @@
-use Rattle.lawfulness.specs.Lent.{portLent}
+use Rattle.reading.specs.Lawful.{portLawful}
 use borrow.Author.Needs.{needs}
 use Rattle.lawfulness.proofs.types.port_lawful.Statement.{statement}
 use Rattle.lawfulness.proofs.types.port_lawful.Tie as tie
 
 returns : tie.Need-returns
-unfolding portLent
+unfolding portLawful
 returns c =
-    let o = c .before .before in
-    let p = o .before in
-    let g = p .before .before in
-    let u = g .before .before in
-    let w = u .before .before in
-    rw (
-      ← w .before .wide .ensures .0,
-      ← w .wide2 .ensures .0,
-      ← u .number-at .ensures .0,
-      ← g .mask-at .ensures,
-      ← p .mask-at2 .ensures,
-      c .before .mask-ok .ensures,
-      c .mask-ok2 .ensures,
-      o .overlaps .ensures,
-    )
+    let t = c .before in
+    let m = t .before in
+    let o = m .before .before in
+    let h = o .before .before in
+    rw (← h .before .before .port-kind .ensures, ← h .before .group-places .ensures, ← h .group-transitions .ensures, ← o .before .initial-of .ensures, ← o .overlaps .ensures, ← m .before .places-of .ensures, ← m .mask-ok .ensures, ← t .transitions-of .ensures, ← c .mask-ok2 .ensures)
 
 pub port-lawful-spec : {M : Type 1} → statement M
-port-lawful-spec =
-    tie.close
-    (tie.spec
-    (λ c κs. search needs) (λ c. search needs) (λ c κs. search needs) (λ c. search needs) (λ c κs. search needs) (λ c κs. search needs)
-    (λ c κs. search needs) (λ c κs. search needs) (λ c κs. search needs) (λ c κs. search needs) returns)
+port-lawful-spec = tie.close (tie.spec (λ c κs. search needs) (λ c κs. search needs) (λ c κs. search needs) (λ c κs. search needs) (λ c κs. search needs) (λ c κs. search needs) (λ c κs. search needs) (λ c κs. search needs) (λ c κs. search needs) returns)

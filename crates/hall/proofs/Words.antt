@@ -1,0 +1,47 @@
+-- What the screen leaves: after 7, after a step of the rules, after a refusal.
+-- Assumes nothing.
+use mathlib.Core.Path.{_≡_, refl, sym, ap, _∙_}
+use mathlib.Core.Logic.{_≢_}
+use mathlib.Core.Bool.{Bool, true, false, not}
+use Prim.Native.Nat.{ℕ}
+use borrow.Author.Tests.{not-true, not-false}
+use Rattle.model.specs.declared.Tables.{Tables}
+use Rattle.model.specs.declared.Program.{Program}
+use Rattle.model.specs.declared.Step.{Step}
+use Rattle.model.specs.declared.Configuration.{Configuration}
+use Rattle.model.specs.declared.Stepped.{Stepped}
+use Rattle.rules.specs.Step.{step}
+use Rattle.judged.specs.Course.{defaultDepth}
+use Rattle.words.proofs.Whole.{state-words}
+use Rattle.word_walks.specs.Reached.{stepped}
+use Rattle.hall.specs.Screen.{limitBroken, lentLawful, hallStep, Left}
+use Rattle.hall.specs.Agree.{RefusedLeaves}
+use Rattle.hall.specs.Words.{RefusedIsUntouched}
+use Rattle.hall.proofs.Screen.{refused-leaves}
+
+module _ (t : Tables) (p : Program) (c : Configuration) (s : Step) where
+  module _ (lawful : Bool) (says : lawful ≡ lentLawful t p c s) where
+    pub broken-left : not lawful ≡ true → Left t p c s limitBroken c
+    unfolding hallStep
+    broken-left e = rw (sym says ∙ not-true lawful e) (refl, refl)
+
+    pub ruled-left : not lawful ≡ false → (n : ℕ) (d : Configuration) → stepped n d ≡ step defaultDepth t p c s → Left t p c s n d
+    unfolding hallStep
+    ruled-left e n d is = rw (sym says ∙ not-false lawful e) (ap (λ (m : Stepped). m .refused) is, ap (λ (m : Stepped). m .configuration) is)
+
+-- what is left after a refusal is what was lent, so that to store it or not is one
+module _ (t : Tables) (p : Program) (c d : Configuration) (s : Step) (n : ℕ) (left : Left t p c s n d) where
+  pub refused-same : n ≢ 0 → d ≡ c
+  unfolding RefusedLeaves
+  refused-same nz = left .1 ∙ refused-leaves t p c s (λ z. nz (left .0 ∙ z))
+
+  pub refused-left : n ≢ 0 → Left t p c s n c
+  refused-left nz = (left .0, sym (refused-same nz) ∙ left .1)
+
+  pub allowed-left : n ≡ 0 → Left t p c s 0 d
+  allowed-left z = (sym z ∙ left .0, left .1)
+
+pub refused-is-untouched : RefusedIsUntouched
+unfolding RefusedIsUntouched
+refused-is-untouched tables program before after s n a b h nz =
+    state-words after before (b .many) (a .many) (b .small) (a .small) (refused-same _ _ _ _ s n h nz)

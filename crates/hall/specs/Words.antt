@@ -1,0 +1,29 @@
+-- The screen's promise on lent words (words/specs/Words says what they mean).
+use mathlib.Core.Path.{_≡_}
+use mathlib.Core.Logic.{_≢_}
+use mathlib.Core.List.{List}
+use Prim.Native.Nat.{ℕ, _<_, _^_}
+use lib.ListN.{length}
+use Rattle.model.specs.declared.Step.{Step}
+use Rattle.words.specs.Rows.{word}
+use Rattle.words.specs.Words.{tablesIn, programIn, stateIn}
+use Rattle.hall.specs.Screen.{Left}
+
+-- on these words of tables, program and configuration it answers n and leaves the words `after`
+abbrev pub LeftWords : List ℕ → List ℕ → List ℕ → Step → ℕ → List ℕ → Type 0
+LeftWords tables program before s n after = Left (tablesIn tables) (programIn program) (stateIn before) s n (stateIn after)
+
+-- the words of a configuration: so many, and the first, which is a set of ids, is of 32 bits
+pub record Configured (ws : List ℕ) : Type 0 where
+  pub many : length ws ≡ 675
+  pub small : word ws 0 < 2 ^ 32
+
+-- "untouched on a refusal": every word
+unfoldable pub RefusedIsUntouched : Type 0
+RefusedIsUntouched =
+    (tables program before after : List ℕ) (s : Step) (n : ℕ)
+    → Configured before
+    → Configured after
+    → LeftWords tables program before s n after
+    → n ≢ 0
+    → after ≡ before
