@@ -1,7 +1,6 @@
 -- No other outcome fits: each promise is an equation with the definition, and words that say the same are the same.
 -- Assumes nothing.
 use mathlib.Core.Path.{sym, _∙_}
-use Rattle.words.specs.Words.{stateIn}
 use Rattle.words.proofs.Whole.{state-words}
 use Rattle.hall.specs.Once.{NoOtherLeft, NoOtherWords}
 
@@ -12,4 +11,5 @@ left-once t p c s m n d e h g = (h .0 ∙ sym (g .0), h .1 ∙ sym (g .1))
 pub words-once : NoOtherWords
 unfolding NoOtherLeft NoOtherWords
 words-once tables program before s m n ws vs a b h g =
-    (h .0 ∙ sym (g .0), state-words ws vs (a .many) (b .many) (a .small) (b .small) (h .1 ∙ sym (g .1)))
+    let same = left-once _ _ _ s m n _ _ h g in
+    (same .0, state-words ws vs (a .many) (b .many) (a .small) (b .small) (same .1))

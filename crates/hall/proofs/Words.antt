@@ -1,23 +1,28 @@
 -- What the screen leaves: after 7, after a step of the rules, after a refusal.
 -- Assumes nothing.
-use mathlib.Core.Path.{_≡_, refl, sym, ap, _∙_}
+use mathlib.Core.Path.{_≡_, refl, sym, ap, _∙_, subst⁻¹}
 use mathlib.Core.Logic.{_≢_}
-use mathlib.Core.Bool.{Bool, true, false, not}
-use Prim.Native.Nat.{ℕ}
+use mathlib.Core.Bool.{Bool, true, false, not, cond}
+use mathlib.Core.List.{List}
+use Prim.Native.Nat.{ℕ, suc}
 use borrow.Author.Tests.{not-true, not-false}
 use Rattle.model.specs.declared.Tables.{Tables}
 use Rattle.model.specs.declared.Program.{Program}
 use Rattle.model.specs.declared.Step.{Step}
 use Rattle.model.specs.declared.Configuration.{Configuration}
 use Rattle.model.specs.declared.Stepped.{Stepped}
-use Rattle.rules.specs.Step.{step}
+use Rattle.model.proofs.View.{length-list}
+use Rattle.rules.specs.Step.{isNext, action, step}
 use Rattle.judged.specs.Course.{defaultDepth}
+use Rattle.words.specs.Words.{tablesIn, programIn, stateIn}
 use Rattle.words.proofs.Whole.{state-words}
 use Rattle.word_walks.specs.Reached.{stepped}
 use Rattle.hall.specs.Screen.{limitBroken, lentLawful, hallStep, Left}
 use Rattle.hall.specs.Agree.{RefusedLeaves}
-use Rattle.hall.specs.Words.{RefusedIsUntouched}
+use Rattle.hall.specs.Slots.{slots, Holds, Whole, EverySlot}
+use Rattle.hall.specs.Words.{RefusedIsUntouched, EverySlotOfWords}
 use Rattle.hall.proofs.Screen.{refused-leaves}
+use Rattle.hall.proofs.Slots.{every-slot}
 
 module _ (t : Tables) (p : Program) (c : Configuration) (s : Step) where
   module _ (lawful : Bool) (says : lawful ≡ lentLawful t p c s) where
@@ -45,3 +50,16 @@ pub refused-is-untouched : RefusedIsUntouched
 unfolding RefusedIsUntouched
 refused-is-untouched tables program before after s n a b h nz =
     state-words after before (b .many) (a .many) (b .small) (a .small) (refused-same _ _ _ _ s n h nz)
+
+whole : (ws : List ℕ) → Whole (stateIn ws)
+unfolding stateIn
+whole ws = record { instances = length-list 32 _; queue = length-list 256 _; connections = length-list 64 _ }
+
+pub every-slot-of-words : EverySlotOfWords
+unfolding EverySlotOfWords EverySlot
+every-slot-of-words tables program before after s h =
+    subst⁻¹
+    (λ (d : Configuration).
+    Holds d (slots (tablesIn tables) (stateIn before) (action (programIn program) (stateIn before) s))
+    × (d .done ≡ cond (isNext s) (suc (stateIn before .done)) (stateIn before .done)))
+    (h .1) (every-slot _ _ (stateIn before) s (whole before) (sym (h .0)))

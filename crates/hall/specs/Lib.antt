@@ -1,8 +1,8 @@
--- The step of the screen in the hall (Screen), its promise on lent words (Words), what it says of what readers give and walks reach (Agree),
--- each clause of number 7 by itself (Clauses), what stands in each slot afterwards (Slots), and that no other outcome fits (Once).
+-- The step of the screen in the hall (Screen), what it says of what readers give and walks reach (Agree), each clause of number 7 by itself
+-- (Clauses), what stands in each slot afterwards (Slots), all that on lent words (Words), and that no other outcome fits (Once).
 pub mod Screen
-pub mod Words
 pub mod Agree
 pub mod Clauses
 pub mod Slots
+pub mod Words
 pub mod Once

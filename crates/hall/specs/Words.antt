@@ -2,12 +2,15 @@
 use mathlib.Core.Path.{_≡_}
 use mathlib.Core.Logic.{_≢_}
 use mathlib.Core.List.{List}
-use Prim.Native.Nat.{ℕ, _<_, _^_}
+use mathlib.Core.Bool.{cond}
+use Prim.Native.Nat.{ℕ, suc, _<_, _^_}
 use lib.ListN.{length}
 use Rattle.model.specs.declared.Step.{Step}
+use Rattle.rules.specs.Step.{isNext, action}
 use Rattle.words.specs.Rows.{word}
 use Rattle.words.specs.Words.{tablesIn, programIn, stateIn}
 use Rattle.hall.specs.Screen.{Left}
+use Rattle.hall.specs.Slots.{slots, Holds}
 
 -- on these words of tables, program and configuration it answers n and leaves the words `after`
 abbrev pub LeftWords : List ℕ → List ℕ → List ℕ → Step → ℕ → List ℕ → Type 0
@@ -27,3 +30,11 @@ RefusedIsUntouched =
     → LeftWords tables program before s n after
     → n ≢ 0
     → after ≡ before
+
+-- "moved on": `EverySlot`, which asks nothing of words, since what they say is as long as its arrays are
+unfoldable pub EverySlotOfWords : Type 0
+EverySlotOfWords =
+    (tables program before after : List ℕ) (s : Step)
+    → LeftWords tables program before s 0 after
+    → Holds (stateIn after) (slots (tablesIn tables) (stateIn before) (action (programIn program) (stateIn before) s))
+    × (stateIn after .done ≡ cond (isNext s) (suc (stateIn before .done)) (stateIn before .done))
