@@ -34,6 +34,14 @@ digits-more (suc n) v h l =
     let e : n ≡ suc n - 1 = omega arith in
     rw (le-ltb v 10 l, digitsIn) (ap (λ (m : ℕ). digitsIn m (v / 10) ++ ((48 + v % 10) ∷ [])) e)
 
+pub number-one : (v : ℕ) → v < 10 → numberText v ≡ (48 + v) ∷ []
+unfolding numberText
+number-one v l = digits-last 20 v (λ z. omega arith) l
+
+pub number-two : (v : ℕ) → 10 ≤ v → v < 100 → numberText v ≡ ((48 + v / 10) ∷ []) ++ ((48 + v % 10) ∷ [])
+unfolding numberText
+number-two v h l = digits-more 20 v (λ z. omega arith) h ∙ ap (λ (xs : List ℕ). xs ++ ((48 + v % 10) ∷ [])) (digits-last 19 (v / 10) (λ z. omega arith) (omega arith))
+
 -- ---- bytes copied
 
 pub one-more : (xs : List ℕ) (i : ℕ) → i < length xs → take (i + 1) xs ≡ take i xs ++ (getD xs i 0 ∷ [])

@@ -47,10 +47,17 @@ fn write_digits(t: &mut [u8], at: usize, digits: u8, v: usize) -> usize
     write_byte(t, p, b'0' + (v % 10) as u8)
 }
 
-// A number in decimal: no usize has more than 20 digits.
+// A number in decimal: no usize has more than 20 digits. Most numbers of a report have one or two.
 pub fn write_number(t: &mut [u8], at: usize, v: usize) -> usize
     ensures { λ r. ⌜ Written (now (t .entry)) (numberText v) (now (t .exit)) at r ⌝ }
 {
+    if v < 10 {
+        return write_byte(t, at, b'0' + v as u8);
+    }
+    if v < 100 {
+        let p = write_byte(t, at, b'0' + (v / 10) as u8);
+        return write_byte(t, p, b'0' + (v % 10) as u8);
+    }
     write_digits(t, at, 20, v)
 }
 

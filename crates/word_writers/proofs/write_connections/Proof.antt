@@ -1,0 +1,19 @@
+use Rattle.inks.proofs.Laws.{next}
+use Rattle.word_writers.specs.Lines.{connectionsPart}
+use borrow.Author.Needs.{needs}
+use Rattle.word_writers.proofs.write_connections.Statement.{statement}
+use Rattle.word_writers.proofs.write_connections.Tie as tie
+
+returns : tie.Need-returns
+unfolding connectionsPart
+returns c =
+    let lines = c .before .before in
+    let count = lines .before .before .before .before in
+    next (rw (count .before .connections .ensures) at (count .write-count .ensures)) (lines .write-connection-lines .ensures)
+
+pub write-connections-spec : {M : Type 1} → statement M
+write-connections-spec =
+    tie.close
+    (tie.spec
+    (λ c. search needs) (λ c κs. search needs) (λ c. search needs) (λ c κs. search needs) (λ c. search needs) (λ c. search needs)
+    (λ c. search needs) (λ c κs. search needs) (λ c. search needs) (λ c. search needs) returns)

@@ -1,0 +1,22 @@
+use mathlib.Core.Path.{sym, _∙_}
+use Rattle.report.specs.Report.{instanceAt}
+use Rattle.word_writers.proofs.Parts.{line-there, line-absent}
+use borrow.Author.Needs.{needs}
+use Rattle.word_writers.proofs.write_present.Statement.{statement}
+use Rattle.word_writers.proofs.write_present.Tie as tie
+
+returns : tie.Need-returns
+unfolding instanceAt
+returns c =
+    let here = c .before .before .before .before in
+    line-there (sym (here .before .present .ensures) ∙ here .if1 .taken) (c .before .before .write-instance .ensures)
+
+returns-2 : tie.Need-returns-2
+unfolding instanceAt
+returns-2 c = line-absent _ (sym (c .before .present .ensures) ∙ c .if1 .left)
+
+pub write-present-spec : {M : Type 1} → statement M
+write-present-spec =
+    tie.close
+    (tie.spec
+    (λ c κs. search needs) (λ c κs. search needs) (λ c. search needs) returns returns-2)

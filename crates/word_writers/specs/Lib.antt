@@ -1,0 +1,2 @@
+-- A user's connections by port, and the report's parts.
+pub mod Lines
