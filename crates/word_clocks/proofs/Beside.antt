@@ -54,14 +54,14 @@ module _ (default : ℕ) (t : Tables) (p : Program) (a : Answer) (ts : Times) wh
       }
 
       pub at-refusal : m .refused ≢ 0
-          → Promised default t p a ts (record { accepted = i; refused = m .refused; mark = 0 }) (m .configuration)
+          → Promised default t p a ts (record { passed = record { accepted = i; refused = m .refused }; mark = 0 }) (m .configuration)
       unfolding markAfter
       at-refusal d =
           let e = here .walk-is ∙ walk-refused default t p a c full i m within is d in
           record { walked-is = sym e; mark-is = rw (e, ne-eqb (m .refused) 0 d) }
 
     pub at-end : min (a .count) 1024 ≤ i
-        → Promised default t p a ts (record { accepted = i; refused = 0; mark = markOf (ts .par) (k .now) }) c
+        → Promised default t p a ts (record { passed = record { accepted = i; refused = 0 }; mark = markOf (ts .par) (k .now) }) c
     unfolding markAfter clockFrom
     at-end h =
         let e = here .walk-is ∙ walk-end default t p a c full i h in

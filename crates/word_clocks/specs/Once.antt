@@ -7,26 +7,22 @@ use Rattle.model.specs.declared.Tables.{Tables}
 use Rattle.model.specs.declared.Program.{Program}
 use Rattle.model.specs.declared.Answer.{Answer}
 use Rattle.model.specs.declared.Configuration.{Configuration}
-use Rattle.model.specs.declared.Walked.{Walked}
 use Rattle.rules.specs.Walk.{walkAnswer}
 use Rattle.times.specs.declared.Times.{Times}
 use Rattle.timed.specs.Clock.{clockOf}
 use Rattle.timed.specs.Mark.{markAfter}
 use Rattle.words.specs.Rows.{word}
 use Rattle.words.specs.Words.{stateIn}
+use Rattle.word_walks.specs.Reached.{walked}
 use Rattle.word_clocks.specs.declared.TimedWalk.{TimedWalk}
 
 -- times with this par, these pairs listed and these seconds
 abbrev pub timesIn : ℕ → List ℕ → List ℕ → Times
 timesIn par listed seconds = record { par = par; listed = listed; seconds = seconds }
 
--- the walk that has come to c
-abbrev pub walkedTo : TimedWalk → Configuration → Walked
-walkedTo r c = record { accepted = r .accepted; refused = r .refused; configuration = c }
-
 -- what the timed walk promises: the walk of the rules, and its mark
 pub record Promised (default : ℕ) (t : Tables) (p : Program) (a : Answer) (ts : Times) (r : TimedWalk) (c : Configuration) : Type 0 where
-  pub walked-is : walkedTo r c ≡ walkAnswer default t p a
+  pub walked-is : walked (r .passed) c ≡ walkAnswer default t p a
   pub mark-is : r .mark ≡ markAfter (walkAnswer default t p a .refused) (ts .par) (clockOf default t p a ts)
 
 -- and no other words of the state: so many, each of 32 bits

@@ -4,6 +4,7 @@ use model::mask_at;
 use model::smaller;
 use sets::member;
 use sets::without;
+use word_walks::Passed;
 use word_walks::step;
 use word_walks::step_count;
 use words::AnswerWords;
@@ -36,10 +37,9 @@ const END: u32 = 2;
 
 const FULL_MARK: usize = 1000;
 
-// How far a walk came: the steps allowed, the number of the refusal, or 0, and the mark: 0 after a refused step.
+// How far a walk came, and the mark: 0 after a refused step.
 pub struct TimedWalk {
-    pub accepted: u32,
-    pub refused: u32,
+    pub passed: Passed,
     pub mark: usize,
 }
 
@@ -154,19 +154,20 @@ pub fn walk_timed(
         let before = running(state, id);
         let refused = step(default, tables, program, state, verb, id, number);
         if refused != 0 {
-            return TimedWalk {
+            let passed = Passed {
                 accepted: k,
                 refused,
-                mark: 0,
             };
+            return TimedWalk { passed, mark: 0 };
         }
         let xs = without(running(state, id), before);
         clock = tick(seconds, &mut noted, clock, xs, verb, id, number);
         k += 1;
     }
-    TimedWalk {
+    let passed = Passed {
         accepted: k,
         refused: 0,
-        mark: mark(par, clock),
-    }
+    };
+    let mark = mark(par, clock);
+    TimedWalk { passed, mark }
 }

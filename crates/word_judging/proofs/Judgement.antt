@@ -1,0 +1,47 @@
+-- What the course says of the judgement: after a fault, and after a walk.
+-- Assumes nothing.
+use Prim.Native.Nat.{ℕ}
+use mathlib.Core.List.{List}
+use mathlib.Core.Path.{_≡_, refl, ap, _∙_}
+use lib.ListN.{length}
+use Rattle.model.specs.declared.Walked.{Walked}
+use Rattle.model.specs.declared.Text.{Text}
+use Rattle.report.specs.Report.{report}
+use Rattle.judged.specs.declared.Verdict.{Verdict}
+use Rattle.judged.specs.declared.Place.{Place}
+use Rattle.judged.specs.Course.{faulty, reached, course}
+use Rattle.judged.specs.Judged.{Judgement, textOf, faultPlace, afterFault, inRoom, ending, judged, over}
+use Rattle.judged.specs.Once.{Judges, Places}
+
+module _ (s a : List ℕ) where
+  judged-fault : (room : ℕ) (x : Text) (n at : ℕ) → faulty x n at ≡ course s a → afterFault x n at (textOf x s a) ≡ judged s a room
+  unfolding judged ending
+  judged-fault room x n at e = rw (← e, judged, ending)
+
+  judged-walk : (room : ℕ) (w : Walked) → reached w ≡ course s a → inRoom room w (report w) a ≡ judged s a room
+  unfolding judged ending
+  judged-walk room w e = rw (← e, judged, ending)
+
+  -- the verdict, and the buffer that held `old`
+  module _ (old : List ℕ) {v : Verdict} where
+    judges : {after : List ℕ} {j : Judgement} → j ≡ judged s a (length old) → v ≡ j .verdict → after ≡ over (j .bytes) old
+        → Judges s a old v after
+    judges e h g = record { verdict-is = h ∙ ap (λ (j : Judgement). j .verdict) e; buffer-is = g ∙ ap (λ (j : Judgement). over (j .bytes) old) e }
+
+    pub fault-judges : (x : Text) (n at : ℕ) → faulty x n at ≡ course s a → v ≡ afterFault x n at (textOf x s a) .verdict
+        → Judges s a old v old
+    unfolding afterFault over
+    fault-judges x n at e h = judges (judged-fault (length old) x n at e) h refl
+
+    pub walk-judges : {after : List ℕ} (w : Walked) → reached w ≡ course s a → v ≡ inRoom (length old) w (report w) a .verdict
+        → after ≡ over (inRoom (length old) w (report w) a .bytes) old → Judges s a old v after
+    walk-judges w e = judges (judged-walk (length old) w e)
+
+  -- the place
+  module _ (room : ℕ) {p : Place} where
+    pub fault-places : (x : Text) (n at : ℕ) → faulty x n at ≡ course s a → p ≡ faultPlace x n at (textOf x s a) → Places s a room p
+    unfolding afterFault
+    fault-places x n at e h = record { place-is = h ∙ ap (λ (j : Judgement). j .place) (judged-fault room x n at e) }
+
+    pub walk-places : (w : Walked) → reached w ≡ course s a → p ≡ inRoom room w (report w) a .place → Places s a room p
+    walk-places w e h = record { place-is = h ∙ ap (λ (j : Judgement). j .place) (judged-walk room w e) }

@@ -1,0 +1,170 @@
+-- The two texts by the order of 01: one too long, one refused at a line, both read; then the course.
+-- Assumes nothing.
+use Prim.Native.Nat.{ℕ, _-_, _<_, _≤_, zero-le}
+use mathlib.Core.List.{List}
+use mathlib.Core.Path.{_≡_, refl, sym}
+use mathlib.Core.Logic.{by-cases, ⊎-elim}
+use native.Mathlib.Omega.{arith}
+use native.Mathlib.Decide.{ℕ-discrete, decLt}
+use borrow.Author.Tests.{le-leb, lt-leb, leb-true}
+use lib.ListN.{length, length-take}
+use Rattle.forms.proofs.Tests.{and-left}
+use Rattle.model.specs.declared.Tables.{Tables}
+use Rattle.model.specs.declared.Program.{Program}
+use Rattle.model.specs.declared.Answer.{Answer}
+use Rattle.model.specs.declared.Walked.{Walked}
+use Rattle.model.specs.declared.Text.{Text}
+use Rattle.model.specs.declared.Text.the-variants as text
+use Rattle.model.specs.Empty.{start, noTables, noProgram, noAnswer}
+use Rattle.model.specs.View.{stepsOf}
+use Rattle.reading.specs.Limits.{stepsOk}
+use Rattle.reading.specs.Lawful.{answerLawful, AnswersAreLawful}
+use Rattle.reading.specs.Lines.{Run, Lines, on, stop}
+use Rattle.reading.specs.Texts.{sheet, answer}
+use Rattle.reading.proofs.Rests.{StopsAt}
+use Rattle.reading.proofs.Lawful.{sheet-stops, answer-stops, answers-are-lawful}
+use Rattle.rules.specs.Walk.{walkAnswer}
+use Rattle.rules.proofs.Numbers.{WalkNumbers, walk-numbers}
+use Rattle.runs.specs.Whole.{Whole, outcome, whole}
+use Rattle.word_sheets.specs.Sheet.{sheetRead}
+use Rattle.word_answers.specs.Answer.{answerRead}
+use Rattle.judged.specs.Course.{Course, faulty, reached, goOn, short, read, defaultDepth, both, course}
+use Rattle.judged.proofs.Read.{both-read}
+use Rattle.judged.proofs.Room.{read-fits}
+use Rattle.words.specs.Words.{stateIn}
+use Rattle.word_walks.specs.declared.Passed.{Passed}
+use Rattle.word_walks.specs.Reached.{walked}
+use Rattle.word_judging.specs.declared.pairs.Outcome.{Outcome}
+use Rattle.word_judging.specs.declared.pairs.Outcome.the-variants.{InSheet, InAnswer, Reached}
+use Rattle.word_judging.specs.declared.pairs.Seen.{Seen}
+use Rattle.word_judging.specs.Came.{came, saying, sheetSeen, answerSeen, reportIn}
+use Rattle.word_judging.specs.Room.{Short}
+
+-- ---- the length of a text
+
+pub long : (x : Text) (s : List ℕ) → 32768 < length s → short x s ≡ faulty x 1 0
+unfolding short
+long x s h = rw (lt-leb (length s) 32768 h, short)
+
+pub not-long : (x : Text) (s : List ℕ) → length s ≤ 32768 → short x s ≡ reached tt
+unfolding short
+not-long x s h = rw (le-leb (length s) 32768 h, short)
+
+-- ---- the lines of a text
+
+-- what reading them came to: the number and the place of a fault, or 0 and what the text says
+pub record TextRead {A : Type 0} (x : Text) (m : Lines A) (s : List ℕ) (refused place : ℕ) (value : A) : Type 0 where
+  pub within : place ≤ length s
+  pub faults : (refused ≡ 0 → ⊥) → read x m s ≡ faulty x refused place
+  pub reaches : refused ≡ 0 → read x m s ≡ reached value
+
+module _ {A : Type 0} (x : Text) (m : Lines A) (s : List ℕ) where
+  pub went : {v : A} {r : List ℕ} → m s ≡ on v r → TextRead x m s 0 (length s - length r) v
+  unfolding read
+  went e = record { within = omega arith; faults = λ n. absurd (n refl); reaches = λ _. rw (e, read) }
+
+  pub stopped : {n : ℕ} {r : List ℕ} {v : A} → m s ≡ stop n r → StopsAt s n r → TextRead x m s n (length s - length r) v
+  unfolding read
+  stopped e l = record { within = omega arith; faults = λ _. rw (e, read); reaches = λ z. absurd (omega (arith, z, l .1)) }
+
+-- the same of what the reader answers, where the lines stop with 01's numbers
+module _ {A : Type 0} (x : Text) (m : Lines A) (none : A) (s : List ℕ) (h : length s ≤ 32768) (stops : (n : ℕ) (r : List ℕ) → m s ≡ stop n r → StopsAt s n r) where
+  pub whole-read : {r : Whole A} → r ≡ whole none m s → TextRead x m s (r .refused) (r .place) (r .value)
+  unfolding whole
+  whole-read is = rw (is, le-leb (length s) 32768 h, whole) (go (m s) refl)
+    where
+      go : (z : Run A) → m s ≡ z → (let r = outcome none s z in TextRead x m s (r .refused) (r .place) (r .value))
+      go (on v r) e = went x m s e
+      go (stop n r) e = stopped x m s e (stops n r e)
+
+module _ (s : List ℕ) (h : length s ≤ 32768) where
+  sheet-read : {r : Whole (Tables × Program)} → r ≡ sheetRead s → TextRead text.Sheet sheet s (r .refused) (r .place) (r .value)
+  sheet-read = whole-read text.Sheet sheet (noTables, noProgram) s h (sheet-stops s)
+
+  answer-read : {r : Whole Answer} → r ≡ answerRead s → TextRead text.Answer answer s (r .refused) (r .place) (r .value)
+  answer-read = whole-read text.Answer answer noAnswer s h (answer-stops s)
+
+-- ---- the two texts
+
+module _ (s a : List ℕ) where
+  pub sheet-long : 32768 < length s → faulty text.Sheet 1 0 ≡ both s a
+  unfolding both
+  sheet-long h = rw (long text.Sheet s h)
+
+  pub answer-long : length s ≤ 32768 → 32768 < length a → faulty text.Answer 1 0 ≡ both s a
+  unfolding both
+  answer-long p h = rw (not-long text.Sheet s p, long text.Answer a h)
+
+  module _ (p : length s ≤ 32768) (q : length a ≤ 32768) {r : Whole (Tables × Program)} (is : r ≡ sheetRead s) where
+    pub sheet-refused : (r .refused ≡ 0 → ⊥) → faulty text.Sheet (r .refused) (r .place) ≡ both s a
+    unfolding both
+    sheet-refused h = rw (not-long text.Sheet s p, not-long text.Answer a q, sheet-read s p is .faults h)
+
+    module _ (e : r .refused ≡ 0) {y : Whole Answer} (also : y ≡ answerRead a) where
+      pub answer-refused : (y .refused ≡ 0 → ⊥) → faulty text.Answer (y .refused) (y .place) ≡ both s a
+      unfolding both
+      answer-refused h = rw (not-long text.Sheet s p, not-long text.Answer a q, sheet-read s p is .reaches e, answer-read a q also .faults h)
+
+      pub both-said : y .refused ≡ 0 → reached (r .value .0, r .value .1, y .value) ≡ both s a
+      unfolding both
+      both-said f = rw (not-long text.Sheet s p, not-long text.Answer a q, sheet-read s p is .reaches e, answer-read a q also .reaches f)
+
+  -- the outcome of what their readers answered, r and y
+  module _ {r : Whole (Tables × Program)} {y : Whole Answer} (is : r ≡ sheetRead s) (also : y ≡ answerRead a) (o : Outcome) {p q : Seen}
+      (h : ((t b : List ℕ) → p ≡ sheetSeen t → q ≡ answerSeen b → came o (saying t b) ≡ both t b)) where
+    pub outcome-comes : p ≡ record { size = length s; refused = r .refused; place = r .place } → q ≡ record { size = length a; refused = y .refused; place = y .place }
+        → came o (r .value .0, r .value .1, y .value) ≡ both s a
+    outcome-comes e f = rw (is, also) (h s a (rw is at e) (rw also at f))
+
+  -- the course goes on with the walk of what they say
+  pub outcome-walks : (o : Outcome) (t : Tables) (p : Program) (y : Answer) {w : Walked} → came o (t, p, y) ≡ both s a → w ≡ walkAnswer defaultDepth t p y → came o w ≡ course s a
+  unfolding course
+  outcome-walks (InSheet n at) t p y e f = rw (← e)
+  outcome-walks (InAnswer n at) t p y e f = rw (← e)
+  outcome-walks Reached t p y e f = rw (← e, f)
+
+-- ---- what is known of a walk, and of a fault
+
+-- a walk's number is 0 or from 10 to 37, and no more than 1,024 steps are accepted
+pub walked-numbers : (s a : List ℕ) (w : Walked) → course s a ≡ reached w → WalkNumbers 1024 w
+unfolding walkAnswer answerLawful AnswersAreLawful
+walked-numbers s a w e =
+    let b = both-read s a w e in
+    let y = b .steps in
+    let n = walk-numbers defaultDepth (b .tables) (b .program) (stepsOf y) start in
+    let few = leb-true (y .count) 1024 (and-left (stepsOk (y .count)) _ (answers-are-lawful a _ _ (b .answer-is))) in
+    rw (b .walked) (record { refused = n .refused; accepted = omega (arith, n .accepted, few, length-take (y .count) (y .steps)) })
+
+-- so its number is a byte, and its report has room
+pub small-number : (s a : List ℕ) (w : Walked) → course s a ≡ reached w → w .refused < 256
+small-number s a w e = ⊎-elim (λ z. omega arith) (λ z. omega arith) (walked-numbers s a w e .refused .range)
+
+pub reached-short : (s a : List ℕ) (w : Passed) (ws : List ℕ) → reached (walked w (stateIn ws)) ≡ course s a → Short w (reportIn w ws)
+reached-short s a w ws e = record { few = omega (arith, read-fits s a _ (sym e) .0); small = small-number s a _ (sym e) }
+
+-- a fault lies in its text
+pub data Told {A : Type 0} (s a : List ℕ) : Course A → Type 0 where
+  in-sheet : {n at : ℕ} → at ≤ length s → Told s a (faulty text.Sheet n at)
+  in-answer : {n at : ℕ} → at ≤ length a → Told s a (faulty text.Answer n at)
+  walks : {x : A} → Told s a (reached x)
+
+pub both-told : (s a : List ℕ) → Told s a (both s a)
+both-told s a =
+    by-cases (decLt 32768 (length s)) (λ h. rw (← sheet-long s a h) (in-sheet zero-le)) (λ h.
+    by-cases (decLt 32768 (length a)) (λ g. rw (← answer-long s a (omega arith) g) (in-answer zero-le)) (λ g.
+    let p : length s ≤ 32768 = omega arith in
+    let q : length a ≤ 32768 = omega arith in
+    by-cases (ℕ-discrete (sheetRead s .refused) 0) (λ e.
+    by-cases (ℕ-discrete (answerRead a .refused) 0)
+    (λ f. rw (← both-said s a p q refl e refl f) walks)
+    (λ f. rw (← answer-refused s a p q refl e refl f) (in-answer (answer-read a q refl .within))))
+    (λ e. rw (← sheet-refused s a p q refl e) (in-sheet (sheet-read s p refl .within)))))
+
+pub told-then : {A B : Type 0} {s a : List ℕ} {m : Course A} (f : A → B) → Told s a m → Told s a (goOn m (λ x. reached (f x)))
+told-then f (in-sheet h) = in-sheet h
+told-then f (in-answer h) = in-answer h
+told-then f walks = walks
+
+pub course-told : (s a : List ℕ) → Told s a (course s a)
+unfolding course
+course-told s a = told-then _ (both-told s a)

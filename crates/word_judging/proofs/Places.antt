@@ -1,0 +1,90 @@
+-- The place of the line at fault lies within its text, and is told by a part of it.
+-- Assumes nothing.
+use Prim.Native.Nat.{ℕ, _+_, _-_, _≤_, zero-le}
+use mathlib.Core.List.{List, [], _∷_}
+use mathlib.Core.Path.{_≡_, refl, ap}
+use mathlib.Core.Logic.{⊎-elim}
+use native.Mathlib.Omega.{arith}
+use lib.Dec.{eqb, leb}
+use lib.ListN.{length, take, drop, length-drop}
+use mir.Syntax.{w64}
+use mir.Val.{Fits}
+use mir.Facts.{fits-le}
+use types.Run.{OneOf}
+use denote.Ref.{RefT}
+use denote.Enum.Declared.{tagOf}
+use Rattle.forms.proofs.Tests.{by-test}
+use Rattle.model.specs.declared.Walked.{Walked}
+use Rattle.model.specs.declared.Text.{Text}
+use Rattle.model.specs.declared.Text.the-variants as text
+use Rattle.model.proofs.Text.{the-type}
+use Rattle.reading.specs.Place.{upToLf}
+use Rattle.report.specs.Report.{report}
+use Rattle.judged.specs.declared.Place.{Place}
+use Rattle.judged.specs.Course.{Course}
+use Rattle.judged.specs.Judged.{textOf, faultPlace, afterFault, noRoom, stepPlace, afterWalk, inRoom, ending, judged}
+use Rattle.word_verdicts.proofs.Starts.{start-few}
+use Rattle.word_judging.specs.Part.{holder}
+use Rattle.word_judging.proofs.Order.{Told, in-sheet, in-answer, walks, course-told}
+
+-- ---- within the text
+
+size-few : (s : List ℕ) → length (upToLf s) ≤ length s
+unfolding upToLf
+size-few [] = zero-le
+size-few (c ∷ s) = by-test (eqb c 10) (λ e. rw (e, upToLf) zero-le) (λ e. rw (e, upToLf) (omega (arith, size-few s)))
+
+line-few : (s : List ℕ) (at : ℕ) → at ≤ length s → at + length (upToLf (drop at s)) ≤ length s
+line-few s at h = omega (arith, size-few (drop at s), length-drop at s)
+
+-- a place within the text that it names, of those that `lent` gives
+module _ (lent : Text → List ℕ) where
+  abbrev pub Within : Place → Type 0
+  Within p = p .start + p .size ≤ length (lent (p .text))
+
+  pub fault-within : (x : Text) (n at : ℕ) → at ≤ length (lent x) → Within (faultPlace x n at (lent x))
+  unfolding faultPlace
+  fault-within x n at h = by-test (eqb n 1) (λ e. rw (e, faultPlace) zero-le) (λ e. rw (e, faultPlace) (line-few (lent x) at h))
+
+  pub step-within : (refused accepted : ℕ) → Within (stepPlace refused accepted (lent text.Answer))
+  unfolding stepPlace
+  step-within refused accepted =
+      by-test (eqb refused 0) (λ e. rw (e, stepPlace) (omega arith)) (λ e. rw (e, stepPlace) (line-few (lent text.Answer) _ (start-few (2 + accepted) (lent text.Answer))))
+
+  pub walk-within : (room : ℕ) (w : Walked) (r : List ℕ) → Within (inRoom room w r (lent text.Answer) .place)
+  unfolding inRoom afterWalk noRoom
+  walk-within room w r = by-test (leb (length r) room) (λ e. rw (e, inRoom) (step-within (w .refused) (w .accepted))) (λ e. rw (e, inRoom) zero-le)
+
+pub place-within : (s a : List ℕ) (room : ℕ) → Within (λ x. textOf x s a) (judged s a room .place)
+unfolding judged ending afterFault
+place-within s a room = go (course-told s a)
+  where
+    go : {z : Course Walked} → Told s a z → Within (λ x. textOf x s a) (ending s a room z .place)
+    go (in-sheet {n} {at} f) = fault-within (λ x. textOf x s a) text.Sheet n at f
+    go (in-answer {n} {at} f) = fault-within (λ x. textOf x s a) text.Answer n at f
+    go (walks {x}) = walk-within (λ x. textOf x s a) room x (report x)
+
+-- ---- as a part of the text
+
+module _ (s a : List ℕ) (room : ℕ) {p : Place} (is : p ≡ judged s a room .place) where
+  pub held : p .start + p .size ≤ length (textOf (p .text) s a)
+  held = rw is (place-within s a room)
+
+  pub end-fits : Fits w64 (length s) → Fits w64 (length a) → Fits w64 (p .start + p .size)
+  end-fits f g = fits-le held (either (p .text))
+    where
+      either : (x : Text) → Fits w64 (length (textOf x s a))
+      either text.Neither = fits-le zero-le f
+      either text.Sheet = f
+      either text.Answer = g
+      either text.Times = fits-le zero-le f
+
+-- a text that is not the sheet: 0, 2 and 3 are the tags of Neither, Answer and Times
+pub elsewhere : (x : Text) → OneOf (0 ∷ 2 ∷ 3 ∷ []) (tagOf the-type x) → (s a : RefT (List ℕ)) → (holder x s a ≡ a) × (length (textOf x (s .now) (a .now)) ≤ length (a .now))
+elsewhere text.Neither h s a = (refl, zero-le)
+elsewhere text.Sheet h s a = absurd (⊎-elim (λ z. omega (arith, z)) (⊎-elim (λ z. omega (arith, z)) (λ z. omega (arith, z))) h)
+elsewhere text.Answer h s a = (refl, omega arith)
+elsewhere text.Times h s a = (refl, zero-le)
+
+pub sized : (start size : ℕ) (l : List ℕ) → take (start + size - start) l ≡ take size l
+sized start size l = ap (λ (n : ℕ). take n l) (let e : start + size - start ≡ size = omega arith in e)

@@ -1,0 +1,3 @@
+-- Where lines start (Starts), the judgement in a room as its verdict and its place (InRoom).
+pub mod Starts
+pub mod InRoom

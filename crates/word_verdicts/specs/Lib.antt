@@ -1,0 +1,2 @@
+-- The place after a walk, where it is known whether the report fits.
+pub mod Fits
