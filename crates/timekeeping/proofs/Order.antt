@@ -1,8 +1,8 @@
 -- The three texts by their order: a fault in the sheet or the answer, in the times, or the walk and its mark.
 -- Assumes nothing.
-use Prim.Native.Nat.{ℕ, _≤_}
+use Prim.Native.Nat.{ℕ, _≤_, zero-le}
 use mathlib.Core.List.{List}
-use mathlib.Core.Path.{_≡_, refl}
+use mathlib.Core.Path.{_≡_, refl, sym}
 use mathlib.Core.Logic.{by-cases}
 use native.Mathlib.Omega.{arith}
 use native.Mathlib.Decide.{ℕ-discrete, decLt}
@@ -17,7 +17,10 @@ use Rattle.model.specs.declared.Text.the-variants as text
 use Rattle.reading.specs.Lines.{Run, on, stop}
 use Rattle.rules.specs.Walk.{walkAnswer}
 use Rattle.judged.specs.Course.{Course, faulty, reached, goOn, defaultDepth, both}
-use Rattle.judging.proofs.Order.{long, not-long, TextRead, went, stopped, FaultAt, at-start, at-line, Told, in-sheet, in-answer, walks, both-told}
+use Rattle.words.specs.Words.{stateIn}
+use Rattle.word_walks.specs.Reached.{walked}
+use Rattle.word_judging.specs.Room.{Short}
+use Rattle.word_judging.proofs.Order.{long, not-long, TextRead, went, stopped, Told, in-sheet, in-answer, walks, small-number, both-told}
 use Rattle.times.specs.declared.Times.{Times}
 use Rattle.times.specs.Text.{times}
 use Rattle.times.proofs.Read.{times-stop}
@@ -26,6 +29,9 @@ use Rattle.time_rows.specs.Times.{answered, timesRead}
 use Rattle.timed.specs.Clock.{clockOf}
 use Rattle.timed.specs.Mark.{markAfter}
 use Rattle.timed.specs.Timed.{clocked, timedCourse}
+use Rattle.timed.proofs.Same.{all-read}
+use Rattle.word_clocks.specs.declared.TimedWalk.{TimedWalk}
+use Rattle.timekeeping.specs.Came.{markedIn}
 
 -- ---- the times
 
@@ -42,7 +48,7 @@ Marked t p y ts = (walkAnswer defaultDepth t p y, markAfter (walkAnswer defaultD
 
 -- what was read of the times, and the course that it comes to
 pub record Clocks (t : Tables) (p : Program) (y : Answer) (x : List ℕ) (r : TimesRead) : Type 0 where
-  pub at-fault : FaultAt x (r .refused) (r .place)
+  pub within : r .place ≤ length x
   pub faults : (r .refused ≡ 0 → ⊥) → faulty text.Times (r .refused) (r .place) ≡ clocked t p y x
   pub reaches : r .refused ≡ 0 → reached (Marked t p y (r .times)) ≡ clocked t p y x
 
@@ -50,11 +56,11 @@ pub clocks-told : (t : Tables) (p : Program) (y : Answer) (x : List ℕ) {r : Ti
 unfolding clocked timesRead
 clocks-told t p y x is =
     by-cases (decLt 32768 (length x))
-    (λ h. rw (is, lt-leb (length x) 32768 h, timesRead) (record { at-fault = at-start x; faults = λ _. rw (long text.Times x h); reaches = λ z. absurd (omega (arith, z)) }))
+    (λ h. rw (is, lt-leb (length x) 32768 h, timesRead) (record { within = zero-le; faults = λ _. rw (long text.Times x h); reaches = λ z. absurd (omega (arith, z)) }))
     (λ h. let l : length x ≤ 32768 = omega arith in
     let read = times-read x l is in
     record {
-      at-fault = at-line x _ _ l (read .within);
+      within = read .within;
       faults = λ f. rw (not-long text.Times x l, read .faults f);
       reaches = λ f. rw (not-long text.Times x l, read .reaches f);
     })
@@ -70,12 +76,18 @@ module _ (s a x : List ℕ) where
   unfolding timedCourse
   pair-said t p y e = rw (← e)
 
--- ---- what is known of a fault
+-- ---- what is known of a walk, and of a fault
+
+-- its number is a byte, and its report has room with its mark
+pub marked-short : (s a x : List ℕ) (w : TimedWalk) (ws : List ℕ) → reached (walked (w .passed) (stateIn ws), w .mark) ≡ timedCourse s a x → Short (w .passed) (markedIn w ws)
+marked-short s a x w ws e =
+    let read = all-read s a x _ _ (sym e) in
+    record { few = read .1; small = small-number s a _ (read .0) }
 
 pub data TimedTold (s a x : List ℕ) : Course (Walked × ℕ) → Type 0 where
-  sheet-fault : {n at : ℕ} → FaultAt s n at → TimedTold s a x (faulty text.Sheet n at)
-  answer-fault : {n at : ℕ} → FaultAt a n at → TimedTold s a x (faulty text.Answer n at)
-  times-fault : {n at : ℕ} → FaultAt x n at → TimedTold s a x (faulty text.Times n at)
+  sheet-fault : {n at : ℕ} → at ≤ length s → TimedTold s a x (faulty text.Sheet n at)
+  answer-fault : {n at : ℕ} → at ≤ length a → TimedTold s a x (faulty text.Answer n at)
+  times-fault : {n at : ℕ} → at ≤ length x → TimedTold s a x (faulty text.Times n at)
   clocked-walk : {w : Walked} {m : ℕ} → TimedTold s a x (reached (w, m))
 
 told-then : {s a x : List ℕ} {m : Course (Tables × Program × Answer)} (f : Tables × Program × Answer → Course (Walked × ℕ))
@@ -91,4 +103,4 @@ timed-told s a x = told-then _ (both-told s a) after
     after : (z : Tables × Program × Answer) → TimedTold s a x (clocked (z .0) (z .1) (z .2) x)
     after z =
         let h = clocks-told (z .0) (z .1) (z .2) x refl in
-        by-cases (ℕ-discrete (timesRead x .refused) 0) (λ e. rw (← h .reaches e) clocked-walk) (λ e. rw (← h .faults e) (times-fault (h .at-fault)))
+        by-cases (ℕ-discrete (timesRead x .refused) 0) (λ e. rw (← h .reaches e) clocked-walk) (λ e. rw (← h .faults e) (times-fault (h .within)))

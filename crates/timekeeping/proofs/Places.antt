@@ -19,7 +19,7 @@ use Rattle.model.proofs.Text.{the-type}
 use Rattle.judged.specs.declared.Place.{Place}
 use Rattle.judged.specs.Course.{Course}
 use Rattle.judged.specs.Judged.{afterFault}
-use Rattle.judging.proofs.Places.{Within, fault-within, walk-within}
+use Rattle.word_judging.proofs.Places.{Within, fault-within, walk-within}
 use Rattle.timed.specs.Timed.{lentText, markedReport, timedEnding, timed}
 use Rattle.timed.specs.Once.{PromisedPlace}
 use Rattle.timed.proofs.Once.{the-place}
@@ -34,9 +34,9 @@ unfolding timed timedEnding afterFault
 timed-within s a x room = go (timed-told s a x)
   where
     go : {z : Course (Walked × ℕ)} → TimedTold s a x z → Within (lentIn s a x) (timedEnding s a x room z .judgement .place)
-    go (sheet-fault {n} {at} f) = fault-within (lentIn s a x) text.Sheet n at (f .within)
-    go (answer-fault {n} {at} f) = fault-within (lentIn s a x) text.Answer n at (f .within)
-    go (times-fault {n} {at} f) = fault-within (lentIn s a x) text.Times n at (f .within)
+    go (sheet-fault {n} {at} f) = fault-within (lentIn s a x) text.Sheet n at f
+    go (answer-fault {n} {at} f) = fault-within (lentIn s a x) text.Answer n at f
+    go (times-fault {n} {at} f) = fault-within (lentIn s a x) text.Times n at f
     go (clocked-walk {w} {m}) = walk-within (lentIn s a x) room w (markedReport w m)
 
 -- ---- as a part of the text

@@ -16,9 +16,9 @@ use Rattle.judged.specs.declared.Verdict.{Verdict}
 use Rattle.judged.specs.Course.{Course}
 use Rattle.judged.specs.Judged.{faultLine, afterFault}
 use Rattle.inks.specs.Written.{Written}
-use Rattle.judging.specs.Counts.{Counts}
-use Rattle.judging.proofs.Order.{walked-numbers}
-use Rattle.judging.proofs.Printed.{fault-short, Chosen, walk-chosen, Prints, report-printed, lines-printed}
+use Rattle.word_judging.specs.Counts.{Counts}
+use Rattle.word_judging.proofs.Order.{walked-numbers}
+use Rattle.word_judging.proofs.Printed.{Chosen, walk-chosen, fault-chosen, Prints, report-printed, lines-printed}
 use Rattle.times.specs.Refusal.{timesNumber}
 use Rattle.timed.specs.Timed.{timedCourse, markedReport, numbered, timedEnding, timed, timedVerdict, timedBuffer, timedPrinting, timedPrinted}
 use Rattle.timed.proofs.Same.{Alike, in-sheet, in-answer, in-times, marked, courses-alike, all-read}
@@ -29,31 +29,19 @@ use Rattle.timekeeping.proofs.Order.{TimedTold, sheet-fault, answer-fau
 abbrev OfText : ℕ → Type 0
 OfText n = ((1 ≤ n) × (n ≤ 5)) ⊎ ((40 ≤ n) × (n ≤ 42))
 
-text-few : (n : ℕ) → OfText n → n ≤ 99
-text-few n h = ⊎-elim (λ z. omega (arith, z)) (λ z. omega (arith, z)) h
-
 of-times : (n : ℕ) → OfText (timesNumber n)
 unfolding timesNumber
 of-times n =
     inr (by-test (eqb n 3) (λ e. rw (e, timesNumber) (omega arith)) (λ e. rw (e, timesNumber) (by-test (eqb n 4) (λ f. rw f (omega arith)) (λ f. rw f (omega arith)))))
-
-fault-chosen : (k : Text) (n at m : ℕ) (s : List ℕ) → OfText m → faultLine n at s ≤ 32769 → Chosen OfText (numbered m (afterFault k n at s)) (faultText k (faultLine n at s) m)
-unfolding afterFault
-fault-chosen k n at m s h l = record {
-  three-lines = λ _. (refl, refl, fault-short k (faultLine n at s) m l (text-few m h));
-  the-report = λ g. absurd (g h);
-  written-is = refl;
-  has-room = zero-le;
-}
 
 chosen : (s a x : List ℕ) → Chosen OfText (timed s a x 8192 .judgement) (timedPrinted s a x)
 unfolding timed timedEnding timedPrinted timedPrinting afterFault
 chosen s a x = go (timedCourse s a x) refl (courses-alike s a x) (timed-told s a x)
   where
     go : {y : Course Walked} (z : Course (Walked × ℕ)) → timedCourse s a x ≡ z → Alike y z → TimedTold s a x z → Chosen OfText (timedEnding s a x 8192 z .judgement) (timedPrinting s a x z)
-    go _ e (in-sheet l) (sheet-fault {n} {at} f) = fault-chosen text.Sheet n at n s (inl l) (f .few)
-    go _ e (in-answer l) (answer-fault {n} {at} f) = fault-chosen text.Answer n at n a (inl l) (f .few)
-    go _ e (in-times l) (times-fault {n} {at} f) = fault-chosen text.Times n at (timesNumber n) x (of-times n) (f .few)
+    go _ e (in-sheet l) (sheet-fault {n} {at} f) = fault-chosen OfText (numbered n (afterFault text.Sheet n at s)) (inl l) refl refl
+    go _ e (in-answer l) (answer-fault {n} {at} f) = fault-chosen OfText (numbered n (afterFault text.Answer n at a)) (inl l) refl refl
+    go _ e (in-times l) (times-fault {n} {at} f) = fault-chosen OfText (numbered (timesNumber n) (afterFault text.Times n at x)) (of-times n) refl refl
     go _ e (marked l) (clocked-walk {w} {m}) =
         let h = walked-numbers s a w (all-read s a x w m e .0) .refused .range in
         walk-chosen OfText w (markedReport w m) a

@@ -1,15 +1,20 @@
 // Timing: a sheet, an answer, a text of times and a lent buffer come to the judge's verdict, a report that ends in its mark, and the mark.
 // Promised: on any bytes, every field and byte is what crates/timed/specs says, and the line at fault is that very part of its text.
-use clocks::TimedWalk;
 use judged::DEFAULT_DEPTH;
 use judged::LENT_BYTES;
 use judged::Place;
 use judged::Verdict;
-use judging::pairs::Outcome;
-use judging::pairs::Pair;
 use model::Text;
-use model::Walked;
 use timed::Timed;
+use word_clocks::TimedWalk;
+use word_judging::pairs::Outcome;
+use word_judging::pairs::read_both;
+use word_walks::Passed;
+use words::AnswerWords;
+use words::ProgramWords;
+use words::StateWords;
+use words::TableWords;
+use words::state::done;
 ghost use mathlib.Core.Path.{_≡_};
 ghost use mathlib.Core.List.{List};
 ghost use Prim.Native.Nat.{ℕ};
@@ -18,12 +23,14 @@ ghost use Rattle.forms.specs.Reader.{bytes};
 ghost use Rattle.model.specs.declared.Text.the-variants as text;
 ghost use Rattle.report.specs.Report.{countText};
 ghost use Rattle.inks.specs.Written.{Written};
-ghost use Rattle.judged.specs.Judged.{afterFault, inRoom, over};
-ghost use Rattle.judging.specs.Counts.{Counts};
+ghost use Rattle.judged.specs.Judged.{afterFault, over};
+ghost use Rattle.words.specs.Words.{tablesIn, programIn, answerIn, stateIn};
+ghost use Rattle.word_judging.specs.Room.{roomFor, Short};
+ghost use Rattle.word_judging.specs.Counts.{Counts};
 ghost use Rattle.times.specs.Refusal.{timesNumber};
-ghost use Rattle.timed.specs.Timed.{clocked, timedCourse, markedReport, numbered, markInRoom};
+ghost use Rattle.timed.specs.Timed.{clocked, timedCourse, numbered, markInRoom};
 ghost use Rattle.timed.specs.Once.{PromisedAnswer, PromisedPlace};
-ghost use Rattle.timekeeping.specs.Came.{came};
+ghost use Rattle.timekeeping.specs.Came.{came, markedIn, inRoomOf};
 ghost use Rattle.timekeeping.specs.Part.{PromisedPart};
 ghost use Rattle.timekeeping.specs.Once.{PromisedPrint};
 
@@ -41,56 +48,65 @@ struct Ended {
     walk: TimedWalk,
 }
 
-fn come_to(outcome: TimedOutcome, walk: TimedWalk) -> Ended
-    ensures { λ r. ⌜ came (r .outcome) (r .walk) ≡ came outcome walk ⌝ }
+// What stands beside a refused text.
+fn no_walk() -> TimedWalk {
+    let passed = Passed {
+        accepted: 0,
+        refused: 0,
+    };
+    TimedWalk { passed, mark: 0 }
+}
+
+fn at_fault(outcome: TimedOutcome) -> Ended
+    ensures { λ r. ⌜ r .outcome ≡ outcome ⌝ }
 {
+    let walk = no_walk();
     Ended { outcome, walk }
 }
 
-// What stands beside a refused text.
-fn no_walk() -> TimedWalk {
-    let configuration = model::start();
-    let walked = Walked {
-        accepted: 0,
-        refused: 0,
-        configuration,
-    };
-    TimedWalk { walked, mark: 0 }
-}
-
 // "a too long text first"; then the walk and its mark
-fn clock_pair(pair: Pair, times: &[u8]) -> Ended
-    ensures { λ r. ⌜ came (r .outcome) (r .walk) ≡ clocked (pair .tables) (pair .program) (pair .steps) (now (times .entry)) ⌝ }
+fn clock_pair(
+    tables: &TableWords,
+    program: &ProgramWords,
+    steps: &AnswerWords,
+    times: &[u8],
+    state: &mut StateWords,
+) -> Ended
+    ensures { λ r. ⌜ came (r .outcome) (r .walk) (stateIn (now (state .exit)))
+        ≡ clocked (tablesIn (now (tables .entry))) (programIn (now (program .entry))) (answerIn (now (steps .entry))) (now (times .entry)) ⌝ }
 {
-    let listed = time_rows::read_times(times);
-    if listed.refused != 0 {
-        let none = no_walk();
-        return come_to(TimedOutcome::InTimes(listed.refused, listed.place), none);
+    let read = time_rows::read_times(times);
+    if read.refused != 0 {
+        return at_fault(TimedOutcome::InTimes(read.refused, read.place));
     }
-    let tables = pair.tables;
-    let program = pair.program;
-    let steps = pair.steps;
-    let seconds = listed.times;
-    let walk = clocks::walk_timed(DEFAULT_DEPTH, tables, program, steps, seconds);
-    come_to(TimedOutcome::Reached, walk)
+    let par = read.times.par;
+    let seconds = read.times.seconds;
+    let outcome = TimedOutcome::Reached;
+    let walk = word_clocks::walk_timed(
+        DEFAULT_DEPTH as u32,
+        tables,
+        program,
+        steps,
+        state,
+        par,
+        &seconds,
+    );
+    Ended { outcome, walk }
 }
 
 // "after the sheet and the answer are read and before any step"
-fn course(sheet: &[u8], answer: &[u8], times: &[u8]) -> Ended
-    ensures { λ r. ⌜ came (r .outcome) (r .walk) ≡ timedCourse (now (sheet .entry)) (now (answer .entry)) (now (times .entry)) ⌝ }
+fn course(sheet: &[u8], answer: &[u8], times: &[u8], state: &mut StateWords) -> Ended
+    ensures { λ r. ⌜ came (r .outcome) (r .walk) (stateIn (now (state .exit)))
+        ≡ timedCourse (now (sheet .entry)) (now (answer .entry)) (now (times .entry)) ⌝ }
 {
-    let pair = judging::pairs::read_both(sheet, answer);
-    let outcome = pair.outcome;
+    let mut tables = [0u32; 2002];
+    let mut program = [0u32; 1281];
+    let mut steps = [0u32; 3073];
+    let outcome = read_both(sheet, answer, &mut tables, &mut program, &mut steps);
     match outcome {
-        Outcome::InSheet(n, at) => {
-            let none = no_walk();
-            come_to(TimedOutcome::InSheet(n, at), none)
-        }
-        Outcome::InAnswer(n, at) => {
-            let none = no_walk();
-            come_to(TimedOutcome::InAnswer(n, at), none)
-        }
-        Outcome::Reached => clock_pair(pair, times),
+        Outcome::InSheet(n, at) => at_fault(TimedOutcome::InSheet(n, at)),
+        Outcome::InAnswer(n, at) => at_fault(TimedOutcome::InAnswer(n, at)),
+        Outcome::Reached => clock_pair(&tables, &program, &steps, times, state),
     }
 }
 
@@ -116,48 +132,53 @@ fn unmarked(verdict: Verdict) -> Timed
 fn after_times_fault(times: &[u8], n: u8, at: usize) -> Verdict
     ensures { λ r. ⌜ r ≡ numbered (timesNumber n) (afterFault text.Times n at (now (times .entry))) .verdict ⌝ }
 {
-    let mut verdict = verdicts::after_fault(Text::Times, times, n, at);
+    let mut verdict = word_verdicts::after_fault(Text::Times, times, n, at);
     verdict.refused = times_number(n);
     verdict
 }
 
 // "A line `mark=` ends the report."
-fn write_marked(t: &mut [u8], w: Walked, mark: usize) -> usize
-    ensures { λ r. ⌜ Written (now (t .entry)) (markedReport w mark) (now (t .exit)) 0 r ⌝ }
+fn write_marked(t: &mut [u8], w: TimedWalk, state: &StateWords) -> usize
+    ensures { λ r. ⌜ Written (now (t .entry)) (markedIn w (now (state .entry))) (now (t .exit)) 0 r ⌝ }
 {
-    let used = writers::write_report(t, w);
-    used + writers::write_count(&mut t[used..], b"mark=", mark)
+    let used = word_writers::write_report(t, w.passed.accepted, w.passed.refused, state);
+    used + word_writers::write_count(&mut t[used..], b"mark=", w.mark)
 }
 
 fn mark_length(mark: usize) -> usize
     ensures { λ r. ⌜ r ≡ length (countText (bytes "mark=") mark) ⌝ }
 {
     let mut scratch = [0u8; 32];
-    writers::write_count(&mut scratch, b"mark=", mark)
+    word_writers::write_count(&mut scratch, b"mark=", mark)
 }
 
-fn marked_length(w: Walked, mark: usize) -> usize
-    ensures { λ r. ⌜ r ≡ length (markedReport w mark) ⌝ }
+// Whether the report with its mark has room.
+fn has_room(w: TimedWalk, state: &StateWords, room: usize) -> bool
+    ensures { λ r. ⌜ r ≡ roomFor (length (markedIn w (now (state .entry)))) room ⌝ }
 {
-    writers::report_length(w) + mark_length(mark)
+    let passed = w.passed;
+    word_judging::has_room(passed, state, mark_length(w.mark), room)
 }
 
-// The report with its mark, or 6 where it has no room.
-fn after_walk(walk: TimedWalk, lent: &mut [u8]) -> Timed
-    ensures verdict { λ r. ⌜ ((a : List ℕ) → r .verdict ≡ inRoom (length (now (lent .entry))) (walk .walked) (markedReport (walk .walked) (walk .mark)) a .verdict) ⌝ }
-    ensures mark { λ r. ⌜ r .mark ≡ markInRoom (length (now (lent .entry))) (markedReport (walk .walked) (walk .mark)) (walk .mark) ⌝ }
-    ensures buffer { λ r. ⌜ ((a : List ℕ) → now (lent .exit) ≡ over (inRoom (length (now (lent .entry))) (walk .walked) (markedReport (walk .walked) (walk .mark)) a .bytes) (now (lent .entry))) ⌝ }
+// The report with its mark, or 6 where it has no room, which is known before its first byte is written.
+fn after_walk(w: TimedWalk, state: &StateWords, lent: &mut [u8]) -> Timed
+    requires { ⌜ Short (w .passed) (markedIn w (now state)) ⌝ }
+    ensures verdict { λ r. ⌜ ((a : List ℕ) → r .verdict ≡ inRoomOf (now (lent .entry)) w (now (state .entry)) a .verdict) ⌝ }
+    ensures mark { λ r. ⌜ r .mark ≡ markInRoom (length (now (lent .entry))) (markedIn w (now (state .entry))) (w .mark) ⌝ }
+    ensures buffer { λ r. ⌜ ((a : List ℕ) → now (lent .exit)
+        ≡ over (inRoomOf (now (lent .entry)) w (now (state .entry)) a .bytes) (now (lent .entry))) ⌝ }
 {
-    let w = walk.walked;
-    if lent.len() < marked_length(w, walk.mark) {
-        let verdict = verdicts::no_room();
+    if !has_room(w, state, lent.len()) {
+        let verdict = word_verdicts::no_room();
         return unmarked(verdict);
     }
-    let written = write_marked(lent, w, walk.mark);
-    let verdict = verdicts::walk_verdict(w, written);
+    let written = write_marked(lent, w, state);
+    let refused = w.passed.refused as u8;
+    let accepted = w.passed.accepted as usize;
+    let verdict = word_verdicts::walk_verdict(refused, accepted, done(state) as usize, written);
     Timed {
         verdict,
-        mark: walk.mark,
+        mark: w.mark,
     }
 }
 
@@ -165,19 +186,25 @@ fn after_walk(walk: TimedWalk, lent: &mut [u8]) -> Timed
 pub fn timed(sheet: &[u8], answer: &[u8], times: &[u8], report: &mut [u8]) -> Timed
     ensures { λ r. ⌜ PromisedAnswer (now (sheet .entry)) (now (answer .entry)) (now (times .entry)) (now (report .entry)) r (now (report .exit)) ⌝ }
 {
-    let ended = course(sheet, answer, times);
+    let mut state = [0u32; 675];
+    let ended = course(sheet, answer, times, &mut state);
     let outcome = ended.outcome;
     let walk = ended.walk;
     match outcome {
-        TimedOutcome::InSheet(n, at) => unmarked(verdicts::after_fault(Text::Sheet, sheet, n, at)),
-        TimedOutcome::InAnswer(n, at) => unmarked(verdicts::after_fault(
+        TimedOutcome::InSheet(n, at) => unmarked(word_verdicts::after_fault(
+            Text::Sheet,
+            sheet,
+            n,
+            at,
+        )),
+        TimedOutcome::InAnswer(n, at) => unmarked(word_verdicts::after_fault(
             Text::Answer,
             answer,
             n,
             at,
         )),
         TimedOutcome::InTimes(n, at) => unmarked(after_times_fault(times, n, at)),
-        TimedOutcome::Reached => after_walk(walk, report),
+        TimedOutcome::Reached => after_walk(walk, &state, report),
     }
 }
 
@@ -185,17 +212,19 @@ pub fn timed(sheet: &[u8], answer: &[u8], times: &[u8], report: &mut [u8]) -> Ti
 pub fn timed_place(sheet: &[u8], answer: &[u8], times: &[u8], room: usize) -> Place
     ensures { λ r. ⌜ PromisedPlace (now (sheet .entry)) (now (answer .entry)) (now (times .entry)) room r ⌝ }
 {
-    let ended = course(sheet, answer, times);
+    let mut state = [0u32; 675];
+    let ended = course(sheet, answer, times, &mut state);
     let outcome = ended.outcome;
     let walk = ended.walk;
     match outcome {
-        TimedOutcome::InSheet(n, at) => verdicts::fault_place(Text::Sheet, sheet, n, at),
-        TimedOutcome::InAnswer(n, at) => verdicts::fault_place(Text::Answer, answer, n, at),
-        TimedOutcome::InTimes(n, at) => verdicts::fault_place(Text::Times, times, n, at),
+        TimedOutcome::InSheet(n, at) => word_verdicts::fault_place(Text::Sheet, sheet, n, at),
+        TimedOutcome::InAnswer(n, at) => word_verdicts::fault_place(Text::Answer, answer, n, at),
+        TimedOutcome::InTimes(n, at) => word_verdicts::fault_place(Text::Times, times, n, at),
         TimedOutcome::Reached => {
-            let w = walk.walked;
-            let size = marked_length(w, walk.mark);
-            verdicts::place_in_room(w, size, answer, room)
+            let fits = has_room(walk, &state, room);
+            let refused = walk.passed.refused as u8;
+            let accepted = walk.passed.accepted as usize;
+            word_verdicts::walk_place(refused, accepted, fits, answer)
         }
     }
 }
@@ -230,8 +259,8 @@ pub fn timed_print(sheet: &[u8], answer: &[u8], times: &[u8], out: &mut [u8; LEN
     let refused = verdict.refused;
     let text = verdict.text;
     match refused {
-        1..=5 => writers::write_fault(out, text, verdict.line, refused),
-        40..=42 => writers::write_fault(out, text, verdict.line, refused),
+        1..=5 => word_writers::write_fault(out, text, verdict.line, refused),
+        40..=42 => word_writers::write_fault(out, text, verdict.line, refused),
         _ => verdict.written,
     }
 }

@@ -1,31 +1,51 @@
-use borrow.Author.Tests.{le-leb, lt-leb}
+use mathlib.Core.Path.{_≡_, refl, sym, _∙_}
+use lib.Dec.{leb}
+use lib.ListN.{length}
+use borrow.Author.Tests.{not-true, not-false, leb-true}
 use Rattle.inks.proofs.Laws.{fits-all}
 use Rattle.judged.specs.Judged.{noRoom, afterWalk, inRoom, over}
-use Rattle.timed.specs.Timed.{markedReport, markInRoom}
-use Rattle.verdicts.proofs.InRoom.{size-verdict}
+use Rattle.words.specs.Words.{stateIn}
+use Rattle.word_walks.specs.Reached.{walked}
+use Rattle.word_verdicts.proofs.InRoom.{size-verdict}
+use Rattle.word_judging.proofs.Room.{fits-told}
+use Rattle.timed.specs.Timed.{markInRoom}
+use Rattle.timekeeping.specs.Came.{markedIn}
 use borrow.Author.Needs.{needs}
 use Rattle.timekeeping.proofs.after_walk.Statement.{statement}
 use Rattle.timekeeping.proofs.after_walk.Tie as tie
 
+-- whether the report with its mark has room
+told : (h : tie.After-has-room)
+    → let x = h .before .before .args in
+    h .has-room .result ≡ leb (length (markedIn (x .w) (x .state .now))) (length (x .lent .now))
+told h =
+    let start = h .before .before in
+    fits-told (markedIn (start .args .w) (start .args .state .now)) _ _ (h .has-room .ensures) refl (start .pre .few)
+
 returns : tie.Need-returns
 unfolding inRoom noRoom over markInRoom
 returns c =
-    let e = lt-leb _ _ (rw (c .before .before .before .marked-length .ensures) at (c .before .before .if1 .taken)) in
+    let d = c .before .before in
+    let h = d .before in
+    let e = sym (told h) ∙ not-true (h .has-room .result) (d .if1 .taken) in
     (λ a. rw (e, inRoom, c .unmarked .ensures) (c .before .no-room .ensures), (rw (e, markInRoom, c .unmarked .ensures), λ a. rw (e, inRoom)))
 
 returns-2 : tie.Need-returns-2
 unfolding inRoom afterWalk over markInRoom
 returns-2 c =
-    let d = c .before .before .before .before .before in
-    let x = d .before .before .before .before .args .walk in
-    let room = rw (d .before .marked-length .ensures) at (d .if1 .left) in
-    let whole = fits-all (c .before .before .before .write-marked .ensures) room in
-    let e = le-leb _ _ room in
-    (λ a. rw (e, inRoom) (size-verdict (x .walked) (markedReport (x .walked) (x .mark)) a (c .walk-verdict .ensures) (whole .0)), (rw (e, markInRoom), λ a. rw (e, inRoom) (whole .1)))
+    let written = c .before .before .before .before .before .before in
+    let d = written .before .before in
+    let h = d .before in
+    let x = h .before .before .args in
+    let ws = x .state .now in
+    let e = sym (told h) ∙ not-false (h .has-room .result) (d .if1 .left) in
+    let whole = fits-all (written .write-marked .ensures) (leb-true _ _ e) in
+    let is = c .walk-verdict .ensures (stateIn ws) (c .before .done .ensures) in
+    (λ a. rw (e, inRoom) (size-verdict (walked (x .w .passed) (stateIn ws)) (markedIn (x .w) ws) a is (whole .0)), (rw (e, markInRoom), λ a. rw (e, inRoom) (whole .1)))
 
 pub after-walk-spec : {M : Type 1} → statement M
 after-walk-spec =
     tie.close
     (tie.spec
-    (λ c κs. search needs) (λ c κs. search needs) (λ c κs. search needs) returns (λ c κs. search needs) (λ c κs. search needs)
-    (λ c. search needs) returns-2)
+    (λ c κs. search needs) (λ c κs. search needs) (λ c κs. search needs) returns (λ c κs. search needs) (λ c. search needs)
+    (λ c. search needs) (λ c κs. search needs) (λ c. search needs) (λ c κs. search needs) (λ c. search needs) returns-2)

@@ -6,17 +6,23 @@ use Rattle.timekeeping.proofs.course.Statement.{statement}
 use Rattle.timekeeping.proofs.course.Tie as tie
 
 returns : tie.Need-returns
-returns c = let d = c .before .before .before in c .come-to .ensures ∙ pair-fault _ _ _ text.Sheet _ _ (rw (d .outcome .given .1) at (d .before .before .read-both .ensures .same))
+returns c =
+    let d = c .before .before in
+    rw (c .at-fault .ensures) (pair-fault _ _ _ text.Sheet _ _ (rw (d .outcome .given .1) at (d .before .before .read-both .ensures .same)))
 
 returns-2 : tie.Need-returns-2
-returns-2 c = let d = c .before .before .before in c .come-to2 .ensures ∙ pair-fault _ _ _ text.Answer _ _ (rw (d .outcome2 .given .1) at (d .before .before .read-both .ensures .same))
+returns-2 c =
+    let d = c .before .before in
+    rw (c .at-fault2 .ensures) (pair-fault _ _ _ text.Answer _ _ (rw (d .outcome2 .given .1) at (d .before .before .read-both .ensures .same)))
 
 returns-3 : tie.Need-returns-3
-returns-3 c = let d = c .before in c .clock-pair .ensures ∙ pair-said _ _ _ _ _ _ (rw (d .enum-told .given .1) at (d .before .before .read-both .ensures .same))
+returns-3 c =
+    let d = c .before .before .before .before .before in
+    c .clock-pair .ensures ∙ pair-said _ _ _ _ _ _ (rw (d .enum-told .given .1) at (d .before .before .read-both .ensures .same))
 
 pub course-spec : {M : Type 1} → statement M
 course-spec =
     tie.close
     (tie.spec
-    (λ c κs. search needs) (λ c. search needs) (λ c κs. search needs) (λ c κs. search needs) (λ c. search needs) (λ c κs. search needs)
-    (λ c κs. search needs) (λ c. search needs) (λ c κs. search needs) returns returns-2 returns-3)
+    (λ c κs. search needs) (λ c. search needs) (λ c κs. search needs) (λ c. search needs) (λ c κs. search needs) (λ c. search needs)
+    (λ c κs. search needs) returns returns-2 returns-3)
