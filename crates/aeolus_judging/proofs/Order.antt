@@ -1,24 +1,23 @@
 -- What the readers of the two texts answered is how far these come, in the paper's order.
 -- Assumes nothing.
-use Prim.Native.Nat.{ℕ, _-_, _≤_, _<_}
+use Prim.Native.Nat.{ℕ, _≤_, _<_, zero-le}
 use mathlib.Core.List.{List}
-use mathlib.Core.Path.{_≡_, refl, sym, ap, _∙_}
+use mathlib.Core.Path.{_≡_, refl}
 use native.Mathlib.Omega.{arith}
 use native.Mathlib.Decide.{ℕ-discrete, decLt}
 use mathlib.Core.Logic.{by-cases}
 use lib.ListN.{length}
-use borrow.Author.Tests.{le-leb}
 use Rattle.model.specs.declared.Text.{Text}
 use Rattle.model.specs.declared.Text.the-variants as text
-use Rattle.reading.specs.Lines.{Run, Lines, on, stop}
+use Rattle.reading.specs.Lines.{Lines, stop}
 use Rattle.reading.proofs.Rests.{StopsAt}
 use Rattle.runs.specs.declared.Place.{Place}
-use Rattle.runs.specs.Whole.{Whole, outcome, whole, beside}
+use Rattle.runs.specs.Whole.{Whole, whole, beside}
 use Rattle.judged.specs.Course.{Course, faulty, reached, short, read}
 use Rattle.judging.specs.declared.pairs.Outcome.{Outcome}
 use Rattle.judging.specs.declared.pairs.Outcome.the-variants.{InSheet, InAnswer, Reached}
 use Rattle.judging.specs.Came.{came}
-use Rattle.judging.proofs.Order.{long, not-long, TextRead, went, stopped, FaultAt, at-start, at-line, Told, in-sheet, in-answer, walks, told-then}
+use Rattle.judging.proofs.Order.{long, not-long, TextRead, whole-read, Told, in-sheet, in-answer, walks, told-then}
 use Rattle.aeolus_model.specs.Model.{Universe, Configuration, noUniverse, nothing}
 use Rattle.aeolus_model.specs.Action.{Plan, noPlan, actionsOf}
 use Rattle.aeolus_reading.specs.Texts.{sheet, plan}
@@ -28,14 +27,8 @@ use Rattle.aeolus_judged.specs.Course.{both, course}
 
 -- what a reader answered of a text that is not too long
 module _ {A : Type 0} (x : Text) (m : Lines A) (none : A) (s : List ℕ) (h : length s ≤ 32768) (stops : (n : ℕ) (r : List ℕ) → m s ≡ stop n r → StopsAt s n r) where
-  told : (z : Run A) → m s ≡ z → (let w = outcome none s z in TextRead x m s (w .refused) (w .place) (w .value))
-  told (on v r) e = went x m s e
-  told (stop n r) e = stopped x m s e (stops n r e)
-
   pub text-read : {p : Place} {v : A} → beside p v ≡ whole none m s → TextRead x m s (p .refused) (p .place) v
-  unfolding whole
-  text-read {p} {v} e =
-      moved (whole none m s) e (rw (le-leb (length s) 32768 h, whole) (told (m s) refl))
+  text-read {p} {v} e = moved (whole none m s) e (whole-read x m none s h stops refl)
     where
       moved : (w : Whole A) → beside p v ≡ w → TextRead x m s (w .refused) (w .place) (w .value) → TextRead x m s (p .refused) (p .place) v
       moved w q t = rw (← q) at t
@@ -97,13 +90,13 @@ read-told s a p q one e two f =
     by-cases (ℕ-discrete (one .refused) 0)
     (λ z. by-cases (ℕ-discrete (two .refused) 0)
     (λ w. rw (← both-said s a p q {x = placeOf one} (one .value) e z {y = placeOf two} (two .value) f w) walks)
-    (λ w. rw (← answer-refused s a p q {x = placeOf one} (one .value) e z {y = placeOf two} (two .value) f w) (in-answer (at-line a (two .refused) (two .place) q (y .within)))))
-    (λ z. rw (← sheet-refused s a p q {x = placeOf one} (one .value) e z) (in-sheet (at-line s (one .refused) (one .place) p (x .within))))
+    (λ w. rw (← answer-refused s a p q {x = placeOf one} (one .value) e z {y = placeOf two} (two .value) f w) (in-answer (y .within))))
+    (λ z. rw (← sheet-refused s a p q {x = placeOf one} (one .value) e z) (in-sheet (x .within)))
 
 both-told : (s a : List ℕ) → Told s a (both s a)
 both-told s a =
-    by-cases (decLt 32768 (length s)) (λ h. rw (← sheet-long s a h) (in-sheet (at-start s))) (λ h.
-    by-cases (decLt 32768 (length a)) (λ g. rw (← answer-long s a (omega arith) g) (in-answer (at-start a))) (λ g.
+    by-cases (decLt 32768 (length s)) (λ h. rw (← sheet-long s a h) (in-sheet zero-le)) (λ h.
+    by-cases (decLt 32768 (length a)) (λ g. rw (← answer-long s a (omega arith) g) (in-answer zero-le)) (λ g.
     read-told s a (omega arith) (omega arith) _ refl _ refl))
 
 pub course-told : (s a : List ℕ) → Told s a (course s a)

@@ -31,8 +31,8 @@ unfolding judged ending afterFault
 place-within s a room = go (course-told s a)
   where
     go : {z : Course (Universe × Ran)} → Told s a z → Within (λ x. textOf x s a) (ending s a room z .place)
-    go (in-sheet {n} {at} f) = fault-within (λ x. textOf x s a) text.Sheet n at (f .within)
-    go (in-answer {n} {at} f) = fault-within (λ x. textOf x s a) text.Answer n at (f .within)
+    go (in-sheet {n} {at} f) = fault-within (λ x. textOf x s a) text.Sheet n at f
+    go (in-answer {n} {at} f) = fault-within (λ x. textOf x s a) text.Answer n at f
     go (walks {x}) = run-within (λ x. textOf x s a) room (x .1) (report (x .0) (x .1))
 
 module _ (s a : List ℕ) (room : ℕ) {p : Place} (is : p ≡ judged s a room .place) where

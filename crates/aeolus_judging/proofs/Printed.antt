@@ -2,11 +2,10 @@
 -- Assumes nothing.
 use Prim.Native.Nat.{ℕ, _≤_, zero-le}
 use mathlib.Core.List.{List, []}
-use mathlib.Core.Path.{_≡_, refl, sym, ap, _∙_}
+use mathlib.Core.Path.{_≡_, refl, ap, _∙_}
 use native.Mathlib.Omega.{arith}
 use lib.Dec.{leb}
-use lib.ListN.{length, length-append, length-drop}
-use lib.Seq.{length-take-le}
+use lib.ListN.{length}
 use borrow.Author.Tests.{leb-true}
 use Rattle.forms.proofs.Tests.{by-test}
 use Rattle.model.specs.declared.Text.{Text}
@@ -16,9 +15,9 @@ use Rattle.inks.specs.Written.{Written}
 use Rattle.inks.proofs.Laws.{fits-all}
 use Rattle.judged.specs.Course.{Course, faulty, reached}
 use Rattle.judged.specs.Judged.{textOf, faultLine, over}
-use Rattle.judging.specs.Counts.{Counts}
 use Rattle.judging.proofs.Order.{Told, in-sheet, in-answer, walks}
-use Rattle.judging.proofs.Printed.{fault-short, Prints}
+use Rattle.judging.proofs.Printed.{Prints, prints}
+use Rattle.writers.proofs.Bounds.{fault-short}
 use Rattle.aeolus_model.specs.Model.{Universe}
 use Rattle.aeolus_rules.specs.Run.{Ran}
 use Rattle.aeolus_judged.specs.declared.Verdict.{Verdict}
@@ -44,10 +43,10 @@ run-chosen w r a h =
     (λ e. rw (e, inRoom) (record { three-lines = λ z. absurd (h z); the-report = λ _. refl; written-is = refl; has-room = leb-true (length r) 8192 e }))
     (λ e. rw (e, inRoom) (record { three-lines = λ z. absurd (omega (arith, z)); the-report = λ _. refl; written-is = refl; has-room = zero-le }))
 
-fault-chosen : (x : Text) (n at : ℕ) (s : List ℕ) → OfText n → faultLine n at s ≤ 32769 → Chosen (afterFault x n at s) (faultText x (faultLine n at s) n)
+fault-chosen : (x : Text) (n at : ℕ) (s : List ℕ) → OfText n → Chosen (afterFault x n at s) (faultText x (faultLine n at s) n)
 unfolding afterFault
-fault-chosen x n at s h l = record {
-  three-lines = λ _. (refl, refl, fault-short x (faultLine n at s) n l (omega arith));
+fault-chosen x n at s h = record {
+  three-lines = λ _. (refl, refl, omega (arith, fault-short x (faultLine n at s) n));
   the-report = λ g. absurd (g h);
   written-is = refl;
   has-room = zero-le;
@@ -58,16 +57,9 @@ unfolding judged printed ending printing
 chosen s a = go (course s a) refl (course-told s a)
   where
     go : (z : Course (Universe × Ran)) → course s a ≡ z → Told s a z → Chosen (ending s a 8192 z) (printing s a z)
-    go _ e (in-sheet {n} {at} f) = fault-chosen text.Sheet n at s (fault-numbered s a text.Sheet n at e) (f .few)
-    go _ e (in-answer {n} {at} f) = fault-chosen text.Answer n at a (fault-numbered s a text.Answer n at e) (f .few)
+    go _ e (in-sheet {n} {at} f) = fault-chosen text.Sheet n at s (fault-numbered s a text.Sheet n at e)
+    go _ e (in-answer {n} {at} f) = fault-chosen text.Answer n at a (fault-numbered s a text.Answer n at e)
     go _ e (walks {x}) = let h = read-fits s a (x .0) (x .1) e in run-chosen (x .1) (report (x .0) (x .1)) a (λ g. h .of-step (g .0, omega (arith, g .1)))
-
--- all of it has room
-prints : (print old : List ℕ) {new : List ℕ} {used : ℕ} → length old ≡ 8192 → length print ≤ 8192 → used ≡ length print → new ≡ over print old → Prints print old new used
-unfolding over
-prints print old {new} {used} long room e is =
-    let h : used ≤ length new = rw is (simp (length-append, length-drop) (omega arith)) in
-    (e, (is, (h, sym (length-take-le used new h))))
 
 module _ (s a old : List ℕ) {v : Verdict} {mid : List ℕ} (long : length old ≡ 8192) (is : v ≡ judged s a (length old) .verdict) (after : mid ≡ buffer s a old) where
   pub report-prints : (OfText (v .refused) → ⊥) → Prints (printed s a) old mid (v .written)

@@ -16,12 +16,12 @@ use Rattle.model.specs.Empty.{noStep, start}
 use Rattle.model.specs.View.{stepsOf}
 use Rattle.rules.specs.Step.{step}
 use Rattle.rules.specs.Walk.{besideBy, walkAnswer}
-use Rattle.walks.proofs.Ahead.{rest, walk-start, walk-more, walk-refused, walk-end, none-left, one-left}
+use Rattle.word_walks.proofs.Ahead.{rest, walk-start, walk-more, walk-refused, walk-end, none-left, one-left}
 use Rattle.times.specs.declared.Times.{Times}
 use Rattle.timed.specs.Clock.{Clock, atStart, tick, clockFrom, clockOf}
 use Rattle.timed.specs.Mark.{markOf, markAfter}
 use Rattle.clocks.specs.Paced.{mostSeconds, Past, Paced}
-use Rattle.clocks.specs.Once.{ClocksPromised}
+use Rattle.clocks.specs.Once.{Promised}
 use Rattle.clocks.proofs.Pace.{start-past}
 
 module _ (default : ℕ) (t : Tables) (p : Program) (a : Answer) (ts : Times) where
@@ -54,14 +54,14 @@ module _ (default : ℕ) (t : Tables) (p : Program) (a : Answer) (ts : Times) wh
       }
 
       pub at-refusal : m .refused ≢ 0
-          → ClocksPromised default t p a ts (record { walked = record { accepted = i; refused = m .refused; configuration = m .configuration }; mark = 0 })
+          → Promised default t p a ts (record { passed = record { accepted = i; refused = m .refused }; mark = 0 }) (m .configuration)
       unfolding markAfter
       at-refusal d =
           let e = here .walk-is ∙ walk-refused default t p a c full i m within is d in
           record { walked-is = sym e; mark-is = rw (e, ne-eqb (m .refused) 0 d) }
 
     pub at-end : min (a .count) 1024 ≤ i
-        → ClocksPromised default t p a ts (record { walked = record { accepted = i; refused = 0; configuration = c }; mark = markOf (ts .par) (k .now) })
+        → Promised default t p a ts (record { passed = record { accepted = i; refused = 0 }; mark = markOf (ts .par) (k .now) }) c
     unfolding markAfter clockFrom
     at-end h =
         let e = here .walk-is ∙ walk-end default t p a c full i h in

@@ -1,9 +1,12 @@
 -- The clock as the code holds it, and how far one step can take it: what keeps the sums within the machine's numbers.
 use Prim.Native.Nat.{ℕ, _+_, _*_, _≤_}
 use mathlib.Core.List.{List, []}
+use mathlib.Core.Path.{_≡_}
 use lib.ListN.{getD}
+use Rattle.model.specs.declared.Configuration.{Configuration}
+use Rattle.model.specs.declared.Step.{Step}
 use Rattle.times.specs.declared.Times.{Times}
-use Rattle.timed.specs.Clock.{Clock}
+use Rattle.timed.specs.Clock.{Clock, tick}
 
 abbrev pub clockAt : ℕ → List ℕ → Clock
 clockAt clock noted = record { now = clock; noted = noted }
@@ -31,3 +34,8 @@ pub record InTime (k : Clock) : Type 0 where
 pub record Paced (b : ℕ) (k l : Clock) : Type 0 where
   pub slow : l .now ≤ k .now + b
   pub past : Past l
+
+-- from k the clock goes to l in an allowed step s from c to d
+pub record Ticks (seconds : List ℕ) (c d : Configuration) (s : Step) (k l : Clock) : Type 0 where
+  pub value : l ≡ tick (ofSeconds seconds) c d s k
+  pub pace : Paced mostSeconds k l

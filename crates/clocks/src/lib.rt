@@ -1,39 +1,45 @@
 // The clock of an answer beside its walk, and the mark that it comes to.
 // Promised: the walk is that of rules/specs, and the mark that of timed/specs, for every table, program, answer and times.
-use model::Answer;
-use model::Configuration;
-use model::Program;
-use model::Step;
-use model::Tables;
-use model::Walked;
-use model::instance_of;
 use model::mask_at;
 use model::smaller;
-use model::start;
 use sets::member;
 use sets::without;
-use times::Times;
-use walks::step;
+use word_walks::Passed;
+use word_walks::step;
+use word_walks::step_count;
+use words::AnswerWords;
+use words::ProgramWords;
+use words::StateWords;
+use words::TableWords;
+use words::answer::step_id;
+use words::answer::step_number;
+use words::answer::step_verb;
+use words::state::clear_state;
+use words::state::running;
 ghost use mathlib.Core.Path.{_≡_};
 ghost use mathlib.Core.Bool.{cond};
-ghost use Prim.Native.Nat.{_+_, _≤_, max};
+ghost use mathlib.Core.List.{List};
+ghost use Prim.Native.Nat.{ℕ, _+_, _≤_, max};
 ghost use lib.ListN.{getD, set};
 ghost use Rattle.sets.specs.Mask.{member};
+ghost use Rattle.model.specs.declared.Configuration.{Configuration};
 ghost use Rattle.times.specs.View.{pairSlot};
-ghost use Rattle.timed.specs.Clock.{started, notes, tick};
+ghost use Rattle.timed.specs.Clock.{started, notes};
 ghost use Rattle.timed.specs.Mark.{markOf};
-ghost use Rattle.clocks.specs.Once.{ClocksPromised};
-ghost use Rattle.clocks.specs.Paced.{clockAt, ofSeconds, mostSeconds, longest, InTime, Paced};
+ghost use Rattle.words.specs.Words.{tablesIn, programIn, answerIn, stateIn};
+ghost use Rattle.words.specs.Parts.{stepOf};
+ghost use Rattle.clocks.specs.Once.{Promised, timesIn};
+ghost use Rattle.clocks.specs.Paced.{clockAt, longest, InTime, Ticks};
 
-const FIRE: u8 = 1;
+const FIRE: u32 = 1;
 
-const END: u8 = 2;
+const END: u32 = 2;
 
 const FULL_MARK: usize = 1000;
 
-// What a walk answers, and its mark: 0 after a refused step.
+// How far a walk came, and the mark: 0 after a refused step.
 pub struct TimedWalk {
-    pub walked: Walked,
+    pub passed: Passed,
     pub mark: usize,
 }
 
@@ -43,38 +49,28 @@ fn later(a: usize, b: usize) -> usize
     if a < b { b } else { a }
 }
 
-fn pair_slot(id: u8, x: u8) -> usize
+fn pair_slot(id: u32, x: u32) -> usize
     ensures { λ r. ⌜ r ≡ pairSlot id x ⌝ }
 {
     (id as usize) * 32 + x as usize
 }
 
-// The transitions that component `id` starts in the step from c to d.
-fn started(c: Configuration, d: Configuration, id: u8) -> u32
-    ensures { λ r. ⌜ r ≡ started c d id ⌝ }
-{
-    without(
-        instance_of(d, id as usize).running,
-        instance_of(c, id as usize).running,
-    )
-}
-
 // The clock, noted for transition x, where xs has it. A slot past the table is no slot.
-fn note_at(noted: &mut [usize], clock: usize, id: u8, xs: u32, x: u8)
+fn note_at(noted: &mut [usize], clock: usize, id: u32, xs: u32, x: u32)
     ensures { λ r. ⌜ now (noted .exit) ≡ cond (member x xs) (set (now (noted .entry)) (pairSlot id x) clock) (now (noted .entry)) ⌝ }
 {
     let slot = pair_slot(id, x);
-    if member(xs, x as u32) {
+    if member(xs, x) {
         if slot < noted.len() {
             noted[slot] = clock;
         }
     }
 }
 
-fn note(noted: &mut [usize], clock: usize, id: u8, xs: u32)
+fn note(noted: &mut [usize], clock: usize, id: u32, xs: u32)
     ensures { λ r. ⌜ now (noted .exit) ≡ notes clock id xs 32 (now (noted .entry)) ⌝ }
 {
-    let mut x: u8 = 0;
+    let mut x: u32 = 0;
     while x < 32 {
         note_at(noted, clock, id, xs, x);
         x += 1;
@@ -98,26 +94,26 @@ fn end_at(seconds: &[u32], noted: &[usize], clock: usize, slot: usize) -> usize
     )
 }
 
-// The clock after an allowed step s from c to d.
+// The clock after an allowed step, in which component `id` starts the transitions xs.
 fn tick(
     seconds: &[u32],
     noted: &mut [usize],
     clock: usize,
-    c: Configuration,
-    d: Configuration,
-    s: Step,
+    xs: u32,
+    verb: u32,
+    id: u32,
+    number: u32,
 ) -> usize
     requires { ⌜ InTime (clockAt clock (now noted)) ⌝ }
-    ensures value { λ r. ⌜ clockAt r (now (noted .exit)) ≡ tick (ofSeconds (now (seconds .entry))) c d s (clockAt clock (now (noted .entry))) ⌝ }
-    ensures pace { λ r. ⌜ Paced mostSeconds (clockAt clock (now (noted .entry))) (clockAt r (now (noted .exit))) ⌝ }
+    ensures { λ r. ⌜ ((c d : Configuration) → xs ≡ started c d id
+        → Ticks (now (seconds .entry)) c d (stepOf verb id number) (clockAt clock (now (noted .entry))) (clockAt r (now (noted .exit)))) ⌝ }
 {
-    let verb = s.verb;
     match verb {
         FIRE => {
-            note(noted, clock, s.id, started(c, d, s.id));
+            note(noted, clock, id, xs);
             clock
         }
-        END => end_at(seconds, noted, clock, pair_slot(s.id, s.number)),
+        END => end_at(seconds, noted, clock, pair_slot(id, number)),
         _ => clock,
     }
 }
@@ -133,39 +129,45 @@ fn mark(par: u32, clock: usize) -> usize
     smaller(FULL_MARK, (2000 * (par as usize) + clock - 1) / (2 * clock))
 }
 
-// The walk of an answer from the empty start, with the clock beside it.
-pub fn walk_timed(default: u8, t: Tables, p: Program, a: Answer, times: Times) -> TimedWalk
-    ensures { λ r. ⌜ ClocksPromised default t p a times r ⌝ }
+// The walk of an answer from the empty start, with the clock beside it, of times with this par and these seconds.
+pub fn walk_timed(
+    default: u32,
+    tables: &TableWords,
+    program: &ProgramWords,
+    answer: &AnswerWords,
+    state: &mut StateWords,
+    par: u32,
+    seconds: &[u32; 1024],
+) -> TimedWalk
+    ensures { λ r. ⌜ ((listed : List ℕ) → Promised default (tablesIn (now (tables .entry))) (programIn (now (program .entry)))
+        (answerIn (now (answer .entry))) (timesIn par listed (now (seconds .entry))) r (stateIn (now (state .exit)))) ⌝ }
 {
-    let n = smaller(a.count, 1024);
+    clear_state(state);
+    let n = step_count(answer);
     let mut noted = [0usize; 1024];
     let mut clock: usize = 0;
-    let mut c = start();
-    let mut i: usize = 0;
-    while i < n {
-        let s = a.steps[i];
-        let m = step(default, t, p, c, s);
-        let after = m.configuration;
-        if m.refused != 0 {
-            return TimedWalk {
-                walked: Walked {
-                    accepted: i,
-                    refused: m.refused,
-                    configuration: after,
-                },
-                mark: 0,
+    let mut k: u32 = 0;
+    while k < n {
+        let verb = step_verb(answer, k);
+        let id = step_id(answer, k);
+        let number = step_number(answer, k);
+        let before = running(state, id);
+        let refused = step(default, tables, program, state, verb, id, number);
+        if refused != 0 {
+            let passed = Passed {
+                accepted: k,
+                refused,
             };
+            return TimedWalk { passed, mark: 0 };
         }
-        clock = tick(&times.seconds, &mut noted, clock, c, after, s);
-        c = after;
-        i += 1;
+        let xs = without(running(state, id), before);
+        clock = tick(seconds, &mut noted, clock, xs, verb, id, number);
+        k += 1;
     }
-    TimedWalk {
-        walked: Walked {
-            accepted: i,
-            refused: 0,
-            configuration: c,
-        },
-        mark: mark(times.par, clock),
-    }
+    let passed = Passed {
+        accepted: k,
+        refused: 0,
+    };
+    let mark = mark(par, clock);
+    TimedWalk { passed, mark }
 }

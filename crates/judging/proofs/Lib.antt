@@ -1,5 +1,6 @@
--- The course by its order (Order), the judgement (Judgement), places within their texts (Places), the print (Printed), no other outcome (Once).
+-- The course by its order (Order), the room (Room), the judgement (Judgement), places within their texts (Places), the print (Printed), no other outcome (Once).
 pub mod Order
+pub mod Room
 pub mod Judgement
 pub mod Places
 pub mod Printed

@@ -1,44 +1,44 @@
 -- The two texts by the order of 01: one too long, one refused at a line, both read; then the course.
 -- Assumes nothing.
-use Prim.Native.Nat.{ℕ, _-_, _<_, _≤_}
+use Prim.Native.Nat.{ℕ, _-_, _<_, _≤_, zero-le}
 use mathlib.Core.List.{List}
-use mathlib.Core.Path.{_≡_, refl}
-use mathlib.Core.Logic.{by-cases}
+use mathlib.Core.Path.{_≡_, refl, sym}
+use mathlib.Core.Logic.{by-cases, ⊎-elim}
 use native.Mathlib.Omega.{arith}
 use native.Mathlib.Decide.{ℕ-discrete, decLt}
 use borrow.Author.Tests.{le-leb, lt-leb, leb-true}
-use lib.Dec.{eqb}
-use lib.ListN.{length, take, length-take}
-use Rattle.forms.proofs.Tests.{by-test, and-left}
+use lib.ListN.{length, length-take}
+use Rattle.forms.proofs.Tests.{and-left}
 use Rattle.model.specs.declared.Tables.{Tables}
 use Rattle.model.specs.declared.Program.{Program}
 use Rattle.model.specs.declared.Answer.{Answer}
 use Rattle.model.specs.declared.Walked.{Walked}
 use Rattle.model.specs.declared.Text.{Text}
 use Rattle.model.specs.declared.Text.the-variants as text
-use Rattle.model.specs.Empty.{start}
+use Rattle.model.specs.Empty.{start, noTables, noProgram, noAnswer}
 use Rattle.model.specs.View.{stepsOf}
 use Rattle.reading.specs.Limits.{stepsOk}
 use Rattle.reading.specs.Lawful.{answerLawful, AnswersAreLawful}
 use Rattle.reading.specs.Lines.{Run, Lines, on, stop}
-use Rattle.reading.specs.Place.{lineNumber}
 use Rattle.reading.specs.Texts.{sheet, answer}
 use Rattle.reading.proofs.Rests.{StopsAt}
 use Rattle.reading.proofs.Lawful.{sheet-stops, answer-stops, answers-are-lawful}
 use Rattle.rules.specs.Walk.{walkAnswer}
 use Rattle.rules.proofs.Numbers.{WalkNumbers, walk-numbers}
-use Rattle.lines.proofs.Place.{lfs-few}
-use Rattle.sheets.specs.declared.Sheet.{Sheet}
-use Rattle.sheets.specs.Sheet.{answered as sheetAnswered, sheetRead}
-use Rattle.answers.specs.declared.AnswerRead.{AnswerRead}
-use Rattle.answers.specs.Answer.{answered as answerAnswered, answerRead}
+use Rattle.runs.specs.Whole.{Whole, outcome, whole}
+use Rattle.word_sheets.specs.Sheet.{sheetRead}
+use Rattle.word_answers.specs.Answer.{answerRead}
 use Rattle.judged.specs.Course.{Course, faulty, reached, goOn, short, read, defaultDepth, both, course}
-use Rattle.judged.specs.Judged.{faultLine}
 use Rattle.judged.proofs.Read.{both-read}
+use Rattle.judged.proofs.Room.{read-fits}
+use Rattle.words.specs.Words.{stateIn}
+use Rattle.word_walks.specs.declared.Passed.{Passed}
+use Rattle.word_walks.specs.Reached.{walked}
 use Rattle.judging.specs.declared.pairs.Outcome.{Outcome}
 use Rattle.judging.specs.declared.pairs.Outcome.the-variants.{InSheet, InAnswer, Reached}
 use Rattle.judging.specs.declared.pairs.Seen.{Seen}
-use Rattle.judging.specs.Came.{came, saying, sheetSeen, answerSeen}
+use Rattle.judging.specs.Came.{came, saying, sheetSeen, answerSeen, reportIn}
+use Rattle.judging.specs.Room.{Short}
 
 -- ---- the length of a text
 
@@ -67,22 +67,22 @@ module _ {A : Type 0} (x : Text) (m : Lines A) (s : List ℕ) where
   unfolding read
   stopped e l = record { within = omega arith; faults = λ _. rw (e, read); reaches = λ z. absurd (omega (arith, z, l .1)) }
 
-module _ (s : List ℕ) (h : length s ≤ 32768) where
-  sheet-read : {r : Sheet} → r ≡ sheetRead s → TextRead text.Sheet sheet s (r .refused) (r .place) (r .tables, r .program)
-  unfolding sheetRead
-  sheet-read is = rw (is, le-leb (length s) 32768 h, sheetRead) (go (sheet s) refl)
+-- the same of what the reader answers, where the lines stop with 01's numbers
+module _ {A : Type 0} (x : Text) (m : Lines A) (none : A) (s : List ℕ) (h : length s ≤ 32768) (stops : (n : ℕ) (r : List ℕ) → m s ≡ stop n r → StopsAt s n r) where
+  pub whole-read : {r : Whole A} → r ≡ whole none m s → TextRead x m s (r .refused) (r .place) (r .value)
+  unfolding whole
+  whole-read is = rw (is, le-leb (length s) 32768 h, whole) (go (m s) refl)
     where
-      go : (z : Run (Tables × Program)) → sheet s ≡ z → (let r = sheetAnswered s z in TextRead text.Sheet sheet s (r .refused) (r .place) (r .tables, r .program))
-      go (on v r) e = went text.Sheet sheet s e
-      go (stop n r) e = stopped text.Sheet sheet s e (sheet-stops s n r e)
+      go : (z : Run A) → m s ≡ z → (let r = outcome none s z in TextRead x m s (r .refused) (r .place) (r .value))
+      go (on v r) e = went x m s e
+      go (stop n r) e = stopped x m s e (stops n r e)
 
-  answer-read : {r : AnswerRead} → r ≡ answerRead s → TextRead text.Answer answer s (r .refused) (r .place) (r .answer)
-  unfolding answerRead
-  answer-read is = rw (is, le-leb (length s) 32768 h, answerRead) (go (answer s) refl)
-    where
-      go : (z : Run Answer) → answer s ≡ z → (let r = answerAnswered s z in TextRead text.Answer answer s (r .refused) (r .place) (r .answer))
-      go (on v r) e = went text.Answer answer s e
-      go (stop n r) e = stopped text.Answer answer s e (answer-stops s n r e)
+module _ (s : List ℕ) (h : length s ≤ 32768) where
+  sheet-read : {r : Whole (Tables × Program)} → r ≡ sheetRead s → TextRead text.Sheet sheet s (r .refused) (r .place) (r .value)
+  sheet-read = whole-read text.Sheet sheet (noTables, noProgram) s h (sheet-stops s)
+
+  answer-read : {r : Whole Answer} → r ≡ answerRead s → TextRead text.Answer answer s (r .refused) (r .place) (r .value)
+  answer-read = whole-read text.Answer answer noAnswer s h (answer-stops s)
 
 -- ---- the two texts
 
@@ -95,25 +95,25 @@ module _ (s a : List ℕ) where
   unfolding both
   answer-long p h = rw (not-long text.Sheet s p, long text.Answer a h)
 
-  module _ (p : length s ≤ 32768) (q : length a ≤ 32768) {r : Sheet} (is : r ≡ sheetRead s) where
+  module _ (p : length s ≤ 32768) (q : length a ≤ 32768) {r : Whole (Tables × Program)} (is : r ≡ sheetRead s) where
     pub sheet-refused : (r .refused ≡ 0 → ⊥) → faulty text.Sheet (r .refused) (r .place) ≡ both s a
     unfolding both
     sheet-refused h = rw (not-long text.Sheet s p, not-long text.Answer a q, sheet-read s p is .faults h)
 
-    module _ (e : r .refused ≡ 0) {y : AnswerRead} (also : y ≡ answerRead a) where
+    module _ (e : r .refused ≡ 0) {y : Whole Answer} (also : y ≡ answerRead a) where
       pub answer-refused : (y .refused ≡ 0 → ⊥) → faulty text.Answer (y .refused) (y .place) ≡ both s a
       unfolding both
       answer-refused h = rw (not-long text.Sheet s p, not-long text.Answer a q, sheet-read s p is .reaches e, answer-read a q also .faults h)
 
-      pub both-said : y .refused ≡ 0 → reached (r .tables, r .program, y .answer) ≡ both s a
+      pub both-said : y .refused ≡ 0 → reached (r .value .0, r .value .1, y .value) ≡ both s a
       unfolding both
       both-said f = rw (not-long text.Sheet s p, not-long text.Answer a q, sheet-read s p is .reaches e, answer-read a q also .reaches f)
 
   -- the outcome of what their readers answered, r and y
-  module _ {r : Sheet} {y : AnswerRead} (is : r ≡ sheetRead s) (also : y ≡ answerRead a) (o : Outcome) {p q : Seen}
+  module _ {r : Whole (Tables × Program)} {y : Whole Answer} (is : r ≡ sheetRead s) (also : y ≡ answerRead a) (o : Outcome) {p q : Seen}
       (h : ((t b : List ℕ) → p ≡ sheetSeen t → q ≡ answerSeen b → came o (saying t b) ≡ both t b)) where
     pub outcome-comes : p ≡ record { size = length s; refused = r .refused; place = r .place } → q ≡ record { size = length a; refused = y .refused; place = y .place }
-        → came o (r .tables, r .program, y .answer) ≡ both s a
+        → came o (r .value .0, r .value .1, y .value) ≡ both s a
     outcome-comes e f = rw (is, also) (h s a (rw is at e) (rw also at f))
 
   -- the course goes on with the walk of what they say
@@ -135,38 +135,30 @@ walked-numbers s a w e =
     let few = leb-true (y .count) 1024 (and-left (stepsOk (y .count)) _ (answers-are-lawful a _ _ (b .answer-is))) in
     rw (b .walked) (record { refused = n .refused; accepted = omega (arith, n .accepted, few, length-take (y .count) (y .steps)) })
 
--- a place of the text, and no line number past the last one that a text can have
-pub record FaultAt (s : List ℕ) (n at : ℕ) : Type 0 where
-  pub within : at ≤ length s
-  pub few : faultLine n at s ≤ 32769
+-- so its number is a byte, and its report has room
+pub small-number : (s a : List ℕ) (w : Walked) → course s a ≡ reached w → w .refused < 256
+small-number s a w e = ⊎-elim (λ z. omega arith) (λ z. omega arith) (walked-numbers s a w e .refused .range)
 
-pub at-start : (s : List ℕ) → FaultAt s 1 0
-unfolding faultLine
-at-start s = record { within = omega arith; few = omega arith }
+pub reached-short : (s a : List ℕ) (w : Passed) (ws : List ℕ) → reached (walked w (stateIn ws)) ≡ course s a → Short w (reportIn w ws)
+reached-short s a w ws e = record { few = omega (arith, read-fits s a _ (sym e) .0); small = small-number s a _ (sym e) }
 
-pub at-line : (s : List ℕ) (n at : ℕ) → length s ≤ 32768 → at ≤ length s → FaultAt s n at
-unfolding faultLine lineNumber
-at-line s n at h l = record {
-  within = l;
-  few = by-test (eqb n 1) (λ e. rw (e, faultLine) (omega arith)) (λ e. rw (e, faultLine) (omega (arith, lfs-few (take at s), length-take at s)));
-}
-
+-- a fault lies in its text
 pub data Told {A : Type 0} (s a : List ℕ) : Course A → Type 0 where
-  in-sheet : {n at : ℕ} → FaultAt s n at → Told s a (faulty text.Sheet n at)
-  in-answer : {n at : ℕ} → FaultAt a n at → Told s a (faulty text.Answer n at)
+  in-sheet : {n at : ℕ} → at ≤ length s → Told s a (faulty text.Sheet n at)
+  in-answer : {n at : ℕ} → at ≤ length a → Told s a (faulty text.Answer n at)
   walks : {x : A} → Told s a (reached x)
 
 pub both-told : (s a : List ℕ) → Told s a (both s a)
 both-told s a =
-    by-cases (decLt 32768 (length s)) (λ h. rw (← sheet-long s a h) (in-sheet (at-start s))) (λ h.
-    by-cases (decLt 32768 (length a)) (λ g. rw (← answer-long s a (omega arith) g) (in-answer (at-start a))) (λ g.
+    by-cases (decLt 32768 (length s)) (λ h. rw (← sheet-long s a h) (in-sheet zero-le)) (λ h.
+    by-cases (decLt 32768 (length a)) (λ g. rw (← answer-long s a (omega arith) g) (in-answer zero-le)) (λ g.
     let p : length s ≤ 32768 = omega arith in
     let q : length a ≤ 32768 = omega arith in
     by-cases (ℕ-discrete (sheetRead s .refused) 0) (λ e.
     by-cases (ℕ-discrete (answerRead a .refused) 0)
     (λ f. rw (← both-said s a p q refl e refl f) walks)
-    (λ f. rw (← answer-refused s a p q refl e refl f) (in-answer (at-line a _ _ q (answer-read a q refl .within)))))
-    (λ e. rw (← sheet-refused s a p q refl e) (in-sheet (at-line s _ _ p (sheet-read s p refl .within))))))
+    (λ f. rw (← answer-refused s a p q refl e refl f) (in-answer (answer-read a q refl .within))))
+    (λ e. rw (← sheet-refused s a p q refl e) (in-sheet (sheet-read s p refl .within)))))
 
 pub told-then : {A B : Type 0} {s a : List ℕ} {m : Course A} (f : A → B) → Told s a m → Told s a (goOn m (λ x. reached (f x)))
 told-then f (in-sheet h) = in-sheet h

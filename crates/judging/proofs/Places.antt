@@ -60,8 +60,8 @@ unfolding judged ending afterFault
 place-within s a room = go (course-told s a)
   where
     go : {z : Course Walked} → Told s a z → Within (λ x. textOf x s a) (ending s a room z .place)
-    go (in-sheet {n} {at} f) = fault-within (λ x. textOf x s a) text.Sheet n at (f .within)
-    go (in-answer {n} {at} f) = fault-within (λ x. textOf x s a) text.Answer n at (f .within)
+    go (in-sheet {n} {at} f) = fault-within (λ x. textOf x s a) text.Sheet n at f
+    go (in-answer {n} {at} f) = fault-within (λ x. textOf x s a) text.Answer n at f
     go (walks {x}) = walk-within (λ x. textOf x s a) room x (report x)
 
 -- ---- as a part of the text

@@ -1,6 +1,6 @@
 -- What is printed: after 1 to 5 the three lines, which have room, and else the bytes of the report.
 -- Assumes nothing.
-use Prim.Native.Nat.{ℕ, _+_, _<_, _≤_, _^_, zero-le}
+use Prim.Native.Nat.{ℕ, _≤_, zero-le}
 use mathlib.Core.List.{List, []}
 use mathlib.Core.Path.{_≡_, refl, sym, ap, _∙_}
 use mathlib.Core.Logic.{⊎-elim}
@@ -9,41 +9,21 @@ use lib.Dec.{leb}
 use lib.ListN.{length, length-append, length-drop}
 use lib.Seq.{length-take-le}
 use borrow.Author.Tests.{leb-true}
-use Rattle.forms.specs.Reader.{bytes}
-use Rattle.forms.specs.Write.{oneText}
 use Rattle.forms.proofs.Tests.{by-test}
 use Rattle.model.specs.declared.Walked.{Walked}
-use Rattle.model.specs.declared.Text.{Text}
 use Rattle.model.specs.declared.Text.the-variants as text
-use Rattle.report.specs.Report.{countText, report}
-use Rattle.report.specs.Faults.{textText, faultText}
-use Rattle.report.proofs.Widths.{number-le}
+use Rattle.report.specs.Report.{report}
+use Rattle.report.specs.Faults.{faultText}
 use Rattle.judged.specs.declared.Verdict.{Verdict}
 use Rattle.judged.specs.Course.{Course, course}
-use Rattle.judged.specs.Judged.{Judgement, faultLine, afterFault, noRoom, afterWalk, inRoom, ending, judged, over, printing, printed}
+use Rattle.judged.specs.Judged.{Judgement, afterFault, noRoom, afterWalk, inRoom, ending, judged, over, printing, printed}
 use Rattle.judged.specs.Once.{Judges, Prints as PrintsOf}
 use Rattle.judged.proofs.Read.{fault-numbered}
 use Rattle.inks.specs.Written.{Written}
-use Rattle.judging.specs.Counts.{Counts}
 use Rattle.inks.proofs.Laws.{fits-all}
+use Rattle.writers.proofs.Bounds.{fault-short}
+use Rattle.judging.specs.Counts.{Counts}
 use Rattle.judging.proofs.Order.{walked-numbers, Told, in-sheet, in-answer, walks, course-told}
-
--- ---- the three lines are short
-
-text-short : (x : Text) → length (textText x) ≤ 12
-unfolding textText
-text-short text.Neither = zero-le
-text-short text.Sheet = omega arith
-text-short text.Answer = omega arith
-text-short text.Times = omega arith
-
-count-short : (k : List ℕ) (n : ℕ) → n < 10 ^ 5 → length (countText k n) ≤ length k + 6
-unfolding countText oneText
-count-short k n h = simp length-append (omega (arith, number-le 4 n h))
-
-pub fault-short : (x : Text) (line n : ℕ) → line ≤ 32769 → n ≤ 99 → length (faultText x line n) ≤ 8192
-unfolding faultText
-fault-short x line n h l = simp length-append (omega (arith, text-short x, count-short (bytes "line=") line (omega arith), count-short (bytes "refused=") n (omega arith)))
 
 -- ---- which of the two is printed: three lines after the numbers that are of a text, and else the report
 
@@ -60,13 +40,23 @@ walk-chosen OfText w r a h g =
     (λ e. rw (e, inRoom) (record { three-lines = λ z. absurd (h z); the-report = λ _. refl; written-is = refl; has-room = leb-true (length r) 8192 e }))
     (λ e. rw (e, inRoom) (record { three-lines = λ z. absurd (g z); the-report = λ _. refl; written-is = refl; has-room = zero-le }))
 
+-- after a fault nothing is written, and the three lines are short
+pub fault-chosen : (OfText : ℕ → Type 0) (j : Judgement) → OfText (j .verdict .refused) → j .bytes ≡ [] → j .verdict .written ≡ 0
+    → Chosen OfText j (faultText (j .verdict .text) (j .verdict .line) (j .verdict .refused))
+fault-chosen OfText j h none zero = record {
+  three-lines = λ _. (refl, none, omega (arith, fault-short (j .verdict .text) (j .verdict .line) (j .verdict .refused)));
+  the-report = λ g. absurd (g h);
+  written-is = zero ∙ sym (ap length none);
+  has-room = rw none zero-le;
+}
+
 -- ---- what stands in the buffer, which held `old`
 
 abbrev pub Prints : List ℕ → List ℕ → List ℕ → ℕ → Type 0
 Prints print old new used = (used ≡ length print) × ((new ≡ over print old) × Counts used new)
 
 -- all of it has room
-prints : (print old : List ℕ) {new : List ℕ} {used : ℕ} → length old ≡ 8192 → length print ≤ 8192 → used ≡ length print → new ≡ over print old → Prints print old new used
+pub prints : (print old : List ℕ) {new : List ℕ} {used : ℕ} → length old ≡ 8192 → length print ≤ 8192 → used ≡ length print → new ≡ over print old → Prints print old new used
 unfolding over
 prints print old {new} {used} long room e is =
     let h : used ≤ length new = rw is (simp (length-append, length-drop) (omega arith)) in
@@ -92,22 +82,13 @@ module _ {OfText : ℕ → Type 0} {j : Judgement} {print : List ℕ} (k : Chose
 abbrev OfText : ℕ → Type 0
 OfText n = (1 ≤ n) × (n ≤ 5)
 
-fault-chosen : (x : Text) (n at : ℕ) (s : List ℕ) → OfText n → faultLine n at s ≤ 32769 → Chosen OfText (afterFault x n at s) (faultText x (faultLine n at s) n)
-unfolding afterFault
-fault-chosen x n at s h l = record {
-  three-lines = λ _. (refl, refl, fault-short x (faultLine n at s) n l (omega arith));
-  the-report = λ g. absurd (g h);
-  written-is = refl;
-  has-room = zero-le;
-}
-
 chosen : (s a : List ℕ) → Chosen OfText (judged s a 8192) (printed s a)
-unfolding judged printed ending printing
+unfolding judged printed ending printing afterFault
 chosen s a = go (course s a) refl (course-told s a)
   where
     go : (z : Course Walked) → course s a ≡ z → Told s a z → Chosen OfText (ending s a 8192 z) (printing s a z)
-    go _ e (in-sheet {n} {at} f) = fault-chosen text.Sheet n at s (fault-numbered s a text.Sheet n at e) (f .few)
-    go _ e (in-answer {n} {at} f) = fault-chosen text.Answer n at a (fault-numbered s a text.Answer n at e) (f .few)
+    go _ e (in-sheet {n} {at} f) = fault-chosen OfText (afterFault text.Sheet n at s) (fault-numbered s a text.Sheet n at e) refl refl
+    go _ e (in-answer {n} {at} f) = fault-chosen OfText (afterFault text.Answer n at a) (fault-numbered s a text.Answer n at e) refl refl
     go _ e (walks {x}) =
         let h = walked-numbers s a x e .refused .range in
         walk-chosen OfText x (report x) a (λ g. ⊎-elim (λ z. omega (arith, g, z)) (λ z. omega (arith, g, z)) h) (λ g. omega (arith, g))

@@ -8,12 +8,16 @@ use Rattle.model.specs.declared.Program.{Program}
 use Rattle.model.specs.declared.Answer.{Answer}
 use Rattle.model.specs.declared.Text.the-variants as text
 use Rattle.model.specs.Empty.{noTables, noProgram, noAnswer}
-use Rattle.sheets.specs.Sheet.{sheetRead}
-use Rattle.answers.specs.Answer.{answerRead}
+use Rattle.report.specs.Report.{report}
+use Rattle.word_sheets.specs.Sheet.{sheetRead}
+use Rattle.word_answers.specs.Answer.{answerRead}
 use Rattle.judged.specs.Course.{Course, faulty, reached}
+use Rattle.judged.specs.Judged.{Judgement, inRoom}
+use Rattle.words.specs.Words.{tablesIn, programIn, answerIn, stateIn}
+use Rattle.word_walks.specs.declared.Passed.{Passed}
+use Rattle.word_walks.specs.Reached.{walked}
 use Rattle.judging.specs.declared.pairs.Outcome.{Outcome}
 use Rattle.judging.specs.declared.pairs.Outcome.the-variants.{InSheet, InAnswer, Reached}
-use Rattle.judging.specs.declared.pairs.Pair.{Pair}
 use Rattle.judging.specs.declared.pairs.Seen.{Seen}
 
 -- the course of an outcome, with x where both are read
@@ -24,7 +28,7 @@ came Reached x = reached x
 
 -- what the readers answer of two texts
 abbrev pub saying : List ℕ → List ℕ → Tables × Program × Answer
-saying s a = (sheetRead s .tables, sheetRead s .program, answerRead a .answer)
+saying s a = (sheetRead s .value .0, sheetRead s .value .1, answerRead a .value)
 
 -- and beside it, each of its text
 abbrev pub sheetSeen : List ℕ → Seen
@@ -33,16 +37,25 @@ sheetSeen s = record { size = length s; refused = sheetRead s .refused; place = 
 abbrev pub answerSeen : List ℕ → Seen
 answerSeen a = record { size = length a; refused = answerRead a .refused; place = answerRead a .place }
 
-abbrev pub nothingSaid : Outcome → Pair
-nothingSaid o = record { outcome = o; tables = noTables; program = noProgram; steps = noAnswer }
+-- what the lent words say
+abbrev pub saidIn : List ℕ → List ℕ → List ℕ → Tables × Program × Answer
+saidIn ts ps ys = (tablesIn ts, programIn ps, answerIn ys)
 
 -- nothing is handed out beside a refusal
-abbrev pub Beside : Outcome → Pair → Type 0
-Beside (InSheet n at) r = r ≡ nothingSaid (InSheet n at)
-Beside (InAnswer n at) r = r ≡ nothingSaid (InAnswer n at)
-Beside Reached r = Unit
+abbrev pub Beside : Outcome → Tables × Program × Answer → Type 0
+Beside (InSheet n at) x = x ≡ (noTables, noProgram, noAnswer)
+Beside (InAnswer n at) x = x ≡ (noTables, noProgram, noAnswer)
+Beside Reached x = Unit
 
--- the answer r is the course m of the two texts
-pub record Comes (r : Pair) (m : Course (Tables × Program × Answer)) : Type 0 where
-  pub same : came (r .outcome) (r .tables, r .program, r .steps) ≡ m
-  pub beside : Beside (r .outcome) r
+-- the outcome r and what stands beside it are the course m of the two texts
+pub record Comes (r : Outcome) (x : Tables × Program × Answer) (m : Course (Tables × Program × Answer)) : Type 0 where
+  pub same : came r x ≡ m
+  pub beside : Beside r x
+
+-- the report of a walk that has come to what the words of the state say
+abbrev pub reportIn : Passed → List ℕ → List ℕ
+reportIn w ws = report (walked w (stateIn ws))
+
+-- the judgement of a walk in a lent buffer
+abbrev pub inRoomOf : List ℕ → Passed → List ℕ → List ℕ → Judgement
+inRoomOf lent w ws a = inRoom (length lent) (walked w (stateIn ws)) (reportIn w ws) a

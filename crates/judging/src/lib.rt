@@ -6,7 +6,6 @@ use judged::LENT_BYTES;
 use judged::Place;
 use judged::Verdict;
 use model::Text;
-use model::Walked;
 use pairs::Outcome;
 use pairs::walk_texts;
 use verdicts::after_fault;
@@ -14,28 +13,34 @@ use verdicts::fault_place;
 use verdicts::no_room;
 use verdicts::walk_place;
 use verdicts::walk_verdict;
+use word_walks::Passed;
+use words::StateWords;
+use words::state::done;
 ghost use mathlib.Core.Path.{_≡_};
-ghost use Prim.Native.Nat.{_≤_};
-ghost use lib.Dec.{leb};
+ghost use Prim.Native.Nat.{_+_};
 ghost use lib.ListN.{length};
-ghost use Rattle.report.specs.Report.{report};
-ghost use Rattle.judged.specs.Judged.{afterFault, faultPlace, inRoom, judged, over};
+ghost use Rattle.judged.specs.Judged.{afterFault, faultPlace, judged, over};
 ghost use Rattle.judged.specs.Once.{Judges, Places, Promised, Prints};
+ghost use Rattle.words.specs.Words.{stateIn};
+ghost use Rattle.word_walks.specs.Reached.{walked};
+ghost use Rattle.judging.specs.Came.{reportIn, inRoomOf};
+ghost use Rattle.judging.specs.Room.{roomFor, Short};
 ghost use Rattle.judging.specs.Counts.{Counts};
 ghost use Rattle.judging.specs.Part.{PartAt};
 
-// No report that two texts come to has more bytes.
-const LARGEST: usize = 8182;
-
-// Whether the report has room. Where every report has, its length isn't looked for: that would write it once more.
-fn has_room(w: Walked, room: usize) -> bool
-    requires { ⌜ length (report w) ≤ 8182 ⌝ }
-    ensures { λ r. ⌜ r ≡ leb (length (report w)) room ⌝ }
+// Whether the report of a walk has room, with so many bytes after it. Where every report that texts come to has, its length isn't looked for:
+// that would write it once more.
+pub fn has_room(w: Passed, state: &StateWords, after: usize, room: usize) -> bool
+    ensures { λ r. ⌜ r ≡ roomFor (length (reportIn w (now (state .entry))) + after) room ⌝ }
 {
-    if LARGEST <= room {
+    if LENT_BYTES <= room {
         return true;
     }
-    writers::report_length(w) <= room
+    if room < after {
+        return false;
+    }
+    let mut scratch = [0u8; LENT_BYTES];
+    writers::write_report(&mut scratch, w.accepted, w.refused, state) <= room - after
 }
 
 // A verdict, and the place of the line at fault.
@@ -54,20 +59,22 @@ fn judge_fault(x: Text, s: &[u8], n: u8, at: usize) -> Judged
 }
 
 // The report, or 6 where it has no room, which is known before its first byte is written.
-fn judge_walk(w: Walked, answer: &[u8], lent: &mut [u8]) -> Judged
-    requires { ⌜ length (report w) ≤ 8182 ⌝ }
-    ensures verdict { λ r. ⌜ r .verdict ≡ inRoom (length (now (lent .entry))) w (report w) (now (answer .entry)) .verdict ⌝ }
-    ensures place { λ r. ⌜ r .place ≡ inRoom (length (now (lent .entry))) w (report w) (now (answer .entry)) .place ⌝ }
-    ensures buffer { λ r. ⌜ now (lent .exit) ≡ over (inRoom (length (now (lent .entry))) w (report w) (now (answer .entry)) .bytes) (now (lent .entry)) ⌝ }
+fn judge_walk(w: Passed, state: &StateWords, answer: &[u8], lent: &mut [u8]) -> Judged
+    requires { ⌜ Short w (reportIn w (now state)) ⌝ }
+    ensures verdict { λ r. ⌜ r .verdict ≡ inRoomOf (now (lent .entry)) w (now (state .entry)) (now (answer .entry)) .verdict ⌝ }
+    ensures place { λ r. ⌜ r .place ≡ inRoomOf (now (lent .entry)) w (now (state .entry)) (now (answer .entry)) .place ⌝ }
+    ensures buffer { λ r. ⌜ now (lent .exit) ≡ over (inRoomOf (now (lent .entry)) w (now (state .entry)) (now (answer .entry)) .bytes) (now (lent .entry)) ⌝ }
 {
-    let fits = has_room(w, lent.len());
-    let place = walk_place(w, fits, answer);
+    let fits = has_room(w, state, 0, lent.len());
+    let refused = w.refused as u8;
+    let accepted = w.accepted as usize;
+    let place = walk_place(refused, accepted, fits, answer);
     if !fits {
         let verdict = no_room();
         return Judged { verdict, place };
     }
-    let written = writers::write_report(lent, w);
-    let verdict = walk_verdict(w, written);
+    let written = writers::write_report(lent, w.accepted, w.refused, state);
+    let verdict = walk_verdict(refused, accepted, done(state) as usize, written);
     Judged { verdict, place }
 }
 
@@ -75,13 +82,14 @@ fn judge_walk(w: Walked, answer: &[u8], lent: &mut [u8]) -> Judged
 pub fn judge_and_place(sheet: &[u8], answer: &[u8], report: &mut [u8]) -> Judged
     ensures { λ r. ⌜ Promised (now (sheet .entry)) (now (answer .entry)) (now (report .entry)) (r .verdict) (now (report .exit)) (r .place) ⌝ }
 {
-    let came = walk_texts(sheet, answer);
+    let mut state = [0u32; 675];
+    let came = walk_texts(sheet, answer, &mut state);
     let outcome = came.outcome;
-    let walked = came.walked;
+    let passed = came.passed;
     match outcome {
         Outcome::InSheet(n, at) => judge_fault(Text::Sheet, sheet, n, at),
         Outcome::InAnswer(n, at) => judge_fault(Text::Answer, answer, n, at),
-        Outcome::Reached => judge_walk(walked, answer, report),
+        Outcome::Reached => judge_walk(passed, &state, answer, report),
     }
 }
 
@@ -96,15 +104,16 @@ pub fn judge(sheet: &[u8], answer: &[u8], report: &mut [u8]) -> Verdict
 pub fn place(sheet: &[u8], answer: &[u8], room: usize) -> Place
     ensures { λ r. ⌜ Places (now (sheet .entry)) (now (answer .entry)) room r ⌝ }
 {
-    let came = walk_texts(sheet, answer);
+    let mut state = [0u32; 675];
+    let came = walk_texts(sheet, answer, &mut state);
     let outcome = came.outcome;
-    let walked = came.walked;
+    let passed = came.passed;
     match outcome {
         Outcome::InSheet(n, at) => fault_place(Text::Sheet, sheet, n, at),
         Outcome::InAnswer(n, at) => fault_place(Text::Answer, answer, n, at),
         Outcome::Reached => {
-            let fits = has_room(walked, room);
-            walk_place(walked, fits, answer)
+            let fits = has_room(passed, &state, 0, room);
+            walk_place(passed.refused as u8, passed.accepted as usize, fits, answer)
         }
     }
 }

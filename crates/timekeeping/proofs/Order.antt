@@ -19,8 +19,8 @@ use Rattle.rules.specs.Walk.{walkAnswer}
 use Rattle.judged.specs.Course.{Course, faulty, reached, goOn, defaultDepth, both}
 use Rattle.words.specs.Words.{stateIn}
 use Rattle.word_walks.specs.Reached.{walked}
-use Rattle.word_judging.specs.Room.{Short}
-use Rattle.word_judging.proofs.Order.{long, not-long, TextRead, went, stopped, Told, in-sheet, in-answer, walks, small-number, both-told}
+use Rattle.judging.specs.Room.{Short}
+use Rattle.judging.proofs.Order.{long, not-long, TextRead, went, stopped, Told, in-sheet, in-answer, walks, small-number, both-told}
 use Rattle.times.specs.declared.Times.{Times}
 use Rattle.times.specs.Text.{times}
 use Rattle.times.proofs.Read.{times-stop}
@@ -30,7 +30,7 @@ use Rattle.timed.specs.Clock.{clockOf}
 use Rattle.timed.specs.Mark.{markAfter}
 use Rattle.timed.specs.Timed.{clocked, timedCourse}
 use Rattle.timed.proofs.Same.{all-read}
-use Rattle.word_clocks.specs.declared.TimedWalk.{TimedWalk}
+use Rattle.clocks.specs.declared.TimedWalk.{TimedWalk}
 use Rattle.timekeeping.specs.Came.{markedIn}
 
 -- ---- the times

@@ -19,7 +19,7 @@ use Rattle.model.proofs.Text.{the-type}
 use Rattle.judged.specs.declared.Place.{Place}
 use Rattle.judged.specs.Course.{Course}
 use Rattle.judged.specs.Judged.{afterFault}
-use Rattle.word_judging.proofs.Places.{Within, fault-within, walk-within}
+use Rattle.judging.proofs.Places.{Within, fault-within, walk-within}
 use Rattle.timed.specs.Timed.{lentText, markedReport, timedEnding, timed}
 use Rattle.timed.specs.Once.{PromisedPlace}
 use Rattle.timed.proofs.Once.{the-place}

@@ -16,9 +16,9 @@ use Rattle.judged.specs.declared.Verdict.{Verdict}
 use Rattle.judged.specs.Course.{Course}
 use Rattle.judged.specs.Judged.{faultLine, afterFault}
 use Rattle.inks.specs.Written.{Written}
-use Rattle.word_judging.specs.Counts.{Counts}
-use Rattle.word_judging.proofs.Order.{walked-numbers}
-use Rattle.word_judging.proofs.Printed.{Chosen, walk-chosen, fault-chosen, Prints, report-printed, lines-printed}
+use Rattle.judging.specs.Counts.{Counts}
+use Rattle.judging.proofs.Order.{walked-numbers}
+use Rattle.judging.proofs.Printed.{Chosen, walk-chosen, fault-chosen, Prints, report-printed, lines-printed}
 use Rattle.times.specs.Refusal.{timesNumber}
 use Rattle.timed.specs.Timed.{timedCourse, markedReport, numbered, timedEnding, timed, timedVerdict, timedBuffer, timedPrinting, timedPrinted}
 use Rattle.timed.proofs.Same.{Alike, in-sheet, in-answer, in-times, marked, courses-alike, all-read}

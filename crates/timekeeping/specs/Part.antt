@@ -5,7 +5,7 @@ use denote.Ref.{RefT}
 use Rattle.model.specs.declared.Text.{Text}
 use Rattle.model.specs.declared.Text.the-variants as text
 use Rattle.judged.specs.declared.Place.{Place}
-use Rattle.word_judging.specs.Part.{Part}
+use Rattle.judging.specs.Part.{Part}
 use Rattle.timed.specs.Once.{PromisedPlace}
 
 -- the text that is named; no place is in neither

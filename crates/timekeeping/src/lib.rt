@@ -1,14 +1,14 @@
 // Timing: a sheet, an answer, a text of times and a lent buffer come to the judge's verdict, a report that ends in its mark, and the mark.
 // Promised: on any bytes, every field and byte is what crates/timed/specs says, and the line at fault is that very part of its text.
+use clocks::TimedWalk;
 use judged::DEFAULT_DEPTH;
 use judged::LENT_BYTES;
 use judged::Place;
 use judged::Verdict;
+use judging::pairs::Outcome;
+use judging::pairs::read_both;
 use model::Text;
 use timed::Timed;
-use word_clocks::TimedWalk;
-use word_judging::pairs::Outcome;
-use word_judging::pairs::read_both;
 use word_walks::Passed;
 use words::AnswerWords;
 use words::ProgramWords;
@@ -25,8 +25,8 @@ ghost use Rattle.report.specs.Report.{countText};
 ghost use Rattle.inks.specs.Written.{Written};
 ghost use Rattle.judged.specs.Judged.{afterFault, over};
 ghost use Rattle.words.specs.Words.{tablesIn, programIn, answerIn, stateIn};
-ghost use Rattle.word_judging.specs.Room.{roomFor, Short};
-ghost use Rattle.word_judging.specs.Counts.{Counts};
+ghost use Rattle.judging.specs.Room.{roomFor, Short};
+ghost use Rattle.judging.specs.Counts.{Counts};
 ghost use Rattle.times.specs.Refusal.{timesNumber};
 ghost use Rattle.timed.specs.Timed.{clocked, timedCourse, numbered, markInRoom};
 ghost use Rattle.timed.specs.Once.{PromisedAnswer, PromisedPlace};
@@ -82,7 +82,7 @@ fn clock_pair(
     let par = read.times.par;
     let seconds = read.times.seconds;
     let outcome = TimedOutcome::Reached;
-    let walk = word_clocks::walk_timed(
+    let walk = clocks::walk_timed(
         DEFAULT_DEPTH as u32,
         tables,
         program,
@@ -132,7 +132,7 @@ fn unmarked(verdict: Verdict) -> Timed
 fn after_times_fault(times: &[u8], n: u8, at: usize) -> Verdict
     ensures { λ r. ⌜ r ≡ numbered (timesNumber n) (afterFault text.Times n at (now (times .entry))) .verdict ⌝ }
 {
-    let mut verdict = word_verdicts::after_fault(Text::Times, times, n, at);
+    let mut verdict = verdicts::after_fault(Text::Times, times, n, at);
     verdict.refused = times_number(n);
     verdict
 }
@@ -141,15 +141,15 @@ fn after_times_fault(times: &[u8], n: u8, at: usize) -> Verdict
 fn write_marked(t: &mut [u8], w: TimedWalk, state: &StateWords) -> usize
     ensures { λ r. ⌜ Written (now (t .entry)) (markedIn w (now (state .entry))) (now (t .exit)) 0 r ⌝ }
 {
-    let used = word_writers::write_report(t, w.passed.accepted, w.passed.refused, state);
-    used + word_writers::write_count(&mut t[used..], b"mark=", w.mark)
+    let used = writers::write_report(t, w.passed.accepted, w.passed.refused, state);
+    used + writers::write_count(&mut t[used..], b"mark=", w.mark)
 }
 
 fn mark_length(mark: usize) -> usize
     ensures { λ r. ⌜ r ≡ length (countText (bytes "mark=") mark) ⌝ }
 {
     let mut scratch = [0u8; 32];
-    word_writers::write_count(&mut scratch, b"mark=", mark)
+    writers::write_count(&mut scratch, b"mark=", mark)
 }
 
 // Whether the report with its mark has room.
@@ -157,7 +157,7 @@ fn has_room(w: TimedWalk, state: &StateWords, room: usize) -> bool
     ensures { λ r. ⌜ r ≡ roomFor (length (markedIn w (now (state .entry)))) room ⌝ }
 {
     let passed = w.passed;
-    word_judging::has_room(passed, state, mark_length(w.mark), room)
+    judging::has_room(passed, state, mark_length(w.mark), room)
 }
 
 // The report with its mark, or 6 where it has no room, which is known before its first byte is written.
@@ -169,13 +169,13 @@ fn after_walk(w: TimedWalk, state: &StateWords, lent: &mut [u8]) -> Timed
         ≡ over (inRoomOf (now (lent .entry)) w (now (state .entry)) a .bytes) (now (lent .entry))) ⌝ }
 {
     if !has_room(w, state, lent.len()) {
-        let verdict = word_verdicts::no_room();
+        let verdict = verdicts::no_room();
         return unmarked(verdict);
     }
     let written = write_marked(lent, w, state);
     let refused = w.passed.refused as u8;
     let accepted = w.passed.accepted as usize;
-    let verdict = word_verdicts::walk_verdict(refused, accepted, done(state) as usize, written);
+    let verdict = verdicts::walk_verdict(refused, accepted, done(state) as usize, written);
     Timed {
         verdict,
         mark: w.mark,
@@ -191,13 +191,8 @@ pub fn timed(sheet: &[u8], answer: &[u8], times: &[u8], report: &mut [u8]) -> Ti
     let outcome = ended.outcome;
     let walk = ended.walk;
     match outcome {
-        TimedOutcome::InSheet(n, at) => unmarked(word_verdicts::after_fault(
-            Text::Sheet,
-            sheet,
-            n,
-            at,
-        )),
-        TimedOutcome::InAnswer(n, at) => unmarked(word_verdicts::after_fault(
+        TimedOutcome::InSheet(n, at) => unmarked(verdicts::after_fault(Text::Sheet, sheet, n, at)),
+        TimedOutcome::InAnswer(n, at) => unmarked(verdicts::after_fault(
             Text::Answer,
             answer,
             n,
@@ -217,14 +212,14 @@ pub fn timed_place(sheet: &[u8], answer: &[u8], times: &[u8], room: usize) -> Pl
     let outcome = ended.outcome;
     let walk = ended.walk;
     match outcome {
-        TimedOutcome::InSheet(n, at) => word_verdicts::fault_place(Text::Sheet, sheet, n, at),
-        TimedOutcome::InAnswer(n, at) => word_verdicts::fault_place(Text::Answer, answer, n, at),
-        TimedOutcome::InTimes(n, at) => word_verdicts::fault_place(Text::Times, times, n, at),
+        TimedOutcome::InSheet(n, at) => verdicts::fault_place(Text::Sheet, sheet, n, at),
+        TimedOutcome::InAnswer(n, at) => verdicts::fault_place(Text::Answer, answer, n, at),
+        TimedOutcome::InTimes(n, at) => verdicts::fault_place(Text::Times, times, n, at),
         TimedOutcome::Reached => {
             let fits = has_room(walk, &state, room);
             let refused = walk.passed.refused as u8;
             let accepted = walk.passed.accepted as usize;
-            word_verdicts::walk_place(refused, accepted, fits, answer)
+            verdicts::walk_place(refused, accepted, fits, answer)
         }
     }
 }
@@ -259,8 +254,8 @@ pub fn timed_print(sheet: &[u8], answer: &[u8], times: &[u8], out: &mut [u8; LEN
     let refused = verdict.refused;
     let text = verdict.text;
     match refused {
-        1..=5 => word_writers::write_fault(out, text, verdict.line, refused),
-        40..=42 => word_writers::write_fault(out, text, verdict.line, refused),
+        1..=5 => writers::write_fault(out, text, verdict.line, refused),
+        40..=42 => writers::write_fault(out, text, verdict.line, refused),
         _ => verdict.written,
     }
 }

@@ -13,21 +13,19 @@ use Rattle.judged.specs.Judged.{Judgement, noRoom, walkVerdict, afterWalk, inRo
 use Rattle.verdicts.specs.Fits.{placeFor}
 
 module _ (w : Walked) (x a : List ℕ) where
-  pub in-room-place : (room : ℕ) → placeFor (leb (length x) room) w a ≡ inRoom room w x a .place
+  pub in-room-place : (room : ℕ) → placeFor (leb (length x) room) (w .refused) (w .accepted) a ≡ inRoom room w x a .place
   unfolding placeFor inRoom afterWalk
   in-room-place room = go (leb (length x) room)
     where
-      go : (b : Bool) → placeFor b w a ≡ (elim b as (λ _. Judgement) [ true ↦ afterWalk w x a | false ↦ noRoom ]) .place
+      go : (b : Bool) → placeFor b (w .refused) (w .accepted) a ≡ (elim b as (λ _. Judgement) [ true ↦ afterWalk w x a | false ↦ noRoom ]) .place
       go true = refl
       go false = refl
 
-  -- what the code answers, of a report of which it knows whether it fits, or how many bytes it has
-  pub fits-place : {p : Place} {fits : Bool} (room : ℕ) → p ≡ placeFor fits w a → fits ≡ leb (length x) room → p ≡ inRoom room w x a .place
-  fits-place room h e = h ∙ ap (λ (b : Bool). placeFor b w a) e ∙ in-room-place room
+  -- what the code answers, of a report of which it knows whether it fits
+  pub fits-place : {p : Place} {fits : Bool} (room : ℕ) → p ≡ placeFor fits (w .refused) (w .accepted) a → fits ≡ leb (length x) room → p ≡ inRoom room w x a .place
+  fits-place room h e = h ∙ ap (λ (b : Bool). placeFor b (w .refused) (w .accepted) a) e ∙ in-room-place room
 
-  pub size-place : {p : Place} {size : ℕ} (room : ℕ) → p ≡ placeFor (leb size room) w a → size ≡ length x → p ≡ inRoom room w x a .place
-  size-place room h e = fits-place room h (ap (λ (n : ℕ). leb n room) e)
-
+  -- of one that fits and has so many bytes
   pub size-verdict : {v : Verdict} {size : ℕ} → v ≡ walkVerdict w size → size ≡ length x → v ≡ afterWalk w x a .verdict
   unfolding afterWalk
   size-verdict h e = h ∙ ap (walkVerdict w) e

@@ -4,13 +4,12 @@ use forms::BUFFER_SHORT;
 use judged::Place;
 use judged::Verdict;
 use model::Text;
-use model::Walked;
 ghost use mathlib.Core.Path.{_≡_};
 ghost use Prim.Native.Nat.{_+_};
-ghost use lib.Dec.{leb};
+ghost use Rattle.model.specs.declared.Configuration.{Configuration};
 ghost use Rattle.reading.specs.Place.{lineStart};
 ghost use Rattle.judged.specs.Judged.{faultLine, afterFault, emptyAt, lineAt, faultPlace, stepPlace, noRoom, walkVerdict};
-ghost use Rattle.verdicts.specs.Fits.{placeFor};
+ghost use Rattle.verdicts.specs.Fits.{placeFor, cameTo};
 
 // "`line=` (from 1; .. 0 for number 1)"
 fn fault_line(s: &[u8], n: u8, at: usize) -> usize
@@ -51,14 +50,14 @@ pub fn no_room() -> Verdict
     }
 }
 
-// What a walk comes to, whose report has so many bytes.
-pub fn walk_verdict(w: Walked, written: usize) -> Verdict
-    ensures { λ r. ⌜ r ≡ walkVerdict w written ⌝ }
+// What a walk comes to, that did so many instructions and whose report has so many bytes.
+pub fn walk_verdict(refused: u8, accepted: usize, next: usize, written: usize) -> Verdict
+    ensures { λ r. ⌜ ((c : Configuration) → next ≡ c .done → r ≡ walkVerdict (cameTo refused accepted c) written) ⌝ }
 {
     Verdict {
-        refused: w.refused,
-        accepted: w.accepted,
-        next: w.configuration.done,
+        refused,
+        accepted,
+        next,
         written,
         text: Text::Neither,
         line: 0,
@@ -118,19 +117,12 @@ pub fn step_place(refused: u8, accepted: usize, answer: &[u8]) -> Place
 }
 
 // Whether the report fits is known; "for 6, the empty start of the answer".
-pub fn walk_place(w: Walked, fits: bool, answer: &[u8]) -> Place
-    ensures { λ r. ⌜ r ≡ placeFor fits w (now (answer .entry)) ⌝ }
+pub fn walk_place(refused: u8, accepted: usize, fits: bool, answer: &[u8]) -> Place
+    ensures { λ r. ⌜ r ≡ placeFor fits refused accepted (now (answer .entry)) ⌝ }
 {
     if fits {
-        step_place(w.refused, w.accepted, answer)
+        step_place(refused, accepted, answer)
     } else {
         empty_at(Text::Answer, 0)
     }
-}
-
-// The same, of a report with so many bytes.
-pub fn place_in_room(w: Walked, size: usize, answer: &[u8], room: usize) -> Place
-    ensures { λ r. ⌜ r ≡ placeFor (leb size room) w (now (answer .entry)) ⌝ }
-{
-    walk_place(w, size <= room, answer)
 }

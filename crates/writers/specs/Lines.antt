@@ -8,38 +8,41 @@ use Rattle.sets.specs.Mask.{member, with}
 use Rattle.sets.specs.Test.{tally}
 use Rattle.forms.specs.Reader.{bytes}
 use Rattle.forms.specs.Write.{onlyIf, inTurn}
-use Rattle.model.specs.declared.Connection.{Connection}
 use Rattle.model.specs.declared.Configuration.{Configuration}
 use Rattle.model.specs.declared.Walked.{Walked}
-use Rattle.model.specs.Empty.{noConnection}
-use Rattle.model.specs.View.{instance}
+use Rattle.model.specs.View.{instance, connection}
 use Rattle.report.specs.Report.{countText, connectionText, instancesText, connectionsText}
+use Rattle.words.specs.Words.{stateIn}
 use Rattle.writers.specs.declared.ByPort.{ByPort}
 
--- the connection k among those of the user u, where it is one
-unfoldable pub noted : ByPort → ℕ → Connection → ByPort
-noted b u k =
-    cond (eqb (k .user) u && ltb (k .useport) 16)
-    (record { connections = set (b .connections) (k .useport) k; ports = with (k .useport) (b .ports) })
+-- connection l among those of the user u, where it is one
+unfoldable pub noted : Configuration → ByPort → ℕ → ℕ → ByPort
+noted c b u l =
+    cond (eqb (connection c l .user) u && ltb (connection c l .useport) 16)
+    (record { places = set (b .places) (connection c l .useport) l; ports = with (connection c l .useport) (b .ports) })
     b
 
 -- of the first n connections those of the user u
-unfoldable pub byPort : List Connection → ℕ → ℕ → ByPort
-byPort ks u zero = record { connections = replicate 16 noConnection; ports = 0 }
-byPort ks u (suc n) = noted (byPort ks u n) u (getD ks n noConnection)
+unfoldable pub byPort : Configuration → ℕ → ℕ → ByPort
+byPort c u zero = record { places = replicate 16 0; ports = 0 }
+byPort c u (suc n) = noted c (byPort c u n) u n
 
 -- what stands for port q: its line, nothing where it has no connection
-abbrev pub lineBy : ByPort → ℕ → List ℕ
-lineBy b q = onlyIf (member q (b .ports)) (connectionText (getD (b .connections) q noConnection))
+abbrev pub lineBy : Configuration → ByPort → ℕ → List ℕ
+lineBy c b q = onlyIf (member q (b .ports)) (connectionText (connection c (getD (b .places) q 0)))
 
 -- those of all its ports
-abbrev pub userLines : List Connection → ℕ → ℕ → List ℕ
-userLines ks n u = inTurn (lineBy (byPort ks u n)) 16
+abbrev pub userLines : Configuration → ℕ → List ℕ
+userLines c u = inTurn (lineBy c (byPort c u (c .count))) 16
 
 -- the users of the first n connections
-unfoldable pub usersOf : List Connection → ℕ → ℕ
-usersOf ks zero = 0
-usersOf ks (suc n) = with (getD ks n noConnection .user) (usersOf ks n)
+unfoldable pub usersOf : Configuration → ℕ → ℕ
+usersOf c zero = 0
+usersOf c (suc n) = with (connection c n .user) (usersOf c n)
+
+-- what a walk came to: the steps allowed, the number of the refusal, and the state that the words say
+abbrev pub reached : ℕ → ℕ → List ℕ → Walked
+reached accepted refused ws = record { accepted = accepted; refused = refused; configuration = stateIn ws }
 
 unfoldable pub headPart : Walked → List ℕ
 headPart w = countText (bytes "accepted=") (w .accepted) ++ countText (bytes "refused=") (w .refused) ++ countText (bytes "next=") (w .configuration .done)

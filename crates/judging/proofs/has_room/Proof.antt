@@ -1,17 +1,25 @@
-use mathlib.Core.Path.{sym}
 use native.Mathlib.Omega.{arith}
 use lib.ListN.{length}
 use borrow.Author.Needs.{needs}
-use borrow.Author.Tests.{le-leb}
-use Rattle.report.specs.Report.{report}
+use Rattle.judging.specs.Came.{reportIn}
+use Rattle.judging.proofs.Room.{has-all, has-none, has-some}
 use Rattle.judging.proofs.has_room.Statement.{statement}
 use Rattle.judging.proofs.has_room.Tie as tie
 
 returns : tie.Need-returns
-returns c = let x = c .before .args in sym (le-leb (length (report (x .w))) (x .room) (omega arith))
+returns c = let x = c .before .args in has-all (length (reportIn (x .w) (x .state .now))) (x .after) (x .room) (c .if1 .taken)
 
 returns-2 : tie.Need-returns-2
-returns-2 c = rw (c .report-length .ensures)
+returns-2 c =
+    let x = c .before .before .args in
+    has-none (length (reportIn (x .w) (x .state .now))) (x .after) (x .room) (c .before .if1 .left) (c .if2 .taken)
+
+returns-3 : tie.Need-returns-3
+returns-3 c =
+    let w = c .before in
+    let t = w .before .before in
+    let x = t .before .before .args in
+    has-some (length (reportIn (x .w) (x .state .now))) (x .after) (x .room) (t .before .if1 .left) (t .if2 .left) (omega (arith, w .write-report .ensures .to-is))
 
 pub has-room-spec : {M : Type 1} → statement M
-has-room-spec = tie.close (tie.spec returns (λ c κs. search needs) returns-2)
+has-room-spec = tie.close (tie.spec returns returns-2 (λ c. search needs) (λ c κs. search needs) returns-3)

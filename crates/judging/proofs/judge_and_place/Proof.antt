@@ -1,8 +1,10 @@
-use mathlib.Core.Path.{_≡_, sym}
+use mathlib.Core.Path.{_≡_}
 use Rattle.model.specs.declared.Text.the-variants as text
 use Rattle.judged.specs.Course.{reached, course}
-use Rattle.judged.proofs.Room.{read-fits}
+use Rattle.words.specs.Words.{stateIn}
+use Rattle.word_walks.specs.Reached.{walked}
 use Rattle.judging.proofs.Judgement.{fault-judges, walk-judges, fault-places, walk-places}
+use Rattle.judging.proofs.Order.{reached-short}
 use borrow.Author.Needs.{needs}
 use Rattle.judging.proofs.judge_and_place.Statement.{statement}
 use Rattle.judging.proofs.judge_and_place.Tie as tie
@@ -22,22 +24,22 @@ returns-2 c =
     record { judges = fault-judges _ _ _ text.Answer _ _ e (h .0); places = fault-places _ _ _ text.Answer _ _ e (h .1) }
 
 -- the walk is the one that the two texts come to
-walked : (e : tie.After-enum-told)
+came-to : (e : tie.After-enum-told)
     → let t = e .before .before .before in
-    let x = t .before .before .before .before .args in
-    reached (t .walk-texts .result .walked) ≡ course (x .sheet .now) (x .answer .now)
-walked e = rw (e .enum-told .given .1) at (e .before .before .before .walk-texts .ensures)
+    let x = t .before .before .before .before .before .args in
+    reached (walked (t .walk-texts .result .passed) (stateIn (t .walk-texts .last .1 .1 .0))) ≡ course (x .sheet .now) (x .answer .now)
+came-to e = rw (e .enum-told .given .1) at (e .before .before .before .walk-texts .ensures)
 
 judge-walk-requires : tie.Need-judge-walk-requires
-judge-walk-requires c κs = read-fits _ _ _ (sym (walked (c .before))) .0
+judge-walk-requires c κs = reached-short _ _ _ _ (came-to (c .before .before))
 
 returns-3 : tie.Need-returns-3
 returns-3 c =
     let d = c .before .before in
-    let e = d .before .before in
-    let x = e .before .before .before .before .before .before .before .args in
+    let e = d .before .before .before in
+    let x = e .before .before .before .before .before .before .before .before .args in
     let h = d .judge-walk .ensures in
-    record { judges = walk-judges _ _ (x .report .now) _ (walked e) (h .0) (h .1 .1); places = walk-places _ _ _ _ (walked e) (h .1 .0) }
+    record { judges = walk-judges _ _ (x .report .now) _ (came-to e) (h .0) (h .1 .1); places = walk-places _ _ _ _ (came-to e) (h .1 .0) }
 
 pub judge-and-place-spec : {M : Type 1} → statement M
 judge-and-place-spec =

@@ -1,10 +1,14 @@
-use mathlib.Core.Path.{_≡_, sym}
+use mathlib.Core.Path.{_≡_}
 use Rattle.model.specs.declared.Text.the-variants as text
 use Rattle.report.specs.Report.{report}
 use Rattle.judged.specs.Course.{reached, course}
-use Rattle.judged.proofs.Room.{read-fits}
-use Rattle.judging.proofs.Judgement.{fault-places, walk-places}
+use Rattle.words.specs.Words.{stateIn}
+use Rattle.word_walks.specs.Reached.{walked}
 use Rattle.verdicts.proofs.InRoom.{fits-place}
+use Rattle.judging.proofs.Judgement.{fault-places, walk-places}
+use Rattle.judging.proofs.Order.{reached-short}
+use Rattle.judging.proofs.Room.{fits-told}
+use native.Mathlib.Omega.{arith}
 use borrow.Author.Needs.{needs}
 use Rattle.judging.proofs.place.Statement.{statement}
 use Rattle.judging.proofs.place.Tie as tie
@@ -20,24 +24,30 @@ returns-2 c =
     fault-places _ _ _ text.Answer _ _ (rw (d .outcome2 .given .1) at (d .before .before .before .walk-texts .ensures)) (c .fault-place2 .ensures)
 
 -- the walk is the one that the two texts come to
-walked : (e : tie.After-enum-told)
+came-to : (e : tie.After-enum-told)
     → let t = e .before .before .before in
-    let x = t .before .before .before .args in
-    reached (t .walk-texts .result .walked) ≡ course (x .sheet .now) (x .answer .now)
-walked e = rw (e .enum-told .given .1) at (e .before .before .before .walk-texts .ensures)
+    let x = t .before .before .before .before .args in
+    reached (walked (t .walk-texts .result .passed) (stateIn (t .walk-texts .last .1 .1 .0))) ≡ course (x .sheet .now) (x .answer .now)
+came-to e = rw (e .enum-told .given .1) at (e .before .before .before .walk-texts .ensures)
 
-has-room-requires : tie.Need-has-room-requires
-has-room-requires c κs = read-fits _ _ _ (sym (walked c)) .0
+cast-walk-place : tie.Need-cast-walk-place
+cast-walk-place c =
+    let h = reached-short _ _ _ _ (came-to (c .before .before .before)) .small in
+    search needs
 
 returns-3 : tie.Need-returns-3
 returns-3 c =
-    let e = c .before .before in
-    let w = e .before .before .before .walk-texts .result .walked in
-    walk-places _ _ _ w (walked e) (fits-place w (report w) _ _ (c .walk-place .ensures) (c .before .has-room .ensures))
+    let e = c .before .before .before .before .before in
+    let t = e .before .before .before .walk-texts in
+    let d = stateIn (t .last .1 .1 .0) in
+    let w = walked (t .result .passed) d in
+    let x = e .before .before .before .before .before .before .before .args in
+    let told = fits-told (report w) _ (x .room) (c .before .before .before .has-room .ensures) (omega arith) (reached-short _ _ _ _ (came-to e) .few) in
+    walk-places _ _ _ w (came-to e) (fits-place w (report w) (x .answer .now) (x .room) (c .walk-place .ensures) told)
 
 pub place-spec : {M : Type 1} → statement M
 place-spec =
     tie.close
     (tie.spec
     (λ c κs. search needs) (λ c. search needs) (λ c κs. search needs) (λ c. search needs) (λ c κs. search needs) (λ c. search needs)
-    has-room-requires (λ c κs. search needs) returns returns-2 returns-3)
+    (λ c κs. search needs) cast-walk-place (λ c. search needs) (λ c κs. search needs) returns returns-2 returns-3)

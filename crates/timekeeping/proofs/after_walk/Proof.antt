@@ -6,8 +6,8 @@ use Rattle.inks.proofs.Laws.{fits-all}
 use Rattle.judged.specs.Judged.{noRoom, afterWalk, inRoom, over}
 use Rattle.words.specs.Words.{stateIn}
 use Rattle.word_walks.specs.Reached.{walked}
-use Rattle.word_verdicts.proofs.InRoom.{size-verdict}
-use Rattle.word_judging.proofs.Room.{fits-told}
+use Rattle.verdicts.proofs.InRoom.{size-verdict}
+use Rattle.judging.proofs.Room.{fits-told}
 use Rattle.timed.specs.Timed.{markInRoom}
 use Rattle.timekeeping.specs.Came.{markedIn}
 use borrow.Author.Needs.{needs}

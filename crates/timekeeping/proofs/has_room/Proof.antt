@@ -3,8 +3,8 @@ use mathlib.Core.Path.{_≡_, ap, _∙_}
 use native.Mathlib.Omega.{arith}
 use lib.ListN.{length, length-append}
 use Rattle.timed.specs.Timed.{markedReport}
-use Rattle.word_judging.specs.Came.{reportIn}
-use Rattle.word_judging.specs.Room.{roomFor}
+use Rattle.judging.specs.Came.{reportIn}
+use Rattle.judging.specs.Room.{roomFor}
 use Rattle.timekeeping.specs.Came.{markedIn}
 use borrow.Author.Needs.{needs}
 use Rattle.timekeeping.proofs.has_room.Statement.{statement}

@@ -1,6 +1,6 @@
 use native.Mathlib.Omega.{arith}
 use Rattle.forms.specs.Reader.{bytes}
-use Rattle.word_writers.proofs.Bounds.{count-short}
+use Rattle.writers.proofs.Bounds.{count-short}
 use borrow.Author.Needs.{needs}
 use Rattle.timekeeping.proofs.mark_length.Statement.{statement}
 use Rattle.timekeeping.proofs.mark_length.Tie as tie

@@ -1,7 +1,7 @@
 use mathlib.Core.Path.{refl}
 use native.Mathlib.Omega.{arith}
 use lib.ListN.{drop}
-use Rattle.word_judging.proofs.Places.{sized}
+use Rattle.judging.proofs.Places.{sized}
 use Rattle.timekeeping.proofs.Places.{held, end-fits, part-placed, elsewhere}
 use borrow.Author.Needs.{needs}
 use Rattle.timekeeping.proofs.timed_offending.Statement.{statement}

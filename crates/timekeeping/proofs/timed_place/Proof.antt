@@ -3,8 +3,8 @@ use Rattle.model.specs.declared.Text.the-variants as text
 use Rattle.judged.specs.Course.{reached}
 use Rattle.words.specs.Words.{stateIn}
 use Rattle.word_walks.specs.Reached.{walked}
-use Rattle.word_verdicts.proofs.InRoom.{fits-place}
-use Rattle.word_judging.proofs.Room.{fits-told}
+use Rattle.verdicts.proofs.InRoom.{fits-place}
+use Rattle.judging.proofs.Room.{fits-told}
 use Rattle.timed.specs.Timed.{timedCourse}
 use Rattle.timekeeping.specs.Came.{markedIn}
 use Rattle.timekeeping.proofs.Order.{marked-short}

@@ -1,7 +1,7 @@
-use borrow.Author.Needs.{needs}
 use Rattle.forms.specs.Write.{oneText, twoText, threeText, fourText}
 use Rattle.report.specs.Report.{connectionText}
 use Rattle.inks.proofs.Laws.{then, length-written}
+use borrow.Author.Needs.{needs}
 use Rattle.writers.proofs.write_connection.Statement.{statement}
 use Rattle.writers.proofs.write_connection.Tie as tie
 
@@ -17,15 +17,19 @@ returns c =
     let user-end = useport .before .before .before .before .before in
     let user = user-end .before .before .before .before in
     let key = user .before .before .before .before .before in
-    let from-provideport = then (provideport .write-number4 .ensures) (end .write-byte4 .ensures) in
-    let from-provider = then (then (provider .write-number3 .ensures) (provider-end .write-byte3 .ensures)) from-provideport in
-    let from-useport = then (then (useport .write-number2 .ensures) (useport-end .write-byte2 .ensures)) from-provider in
-    then (key .write-key .ensures) (then (then (user .write-number .ensures) (user-end .write-byte .ensures)) from-useport)
+    let from-provideport = then (rw (provideport .before .provideport .ensures) at (provideport .write-number4 .ensures)) (end .write-byte4 .ensures) in
+    let from-provider = then (then (rw (provider .before .provider .ensures) at (provider .write-number3 .ensures)) (provider-end .write-byte3 .ensures)) from-provideport in
+    let from-useport = then (then (rw (useport .before .useport .ensures) at (useport .write-number2 .ensures)) (useport-end .write-byte2 .ensures)) from-provider in
+    then (key .write-key .ensures) (then (then (rw (user .before .user .ensures) at (user .write-number .ensures)) (user-end .write-byte .ensures)) from-useport)
+
+same-length : tie.Need-same-length
+same-length c = length-written (returns c)
 
 pub write-connection-spec : {M : Type 1} → statement M
 write-connection-spec =
     tie.close
     (tie.spec
-    (λ c. search needs) (λ c κs. search needs) (λ c. search needs) (λ c κs. search needs) (λ c κs. search needs) (λ c. search needs)
-    (λ c κs. search needs) (λ c κs. search needs) (λ c. search needs) (λ c κs. search needs) (λ c κs. search needs) (λ c. search needs)
-    (λ c κs. search needs) (λ c κs. search needs) (λ c. length-written (returns c)) returns)
+    (λ c. search needs) (λ c κs. search needs) (λ c κs. search needs) (λ c. search needs) (λ c κs. search needs) (λ c κs. search needs)
+    (λ c κs. search needs) (λ c. search needs) (λ c κs. search needs) (λ c κs. search needs) (λ c κs. search needs) (λ c. search needs)
+    (λ c κs. search needs) (λ c κs. search needs) (λ c κs. search needs) (λ c. search needs) (λ c κs. search needs)
+    (λ c κs. search needs) same-length returns)

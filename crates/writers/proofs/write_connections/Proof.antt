@@ -1,6 +1,6 @@
-use borrow.Author.Needs.{needs}
 use Rattle.inks.proofs.Laws.{next}
 use Rattle.writers.specs.Lines.{connectionsPart}
+use borrow.Author.Needs.{needs}
 use Rattle.writers.proofs.write_connections.Statement.{statement}
 use Rattle.writers.proofs.write_connections.Tie as tie
 
@@ -9,11 +9,11 @@ unfolding connectionsPart
 returns c =
     let lines = c .before .before in
     let count = lines .before .before .before .before in
-    next (count .write-count .ensures) (lines .write-connection-lines .ensures)
+    next (rw (count .before .connections .ensures) at (count .write-count .ensures)) (lines .write-connection-lines .ensures)
 
 pub write-connections-spec : {M : Type 1} → statement M
 write-connections-spec =
     tie.close
     (tie.spec
-    (λ c. search needs) (λ c. search needs) (λ c κs. search needs) (λ c. search needs) (λ c. search needs) (λ c. search needs)
-    (λ c κs. search needs) (λ c. search needs) (λ c. search needs) returns)
+    (λ c. search needs) (λ c κs. search needs) (λ c. search needs) (λ c κs. search needs) (λ c. search needs) (λ c. search needs)
+    (λ c. search needs) (λ c κs. search needs) (λ c. search needs) (λ c. search needs) returns)

@@ -1,6 +1,6 @@
-use borrow.Author.Needs.{needs}
 use Rattle.inks.proofs.Laws.{next}
 use Rattle.writers.specs.Lines.{instancesPart}
+use borrow.Author.Needs.{needs}
 use Rattle.writers.proofs.write_instances.Statement.{statement}
 use Rattle.writers.proofs.write_instances.Tie as tie
 
@@ -9,7 +9,7 @@ unfolding instancesPart
 returns c =
     let lines = c .before .before in
     let count = lines .before .before .before .before in
-    next (rw (count .before .present .ensures) at (count .write-count .ensures)) (lines .write-instance-lines .ensures)
+    next (rw (count .before .tally .ensures) at (count .write-count .ensures)) (lines .write-instance-lines .ensures)
 
 pub write-instances-spec : {M : Type 1} → statement M
 write-instances-spec =

@@ -1,13 +1,22 @@
-use borrow.Author.Needs.{needs}
+use mathlib.Core.Path.{sym, _∙_}
+use Rattle.report.specs.Report.{instanceAt}
 use Rattle.writers.proofs.Parts.{line-there, line-absent}
+use borrow.Author.Needs.{needs}
 use Rattle.writers.proofs.write_present.Statement.{statement}
 use Rattle.writers.proofs.write_present.Tie as tie
 
 returns : tie.Need-returns
-returns c = line-there (c .before .before .before .before .if1 .taken) (c .before .before .write-instance .ensures)
+unfolding instanceAt
+returns c =
+    let here = c .before .before .before .before in
+    line-there (sym (here .before .present .ensures) ∙ here .if1 .taken) (c .before .before .write-instance .ensures)
 
 returns-2 : tie.Need-returns-2
-returns-2 c = line-absent _ (c .if1 .left)
+unfolding instanceAt
+returns-2 c = line-absent _ (sym (c .before .present .ensures) ∙ c .if1 .left)
 
 pub write-present-spec : {M : Type 1} → statement M
-write-present-spec = tie.close (tie.spec (λ c κs. search needs) (λ c. search needs) returns returns-2)
+write-present-spec =
+    tie.close
+    (tie.spec
+    (λ c κs. search needs) (λ c κs. search needs) (λ c. search needs) returns returns-2)

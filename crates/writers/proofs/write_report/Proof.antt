@@ -1,6 +1,6 @@
-use borrow.Author.Needs.{needs}
 use Rattle.inks.proofs.Laws.{next, used-fits}
 use Rattle.writers.proofs.Parts.{parts}
+use borrow.Author.Needs.{needs}
 use Rattle.writers.proofs.write_report.Statement.{statement}
 use Rattle.writers.proofs.write_report.Tie as tie
 
@@ -11,10 +11,12 @@ returns c =
     let head = instances .before .before .before .before in
     rw (← parts _) (next (next (head .write-head .ensures) (instances .write-instances .ensures)) (connections .write-connections .ensures))
 
+add-result : tie.Need-add-result
+add-result c = used-fits (returns c) (search needs)
+
 pub write-report-spec : {M : Type 1} → statement M
 write-report-spec =
     tie.close
     (tie.spec
     (λ c κs. search needs) (λ c. search needs) (λ c. search needs) (λ c. search needs) (λ c κs. search needs) (λ c. search needs)
-    (λ c. search needs) (λ c. search needs) (λ c. search needs) (λ c κs. search needs) (λ c. used-fits (returns c) (search needs))
-    (λ c. search needs) returns)
+    (λ c. search needs) (λ c. search needs) (λ c. search needs) (λ c κs. search needs) add-result (λ c. search needs) returns)

@@ -1,36 +1,36 @@
-use mathlib.Core.Path.{_≡_, refl}
-use Rattle.judged.specs.Course.{both}
-use Rattle.judging.specs.Came.{came}
+use mathlib.Core.Path.{_≡_}
 use Rattle.judging.proofs.Order.{outcome-comes}
 use borrow.Author.Needs.{needs}
 use Rattle.judging.proofs.pairs.read_both.Statement.{statement}
 use Rattle.judging.proofs.pairs.read_both.Tie as tie
 
--- the outcome is that of the two texts
-ordered : (c : tie.After-outcome-of)
-    → let y = c .before .before .before .read-answer .result in
-    let r = c .before .before .before .before .read-sheet .result in
-    let x = c .before .before .before .before .before .before .before .args in
-    came (c .outcome-of .result) (r .tables, r .program, y .answer) ≡ both (x .sheet .now) (x .answer .now)
-ordered c =
-    let one = c .before .before in
-    outcome-comes _ _ (one .before .before .read-sheet .ensures) (one .before .read-answer .ensures) (c .outcome-of .result) (c .outcome-of .ensures) (one .look-at .ensures)
-    (c .before .look-at2 .ensures)
-
 returns : tie.Need-returns
 returns c =
-    let d = c .before .before in
-    rw (c .nothing-said .ensures) (record { same = rw (d .outcome .given .1) at (ordered (d .before .before)); beside = refl })
+    let d = c .before .before .before .before .before in
+    let o = d .before .before in
+    let one = o .before .before in
+    let given = one .before in
+    let e = outcome-comes _ _ (given .before .before .fill-sheet .ensures) (given .fill-answer .ensures) (o .outcome-of .result) (o .outcome-of .ensures) (one .look-at .ensures) (o .before .look-at2 .ensures) in
+    record { same = rw (d .outcome .given .1) at e; beside = c .forget .ensures }
 
 returns-2 : tie.Need-returns-2
 returns-2 c =
-    let d = c .before .before in
-    rw (c .nothing-said2 .ensures) (record { same = rw (d .outcome2 .given .1) at (ordered (d .before .before)); beside = refl })
+    let d = c .before .before .before .before .before in
+    let o = d .before .before in
+    let one = o .before .before in
+    let given = one .before in
+    let e = outcome-comes _ _ (given .before .before .fill-sheet .ensures) (given .fill-answer .ensures) (o .outcome-of .result) (o .outcome-of .ensures) (one .look-at .ensures) (o .before .look-at2 .ensures) in
+    record { same = rw (d .outcome2 .given .1) at e; beside = c .forget2 .ensures }
 
 returns-3 : tie.Need-returns-3
 returns-3 c =
-    let d = c .before .before .before in
-    record { same = ordered (d .before .before); beside = rw (d .enum-told .given .1) tt }
+    let o = c .before .before in
+    let one = o .before .before in
+    let given = one .before in
+    record {
+      same = outcome-comes _ _ (given .before .before .fill-sheet .ensures) (given .fill-answer .ensures) (o .outcome-of .result) (o .outcome-of .ensures) (one .look-at .ensures) (o .before .look-at2 .ensures);
+      beside = rw (c .enum-told .given .1) tt;
+    }
 
 pub read-both-spec : {M : Type 1} → statement M
 read-both-spec =

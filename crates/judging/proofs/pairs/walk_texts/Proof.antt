@@ -1,9 +1,15 @@
 use borrow.Author.Needs.{needs}
+use Rattle.rules.specs.Walk.{walkAnswer}
+use Rattle.judging.proofs.Order.{outcome-walks}
 use Rattle.judging.proofs.pairs.walk_texts.Statement.{statement}
 use Rattle.judging.proofs.pairs.walk_texts.Tie as tie
 
-walk-sheet-requires : tie.Need-walk-sheet-requires
-walk-sheet-requires c κs = c .before .before .before .before .before .before .fill-sheet .ensures
+returns : tie.Need-returns
+unfolding walkAnswer
+returns c =
+    let begun = c .before .before .before .before .before in
+    let read = begun .before .before .read-both in
+    outcome-walks _ _ (read .result) _ _ _ (read .ensures .same) (rw (begun .clear-state .ensures) at (c .walk .ensures))
 
 pub walk-texts-spec : {M : Type 1} → statement M
-walk-texts-spec = tie.close (tie.spec (λ c κs. search needs) walk-sheet-requires (λ c. c .walk-sheet .ensures))
+walk-texts-spec = tie.close (tie.spec (λ c κs. search needs) (λ c κs. search needs) (λ c. search needs) (λ c κs. search needs) returns)

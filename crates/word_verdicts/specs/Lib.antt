@@ -1,2 +1,0 @@
--- The place after a walk, where it is known whether the report fits.
-pub mod Fits

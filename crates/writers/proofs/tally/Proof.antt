@@ -1,0 +1,39 @@
+-- The instances below i are counted; what is left of the 32 falls.
+use Prim.Native.Nat.{_≤_, _-_}
+use mathlib.Core.Path.{_≡_, sym, _∙_}
+use mathlib.Core.Logic.{⊎-elim}
+use native.Mathlib.Omega.{arith}
+use Rattle.model.specs.View.{instance}
+use Rattle.sets.specs.Test.{tally}
+use Rattle.words.specs.Words.{stateIn}
+use Rattle.writers.proofs.Parts.{tally-none, tally-one, tally-same}
+use borrow.Author.Needs.{needs}
+use Rattle.writers.proofs.tally.Statement.{statement}
+use Rattle.writers.proofs.tally.Tie as tie
+
+abbrev Inv-loop : tie.InvT-loop
+Inv-loop state n₀ i₀ n i = (i ≤ 32) × (n ≤ i) × (n ≡ tally i (λ k. instance (stateIn state) k .present))
+
+abbrev μ-loop : tie.MeasureT-loop
+μ-loop state n₀ i₀ n i = 32 - i
+
+loop-holds : tie.Need-loop-holds Inv-loop μ-loop
+loop-holds c = (omega arith, omega arith, sym (tally-none _))
+
+loop-again : tie.Need-loop-again Inv-loop μ-loop
+loop-again c =
+    let l = c .before .before .before .loop in
+    let here = sym (c .before .present .ensures) in
+    ⊎-elim
+    (λ w. (omega arith, omega (arith, w .1), w .1 ∙ rw (l .inv .2) (sym (tally-one _ _ (here ∙ w .0 .taken)))))
+    (λ w. (omega arith, omega (arith, w .1), w .1 ∙ rw (l .inv .2) (sym (tally-same _ _ (here ∙ w .0 .left)))))
+    (c .if1 .came)
+
+returns : tie.Need-returns Inv-loop μ-loop
+returns c = let e : c .before .loop .i ≡ 32 = omega arith in rw e at (c .before .loop .inv .2)
+
+pub tally-spec : {M : Type 1} → statement M
+tally-spec =
+    tie.close
+    (tie.spec
+    Inv-loop μ-loop loop-holds (λ c κs. search needs) (λ c. search needs) (λ c. search needs) (λ c. omega arith) loop-again returns)
