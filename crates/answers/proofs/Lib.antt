@@ -1,4 +1,2 @@
--- The laws that the readers of an answer cite (Laws), steps in three lists of slots (Zipped), and that no other answer fits their promises (Once).
-pub mod Laws
-pub mod Zipped
+-- That no other answer fits the promises (Once).
 pub mod Once

@@ -1,24 +1,35 @@
--- That no other answer fits the promise of a step line, of an answer's text, or of the three lists that it fills.
+-- That no other answer fits the promise of a step line, and no other outcome and no other words that of an answer's text.
 -- Assumes nothing.
+use Prim.Native.Nat.{ℕ}
 use mathlib.Core.Path.{refl, sym, ap, _∙_}
+use lib.ListN.{length-replicate}
+use Rattle.model.specs.declared.Answer.{Answer}
+use Rattle.model.specs.Empty.{noAnswer}
 use Rattle.texts.specs.Reads.{past, fault, NoOther}
 use Rattle.texts.proofs.Once.{no-other}
+use Rattle.reading.specs.Texts.{answer}
+use Rattle.runs.specs.Whole.{Whole}
+use Rattle.runs.proofs.Chain.{nothing-beside}
+use Rattle.words.proofs.InTexts.{no-answer}
+use Rattle.words.proofs.Whole.{answer-words}
 use Rattle.answers.specs.declared.StepLine.the-variants as line
-use Rattle.answers.specs.declared.AnswerRead.{AnswerRead}
 use Rattle.answers.specs.Says.{stepSays}
-use Rattle.answers.specs.Answer.{NoOtherAnswer, NoOtherSteps}
-use Rattle.answers.proofs.Zipped.{same-lists}
+use Rattle.answers.specs.Answer.{NoOtherAnswer, NoWordsLeft}
 
 pub step-once : NoOther stepSays
-step-once = no-other stepSays (elim [ past x n ↦ line.Got x n | fault k ↦ line.Refused k ]) (elim [ line.Got x n ↦ refl | line.Refused k ↦ refl ])
+step-once =
+    no-other stepSays
+    (elim [ past x n ↦ line.Got (x .verb) (x .id) (x .number) n | fault k ↦ line.Refused k ])
+    (elim [ line.Got v a b n ↦ refl | line.Refused k ↦ refl ])
 
 pub answer-once : NoOtherAnswer
 unfolding NoOtherAnswer
-answer-once s r q e f = e ∙ sym f
-
-pub steps-once : NoOtherSteps
-unfolding NoOtherSteps
-steps-once x r q vs is ns ws js ms s t e f =
+answer-once s r q ws vs a b e f =
     let g = e ∙ sym f in
-    let (v, i, n) = same-lists vs is ns ws js ms s t (ap (λ (a : AnswerRead). a .answer .steps) g) in
-    (ap (λ (a : AnswerRead). record { refused = a .refused; place = a .place; count = a .answer .count }) g, v, i, n)
+    (ap (λ (x : Whole Answer). record { refused = x .refused; place = x .place }) g, answer-words ws vs a b (ap (λ (x : Whole Answer). x .value) g))
+
+pub no-words-left : NoWordsLeft
+unfolding NoWordsLeft
+no-words-left s r ws a e n =
+    answer-words ws _ a (length-replicate {A = ℕ} 3073 0)
+    (ap (λ (x : Whole Answer). x .value) e ∙ nothing-beside noAnswer answer s (λ z. n (ap (λ (x : Whole Answer). x .refused) e ∙ z)) ∙ sym no-answer)

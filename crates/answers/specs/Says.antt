@@ -8,7 +8,7 @@ use Rattle.answers.specs.declared.StepLine.{StepLine}
 use Rattle.answers.specs.declared.StepLine.the-variants.{Got, Refused}
 
 abbrev pub stepSays : StepLine → Outcome Step
-stepSays (Got x n) = past x n
+stepSays (Got v a b n) = past (record { verb = v; id = a; number = b }) n
 stepSays (Refused k) = fault k
 
 -- "places .. run to 15, transitions to 31": the limit of a number that runs to n

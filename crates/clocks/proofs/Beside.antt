@@ -16,7 +16,7 @@ use Rattle.model.specs.Empty.{noStep, start}
 use Rattle.model.specs.View.{stepsOf}
 use Rattle.rules.specs.Step.{step}
 use Rattle.rules.specs.Walk.{besideBy, walkAnswer}
-use Rattle.word_walks.proofs.Ahead.{rest, walk-start, walk-more, walk-refused, walk-end, none-left, one-left}
+use Rattle.walks.proofs.Ahead.{rest, walk-start, walk-more, walk-refused, walk-end, none-left, one-left}
 use Rattle.times.specs.declared.Times.{Times}
 use Rattle.timed.specs.Clock.{Clock, atStart, tick, clockFrom, clockOf}
 use Rattle.timed.specs.Mark.{markOf, markAfter}

@@ -13,7 +13,7 @@ use Rattle.timed.specs.Clock.{clockOf}
 use Rattle.timed.specs.Mark.{markAfter}
 use Rattle.words.specs.Rows.{word}
 use Rattle.words.specs.Words.{stateIn}
-use Rattle.word_walks.specs.Reached.{walked}
+use Rattle.walks.specs.Reached.{walked}
 use Rattle.clocks.specs.declared.TimedWalk.{TimedWalk}
 
 -- times with this par, these pairs listed and these seconds

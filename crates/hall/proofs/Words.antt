@@ -16,7 +16,7 @@ use Rattle.rules.specs.Step.{isNext, action, step}
 use Rattle.judged.specs.Course.{defaultDepth}
 use Rattle.words.specs.Words.{tablesIn, programIn, stateIn}
 use Rattle.words.proofs.Whole.{state-words}
-use Rattle.word_walks.specs.Reached.{stepped}
+use Rattle.walks.specs.Reached.{stepped}
 use Rattle.hall.specs.Screen.{limitBroken, lentLawful, hallStep, Left}
 use Rattle.hall.specs.Agree.{RefusedLeaves}
 use Rattle.hall.specs.Slots.{slots, Holds, Whole, EverySlot}

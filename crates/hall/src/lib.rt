@@ -6,7 +6,7 @@ use lawfulness::configuration_lawful;
 use lawfulness::program_lawful;
 use lawfulness::step_lawful;
 use lawfulness::tables_lawful;
-use word_walks::step;
+use walks::step;
 use words::ProgramWords;
 use words::StateWords;
 use words::TableWords;

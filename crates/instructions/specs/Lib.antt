@@ -1,3 +1,2 @@
--- What a connection is asked by `del`, `con` and `dcon`, and what each instruction comes to.
-pub mod Passes
-pub mod Orders
+-- What is asked of a connection, as values.
+pub mod Queries

@@ -1,57 +1,126 @@
-// What a connection is asked by `del`, `con` and `dcon`, and whether some connection passes.
-use model::Connection;
-use model::no_connection;
-use model::wide;
-use plans::connections::is_same;
+// The list of connections: what stands in it, one more at its end, and one fewer with the gap closed.
+use words::StateWords;
+use words::fewer;
+use words::more;
+use words::state::connections;
+use words::state::provideport;
+use words::state::provider;
+use words::state::put_connection;
+use words::state::put_count;
+use words::state::useport;
+use words::state::user;
 ghost use mathlib.Core.Path.{_≡_};
-ghost use mathlib.Core.List.{[]};
-ghost use Rattle.ports.specs.Rows.{parts};
+ghost use Prim.Native.Nat.{_+_, _<_};
+ghost use lib.ListN.{getD};
+ghost use Rattle.model.specs.Empty.{noConnection};
+ghost use Rattle.model.specs.View.{connection, withConnections};
+ghost use Rattle.rules.specs.Closing.{closed};
 ghost use Rattle.rules.specs.Ports.{someConnection};
-ghost use Rattle.rules.specs.Del.{namedBy};
-ghost use Rattle.rules.specs.Con.{isOf};
-ghost use Rattle.instructions.specs.Passes.{passes};
+ghost use Rattle.rules.specs.Con.{connected};
+ghost use Rattle.rules.specs.DCon.{placeOf, disconnected};
+ghost use Rattle.words.specs.Words.{stateIn};
+ghost use Rattle.words.specs.Parts.{connectionOf, withConnection};
+ghost use Rattle.instructions.specs.Queries.{asks, someBefore, withClosed};
 
-// It names an instance, is that of a use port, or is this very one.
-pub enum ConnectionTest {
-    NamedBy(u8),
-    IsOf(u8, u8),
-    Same(Connection),
+// What is asked of a connection: that it names i, that it is of use port q of i, that it is this one.
+pub enum Query {
+    Names(u32),
+    IsOf(u32, u32),
+    Is(u32, u32, u32, u32),
 }
 
-fn is_named_by(k: Connection, i: u8) -> bool
-    ensures { λ r. ⌜ r ≡ namedBy i k ⌝ }
+// Connection l is as asked.
+fn meets(query: Query, state: &StateWords, l: u32) -> bool
+    ensures { λ r. ⌜ r ≡ asks query (connection (stateIn (now (state .entry))) l) ⌝ }
 {
-    (k.user == i) | (k.provider == i)
-}
-
-fn is_of(k: Connection, user: u8, useport: u8) -> bool
-    ensures { λ r. ⌜ r ≡ isOf user useport k ⌝ }
-{
-    (k.user == user) & (k.useport == useport)
-}
-
-fn passes(test: ConnectionTest, k: Connection) -> bool
-    ensures { λ r. ⌜ r ≡ passes test k ⌝ }
-{
-    match test {
-        ConnectionTest::NamedBy(i) => is_named_by(k, i),
-        ConnectionTest::IsOf(user, useport) => is_of(k, user, useport),
-        ConnectionTest::Same(other) => is_same(other, k),
+    let u = user(state, l);
+    let uq = useport(state, l);
+    let v = provider(state, l);
+    let vq = provideport(state, l);
+    match query {
+        Query::Names(i) => (u == i) | (v == i),
+        Query::IsOf(i, q) => (u == i) & (uq == q),
+        Query::Is(a, b, d, e) => (u == a) & ((uq == b) & ((v == d) & (vq == e))),
     }
 }
 
-pub fn some_connection(test: ConnectionTest, ks: [Connection; 64], count: u8) -> bool
-    ensures { λ r. ⌜ r ≡ someConnection (parts [] [] ks count) (passes test) ⌝ }
+// One of the first n connections is.
+pub fn some_before(query: Query, state: &StateWords, n: u32) -> bool
+    ensures { λ r. ⌜ r ≡ someBefore query (stateIn (now (state .entry))) n ⌝ }
 {
-    let n = wide(count);
-    let mut l: usize = 0;
+    let mut l: u32 = 0;
     while l < n {
-        // read here: to pass the list on would be to copy it
-        let k = if l < 64 { ks[l] } else { no_connection() };
-        if passes(test, k) {
+        if meets(query, state, l) {
             return true;
         }
         l += 1;
     }
     false
+}
+
+pub fn some_listed(query: Query, state: &StateWords) -> bool
+    ensures { λ r. ⌜ r ≡ someConnection (stateIn (now (state .entry))) (asks query) ⌝ }
+{
+    some_before(query, state, connections(state))
+}
+
+pub fn connect(state: &mut StateWords, u: u32, uq: u32, v: u32, vq: u32)
+    ensures { λ r. ⌜ (stateIn (now (state .entry)) .count < 4294967295
+        → stateIn (now (state .exit)) ≡ connected (stateIn (now (state .entry))) (connectionOf u uq v vq)) ⌝ }
+{
+    let n = connections(state);
+    put_connection(state, n, u, uq, v, vq);
+    put_count(state, more(n));
+}
+
+// The first place of a connection, and the last of the list where it stands at none.
+fn place_of(state: &StateWords, u: u32, uq: u32, v: u32, vq: u32) -> u32
+    ensures { λ r. ⌜ r ≡ placeOf (stateIn (now (state .entry))) (connectionOf u uq v vq) ⌝ }
+{
+    let n = fewer(connections(state), 1);
+    let mut l: u32 = 0;
+    while l < n {
+        if meets(Query::Is(u, uq, v, vq), state, l) {
+            return l;
+        }
+        l += 1;
+    }
+    l
+}
+
+// Connection `to` gets what its right neighbour has.
+fn move_down(state: &mut StateWords, to: u32)
+    requires { ⌜ to < 4294967295 ⌝ }
+    ensures { λ r. ⌜ stateIn (now (state .exit))
+        ≡ withConnection (stateIn (now (state .entry))) to (getD (stateIn (now (state .entry)) .connections) (to + 1) noConnection) ⌝ }
+{
+    let from = to + 1;
+    let u = user(state, from);
+    let uq = useport(state, from);
+    let v = provider(state, from);
+    let vq = provideport(state, from);
+    put_connection(state, to, u, uq, v, vq);
+}
+
+// The connections after `at` and before `end` move down one, and the last of them is freed.
+fn close_list(state: &mut StateWords, at: u32, end: u32)
+    ensures { λ r. ⌜ stateIn (now (state .exit)) ≡ withClosed (stateIn (now (state .entry))) at end ⌝ }
+{
+    let last = fewer(end, 1);
+    let n = fewer(last, at);
+    let mut k: u32 = 0;
+    while k < n {
+        move_down(state, at + k);
+        k += 1;
+    }
+    put_connection(state, last, 0, 0, 0, 0);
+}
+
+pub fn disconnect(state: &mut StateWords, u: u32, uq: u32, v: u32, vq: u32)
+    ensures { λ r. ⌜ stateIn (now (state .exit)) ≡ disconnected (stateIn (now (state .entry))) (connectionOf u uq v vq) ⌝ }
+{
+    let at = place_of(state, u, uq, v, vq);
+    let n = connections(state);
+    close_list(state, at, n);
+    put_count(state, fewer(n, 1));
 }

@@ -1,170 +1,192 @@
-// The six instructions, each on the instance that it names: the number of its refusal, or 0, and what it changes.
-// Promised: for any instance, configuration and numbers, the plan that specs/Orders says, made of the rows and effects of rules/specs.
-mod connections;
+// The six instructions on words: add, del, pushb, con, dcon and wait, each a check and a change made in place.
+// Promised: for every tables, state and number, each check answers the number of rules/specs, and each change is that of rules/specs.
+pub mod connections;
 
-use connections::ConnectionTest;
-use connections::some_connection;
-use model::Connection;
-use model::Instance;
-use model::is_use;
-use model::no_instance;
-use plans::Joins;
-use plans::Plan;
-use plans::Slots;
-use plans::one_more;
+use connections::Query;
+use connections::some_listed;
 use ports::instance::active;
 use ports::refuse_if;
+use words::StateWords;
+use words::TableWords;
+use words::more;
+use words::state::connections;
+use words::state::kind;
+use words::state::present;
+use words::state::put_bare;
+use words::state::put_queued;
+use words::state::put_slot;
+use words::state::queued;
+use words::tables::behaviors_of;
+use words::tables::depth;
+use words::tables::initial_of;
+use words::tables::is_use;
+use words::tables::ports_of;
 ghost use mathlib.Core.Path.{_≡_};
-ghost use mathlib.Core.List.{[]};
-ghost use Rattle.ports.specs.Rows.{rows, parts};
-ghost use Rattle.instructions.specs.Orders.{joining, addPlan, delPlan, pushbPlan, conPlan, dconPlan, waitPlan};
+ghost use mathlib.Core.Bool.{cond};
+ghost use Prim.Native.Nat.{_*_, _<_};
+ghost use Rattle.model.specs.View.{instance, withQueue};
+ghost use Rattle.rules.specs.Closing.{zeroed, renewed};
+ghost use Rattle.rules.specs.Add.{addCheck, added};
+ghost use Rattle.rules.specs.Del.{delCheck, deleted};
+ghost use Rattle.rules.specs.PushB.{depthOf, pushbCheck, pushed};
+ghost use Rattle.rules.specs.Con.{isUsePort, isProvidePort, conCheck};
+ghost use Rattle.rules.specs.DCon.{dconCheck};
+ghost use Rattle.rules.specs.Wait.{waitCheck};
+ghost use Rattle.words.specs.Words.{tablesIn, stateIn};
+ghost use Rattle.words.specs.Parts.{bare, connectionOf};
 
-const ID_ABSENT: u8 = 11;
+const ID_ABSENT: u32 = 11;
 
-const ID_PRESENT: u8 = 12;
+const ID_PRESENT: u32 = 12;
 
-const NO_SUCH: u8 = 13;
+const NO_SUCH: u32 = 13;
 
-const ONE_INSTANCE: u8 = 14;
+const ONE_INSTANCE: u32 = 14;
 
-const ALREADY_CONNECTED: u8 = 15;
+const ALREADY_CONNECTED: u32 = 15;
 
-const NO_MORE_CONNECTIONS: u8 = 16;
+const NO_MORE_CONNECTIONS: u32 = 16;
 
-const NO_SUCH_CONNECTION: u8 = 17;
+const NO_SUCH_CONNECTION: u32 = 17;
 
-const STILL_CONNECTED: u8 = 18;
+const STILL_CONNECTED: u32 = 18;
 
-const QUEUE_FULL: u8 = 20;
+const QUEUE_FULL: u32 = 20;
 
-const QUEUE_NOT_EMPTY: u8 = 21;
+const QUEUE_NOT_EMPTY: u32 = 21;
 
-const USE_PORT_ACTIVE: u8 = 22;
+const USE_PORT_ACTIVE: u32 = 22;
 
-// An instruction that changes the list of connections at most.
-fn joining(refused: u8, v: Instance, joins: Joins) -> Plan
-    ensures { λ r. ⌜ r ≡ joining refused v joins ⌝ }
+pub fn add_check(state: &StateWords, i: u32) -> u32
+    ensures { λ r. ⌜ r ≡ addCheck (stateIn (now (state .entry))) i ⌝ }
 {
-    let slots = Slots::Headless(0);
-    Plan {
-        refused,
-        after: v,
-        slots,
-        joins,
+    refuse_if(present(state, i), ID_PRESENT, 0)
+}
+
+fn zero_slots(state: &mut StateWords, i: u32)
+    ensures { λ r. ⌜ stateIn (now (state .exit)) ≡ withQueue (stateIn (now (state .entry))) (zeroed (stateIn (now (state .entry)) .queue) (i * 8) 8) ⌝ }
+{
+    let at = (i as usize) * 8;
+    let mut r: usize = 0;
+    while r < 8 {
+        put_slot(state, at + r, 0);
+        r += 1;
     }
 }
 
-// k is the type's number, and initial are its initial places.
-pub fn add(v: Instance, k: u8, initial: u32) -> Plan
-    ensures { λ r. ⌜ r ≡ addPlan v k initial ⌝ }
+// The record of instance i is a bare one, and its queue slots are zeroed.
+fn renew(state: &mut StateWords, i: u32, here: bool, k: u32, marks: u32)
+    ensures { λ r. ⌜ stateIn (now (state .exit)) ≡ renewed (stateIn (now (state .entry))) i (bare here k marks) ⌝ }
 {
-    let after = Instance {
-        present: true,
-        kind: k,
-        marked: initial,
-        running: 0,
-        ended: 0,
-        queued: 0,
-    };
-    let refused = refuse_if(v.present, ID_PRESENT, 0);
-    let slots = Slots::Emptied;
-    let joins = Joins::Kept;
-    Plan {
-        refused,
-        after,
-        slots,
-        joins,
+    zero_slots(state, i);
+    put_bare(state, i, here, k, marks);
+}
+
+// The initial places of type k are marked.
+pub fn add_to(tables: &TableWords, state: &mut StateWords, i: u32, k: u32)
+    ensures { λ r. ⌜ stateIn (now (state .exit)) ≡ added (tablesIn (now (tables .entry))) (stateIn (now (state .entry))) i k ⌝ }
+{
+    let marks = initial_of(tables, k);
+    renew(state, i, true, k, marks);
+}
+
+pub fn del_check(state: &StateWords, i: u32) -> u32
+    ensures { λ r. ⌜ r ≡ delCheck (stateIn (now (state .entry))) i ⌝ }
+{
+    let here = present(state, i);
+    let named = some_listed(Query::Names(i), state);
+    let late = refuse_if(queued(state, i) != 0, QUEUE_NOT_EMPTY, 0);
+    refuse_if(!here, ID_ABSENT, refuse_if(named, STILL_CONNECTED, late))
+}
+
+pub fn del_to(state: &mut StateWords, i: u32)
+    ensures { λ r. ⌜ stateIn (now (state .exit)) ≡ deleted (stateIn (now (state .entry))) i ⌝ }
+{
+    renew(state, i, false, 0, 0);
+}
+
+// How many behaviors a queue may hold: 0 stands for the default.
+pub fn depth_of(default: u32, tables: &TableWords) -> u32
+    ensures { λ r. ⌜ r ≡ depthOf default (tablesIn (now (tables .entry))) ⌝ }
+{
+    let own = depth(tables);
+    if own == 0 { default } else { own }
+}
+
+// Where it is allowed there is room for one more.
+pub fn pushb_check(default: u32, tables: &TableWords, state: &StateWords, i: u32, b: u32) -> u32
+    ensures value { λ r. ⌜ r ≡ pushbCheck default (tablesIn (now (tables .entry))) (stateIn (now (state .entry))) i b ⌝ }
+    ensures room { λ r. ⌜ (r ≡ 0 → instance (stateIn (now (state .entry))) i .queued < 4294967295) ⌝ }
+{
+    if !present(state, i) {
+        return ID_ABSENT;
+    }
+    if behaviors_of(tables, kind(state, i)) <= b {
+        return NO_SUCH;
+    }
+    if depth_of(default, tables) <= queued(state, i) {
+        return QUEUE_FULL;
+    }
+    0
+}
+
+pub fn push_to(state: &mut StateWords, i: u32, b: u32)
+    ensures { λ r. ⌜ (instance (stateIn (now (state .entry))) i .queued < 4294967295
+        → stateIn (now (state .exit)) ≡ pushed (stateIn (now (state .entry))) i b) ⌝ }
+{
+    let n = queued(state, i);
+    put_slot(state, (i as usize) * 8 + n as usize, b);
+    put_queued(state, i, more(n));
+}
+
+// Port q of instance i exists and is a use port, or a provide port.
+pub fn is_port(tables: &TableWords, state: &StateWords, i: u32, q: u32, used: bool) -> bool
+    ensures { λ r. ⌜ r ≡ cond used (isUsePort (tablesIn (now (tables .entry))) (stateIn (now (state .entry))) i q)
+        (isProvidePort (tablesIn (now (tables .entry))) (stateIn (now (state .entry))) i q) ⌝ }
+{
+    let k = kind(state, i);
+    if ports_of(tables, k) <= q {
+        return false;
+    }
+    if used {
+        is_use(tables, k, q)
+    } else {
+        !is_use(tables, k, q)
     }
 }
 
-pub fn del(connections: [Connection; 64], count: u8, i: u8, v: Instance) -> Plan
-    ensures { λ r. ⌜ r ≡ delPlan (parts [] [] connections count) i v ⌝ }
+pub fn con_check(tables: &TableWords, state: &StateWords, u: u32, uq: u32, v: u32, vq: u32) -> u32
+    ensures value { λ r. ⌜ r ≡ conCheck (tablesIn (now (tables .entry))) (stateIn (now (state .entry))) (connectionOf u uq v vq) ⌝ }
+    ensures room { λ r. ⌜ (r ≡ 0 → stateIn (now (state .entry)) .count < 4294967295) ⌝ }
 {
-    let named = some_connection(ConnectionTest::NamedBy(i), connections, count);
-    let busy = refuse_if(!(v.queued == 0), QUEUE_NOT_EMPTY, 0);
-    let late = refuse_if(named, STILL_CONNECTED, busy);
-    let refused = refuse_if(!v.present, ID_ABSENT, late);
-    let after = no_instance();
-    let slots = Slots::Emptied;
-    let joins = Joins::Kept;
-    Plan {
-        refused,
-        after,
-        slots,
-        joins,
-    }
+    let user = present(state, u);
+    let provider = present(state, v);
+    let uses = is_port(tables, state, u, uq, true);
+    let provides = is_port(tables, state, v, vq, false);
+    let taken = some_listed(Query::IsOf(u, uq), state);
+    let room = connections(state) < 64;
+    let late = refuse_if(!room, NO_MORE_CONNECTIONS, 0);
+    let joined = refuse_if(
+        u == v,
+        ONE_INSTANCE,
+        refuse_if(taken, ALREADY_CONNECTED, late),
+    );
+    let kinds = refuse_if(!uses, NO_SUCH, refuse_if(!provides, NO_SUCH, joined));
+    refuse_if(!user, ID_ABSENT, refuse_if(!provider, ID_ABSENT, kinds))
 }
 
-// The type has so many behaviors, and a queue holds at most `depth`.
-pub fn pushb(depth: u8, behaviors: u8, v: Instance, b: u8) -> Plan
-    ensures { λ r. ⌜ r ≡ pushbPlan depth behaviors v b ⌝ }
+pub fn dcon_check(tables: &TableWords, state: &StateWords, u: u32, uq: u32, v: u32, vq: u32) -> u32
+    ensures { λ r. ⌜ r ≡ dconCheck (tablesIn (now (tables .entry))) (stateIn (now (state .entry))) (connectionOf u uq v vq) ⌝ }
 {
-    let full = refuse_if(!(v.queued < depth), QUEUE_FULL, 0);
-    let unknown = refuse_if(!(b < behaviors), NO_SUCH, full);
-    let refused = refuse_if(!v.present, ID_ABSENT, unknown);
-    let mut after = v;
-    after.queued = one_more(v.queued);
-    let slots = Slots::Longer(v.queued, b);
-    let joins = Joins::Kept;
-    Plan {
-        refused,
-        after,
-        slots,
-        joins,
-    }
+    let stands = some_listed(Query::Is(u, uq, v, vq), state);
+    let late = refuse_if(active(tables, state, u, uq), USE_PORT_ACTIVE, 0);
+    refuse_if(!stands, NO_SUCH_CONNECTION, late)
 }
 
-// v is the user and w the provider, whose types have so many ports.
-pub fn con(
-    ports: u8,
-    others: u8,
-    uses: &[u8; 256],
-    connections: [Connection; 64],
-    count: u8,
-    v: Instance,
-    w: Instance,
-    k: Connection,
-) -> Plan
-    ensures { λ r. ⌜ r ≡ conPlan ports others (rows [] [] (now (uses .entry)) [] []) (parts [] [] connections count) v w k ⌝ }
+pub fn wait_check(state: &StateWords, i: u32) -> u32
+    ensures { λ r. ⌜ r ≡ waitCheck (stateIn (now (state .entry))) i ⌝ }
 {
-    let full = refuse_if(!(count < 64), NO_MORE_CONNECTIONS, 0);
-    let taken = some_connection(ConnectionTest::IsOf(k.user, k.useport), connections, count);
-    let apart = refuse_if(taken, ALREADY_CONNECTED, full);
-    let joined = refuse_if(k.user == k.provider, ONE_INSTANCE, apart);
-    let provides = (k.provideport < others) & !is_use(uses, w.kind, k.provideport);
-    let provided = refuse_if(!provides, NO_SUCH, joined);
-    let employs = (k.useport < ports) & is_use(uses, v.kind, k.useport);
-    let employed = refuse_if(!employs, NO_SUCH, provided);
-    let there = refuse_if(!w.present, ID_ABSENT, employed);
-    let refused = refuse_if(!v.present, ID_ABSENT, there);
-    let joins = Joins::With(k);
-    joining(refused, v, joins)
-}
-
-// v is the user.
-pub fn dcon<'a>(
-    places: &'a [u32; 256],
-    transitions: &'a [u32; 256],
-    connections: [Connection; 64],
-    count: u8,
-    v: Instance,
-    k: Connection,
-) -> Plan
-    ensures { λ r. ⌜ r ≡ dconPlan (rows [] [] [] (now (places .entry)) (now (transitions .entry))) (parts [] [] connections count) v k ⌝ }
-{
-    let needed = active(places, transitions, v, k.useport);
-    let late = refuse_if(needed, USE_PORT_ACTIVE, 0);
-    let found = some_connection(ConnectionTest::Same(k), connections, count);
-    let refused = refuse_if(!found, NO_SUCH_CONNECTION, late);
-    let joins = Joins::Without(k);
-    joining(refused, v, joins)
-}
-
-pub fn wait(v: Instance) -> Plan
-    ensures { λ r. ⌜ r ≡ waitPlan v ⌝ }
-{
-    let busy = refuse_if(!(v.queued == 0), QUEUE_NOT_EMPTY, 0);
-    let refused = refuse_if(!v.present, ID_ABSENT, busy);
-    let joins = Joins::Kept;
-    joining(refused, v, joins)
+    let here = present(state, i);
+    let late = refuse_if(queued(state, i) != 0, QUEUE_NOT_EMPTY, 0);
+    refuse_if(!here, ID_ABSENT, late)
 }

@@ -26,14 +26,14 @@ use Rattle.reading.proofs.Lawful.{sheet-stops, answer-stops, answers-are-lawful
 use Rattle.rules.specs.Walk.{walkAnswer}
 use Rattle.rules.proofs.Numbers.{WalkNumbers, walk-numbers}
 use Rattle.runs.specs.Whole.{Whole, outcome, whole}
-use Rattle.word_sheets.specs.Sheet.{sheetRead}
-use Rattle.word_answers.specs.Answer.{answerRead}
+use Rattle.sheets.specs.Sheet.{sheetRead}
+use Rattle.answers.specs.Answer.{answerRead}
 use Rattle.judged.specs.Course.{Course, faulty, reached, goOn, short, read, defaultDepth, both, course}
 use Rattle.judged.proofs.Read.{both-read}
 use Rattle.judged.proofs.Room.{read-fits}
 use Rattle.words.specs.Words.{stateIn}
-use Rattle.word_walks.specs.declared.Passed.{Passed}
-use Rattle.word_walks.specs.Reached.{walked}
+use Rattle.walks.specs.declared.Passed.{Passed}
+use Rattle.walks.specs.Reached.{walked}
 use Rattle.judging.specs.declared.pairs.Outcome.{Outcome}
 use Rattle.judging.specs.declared.pairs.Outcome.the-variants.{InSheet, InAnswer, Reached}
 use Rattle.judging.specs.declared.pairs.Seen.{Seen}

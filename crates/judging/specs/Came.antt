@@ -9,13 +9,13 @@ use Rattle.model.specs.declared.Answer.{Answer}
 use Rattle.model.specs.declared.Text.the-variants as text
 use Rattle.model.specs.Empty.{noTables, noProgram, noAnswer}
 use Rattle.report.specs.Report.{report}
-use Rattle.word_sheets.specs.Sheet.{sheetRead}
-use Rattle.word_answers.specs.Answer.{answerRead}
+use Rattle.sheets.specs.Sheet.{sheetRead}
+use Rattle.answers.specs.Answer.{answerRead}
 use Rattle.judged.specs.Course.{Course, faulty, reached}
 use Rattle.judged.specs.Judged.{Judgement, inRoom}
 use Rattle.words.specs.Words.{tablesIn, programIn, answerIn, stateIn}
-use Rattle.word_walks.specs.declared.Passed.{Passed}
-use Rattle.word_walks.specs.Reached.{walked}
+use Rattle.walks.specs.declared.Passed.{Passed}
+use Rattle.walks.specs.Reached.{walked}
 use Rattle.judging.specs.declared.pairs.Outcome.{Outcome}
 use Rattle.judging.specs.declared.pairs.Outcome.the-variants.{InSheet, InAnswer, Reached}
 use Rattle.judging.specs.declared.pairs.Seen.{Seen}

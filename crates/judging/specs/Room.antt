@@ -5,7 +5,7 @@ use mathlib.Core.List.{List}
 use lib.Dec.{leb}
 use lib.ListN.{length}
 use Rattle.judged.specs.Judged.{lentBytes}
-use Rattle.word_walks.specs.declared.Passed.{Passed}
+use Rattle.walks.specs.declared.Passed.{Passed}
 
 -- n bytes have room; "It lends 8,192 bytes, and 6 is shown never to occur there"
 abbrev pub roomFor : ℕ → ℕ → Bool

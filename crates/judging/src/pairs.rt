@@ -3,7 +3,7 @@
 use forms::TOO_LONG;
 use judged::DEFAULT_DEPTH;
 use lines::LONGEST;
-use word_walks::Passed;
+use walks::Passed;
 use words::AnswerWords;
 use words::ProgramWords;
 use words::StateWords;
@@ -19,7 +19,7 @@ ghost use lib.ListN.{length};
 ghost use Rattle.model.specs.Empty.{noTables, noProgram, noAnswer};
 ghost use Rattle.judged.specs.Course.{both, course};
 ghost use Rattle.words.specs.Words.{tablesIn, programIn, answerIn, stateIn};
-ghost use Rattle.word_walks.specs.Reached.{walked};
+ghost use Rattle.walks.specs.Reached.{walked};
 ghost use Rattle.judging.specs.Came.{came, saying, sheetSeen, answerSeen, saidIn, Comes};
 
 // A text is refused with a number at a place of it, or both are read.
@@ -86,8 +86,8 @@ pub fn read_both(
     ensures { λ r. ⌜ Comes r (saidIn (now (tables .exit)) (now (program .exit)) (now (steps .exit)))
         (both (now (sheet .entry)) (now (answer .entry))) ⌝ }
 {
-    let said = word_sheets::fill_sheet(sheet, tables, program);
-    let given = word_answers::fill_answer(answer, steps);
+    let said = sheets::fill_sheet(sheet, tables, program);
+    let given = answers::fill_answer(answer, steps);
     let one = look_at(sheet, said.refused, said.place);
     let two = look_at(answer, given.refused, given.place);
     let outcome = outcome_of(one, two);
@@ -119,6 +119,6 @@ pub(crate) fn walk_texts(sheet: &[u8], answer: &[u8], state: &mut StateWords) ->
     let mut steps = [0u32; 3073];
     let outcome = read_both(sheet, answer, &mut tables, &mut program, &mut steps);
     clear_state(state);
-    let passed = word_walks::walk(DEFAULT_DEPTH as u32, &tables, &program, &steps, state);
+    let passed = walks::walk(DEFAULT_DEPTH as u32, &tables, &program, &steps, state);
     Came { outcome, passed }
 }

@@ -1,9 +1,9 @@
 // Every present instance of the configuration, and every connection.
 use crate::types::mask_ok;
-use word_instructions::connections::Query;
-use word_instructions::connections::some_before;
-use word_instructions::depth_of;
-use word_instructions::is_port;
+use instructions::connections::Query;
+use instructions::connections::some_before;
+use instructions::depth_of;
+use instructions::is_port;
 use words::StateWords;
 use words::TableWords;
 use words::state::connections;

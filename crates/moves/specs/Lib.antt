@@ -1,3 +1,2 @@
--- The checks that several moves share.
+-- The checks that the moves share.
 pub mod Rows
-pub mod Plans

@@ -1,133 +1,211 @@
-// The four moves on one instance: fire, end, enter and finish. What they ask of ports and what becomes of the queue is for the caller.
-// Promised: for any tables, instance and numbers, the plan that specs/Plans says, made of the rows and effects of rules/specs.
-use model::Instance;
-use plans::Joins;
-use plans::Plan;
-use plans::Slots;
-use plans::one_less;
-use ports::instance::PlaceTest;
-use ports::instance::ending_at;
-use ports::instance::fired;
+// The four moves on words: fire, end, enter and finish, each a check and a change made in place.
+// Promised: for every tables, state and number, each check answers the number of rules/specs, and each change is that of rules/specs.
+use ports::Sets;
+use ports::instance::behavior;
+use ports::instance::entering;
 use ports::instance::held;
-use ports::instance::some_place;
+use ports::instance::leaving;
+use ports::port_check;
 use ports::refuse_if;
+use words::StateWords;
+use words::TableWords;
+use words::fewer;
+use words::less;
+use words::state::ended;
+use words::state::kind;
+use words::state::marked;
+use words::state::present;
+use words::state::put_queued;
+use words::state::put_sets;
+use words::state::put_slot;
+use words::state::queued;
+use words::state::running;
+use words::state::slot_at;
 ghost use mathlib.Core.Path.{_≡_};
-ghost use mathlib.Core.List.{[]};
-ghost use Rattle.sets.specs.Mask.{collect};
-ghost use Rattle.rules.specs.Instance.{endsAt, endedBy, entered};
-ghost use Rattle.ports.specs.Rows.{rows, endOf};
+ghost use Rattle.sets.specs.Test.{anyBelow};
+ghost use Rattle.model.specs.View.{instance, withQueue};
+ghost use Rattle.rules.specs.Closing.{closed};
+ghost use Rattle.rules.specs.Fire.{leavers, fireCheck, fireTo};
+ghost use Rattle.rules.specs.End.{endCheck, endTo};
+ghost use Rattle.rules.specs.Enter.{enterers, enterCheck, enterTo};
+ghost use Rattle.rules.specs.Finish.{mayLeave, finishCheck, finished};
+ghost use Rattle.words.specs.Words.{tablesIn, stateIn};
 ghost use Rattle.moves.specs.Rows.{firstly, row};
-ghost use Rattle.moves.specs.Plans.{moved, firePlan, enterPlan, endPlan, finishPlan};
 
-const ID_ABSENT: u8 = 11;
+const ID_ABSENT: u32 = 11;
 
-const QUEUE_EMPTY: u8 = 30;
+const QUEUE_EMPTY: u32 = 30;
 
-const NOT_READY: u8 = 31;
+const NOT_READY: u32 = 31;
 
-const NO_TRANSITION: u8 = 32;
+const NO_TRANSITION: u32 = 32;
 
-const HELD_OR_MARKED: u8 = 33;
+const HELD_OR_MARKED: u32 = 33;
 
-const TOO_EARLY: u8 = 37;
+const TOO_EARLY: u32 = 37;
 
 // What every move asks first.
-fn first(v: Instance, rest: u8) -> u8
-    ensures { λ r. ⌜ r ≡ firstly v rest ⌝ }
+fn first(state: &StateWords, i: u32, rest: u32) -> u32
+    ensures { λ r. ⌜ r ≡ firstly (instance (stateIn (now (state .entry))) i) rest ⌝ }
 {
     refuse_if(
-        !v.present,
+        !present(state, i),
         ID_ABSENT,
-        refuse_if(v.queued == 0, QUEUE_EMPTY, rest),
+        refuse_if(queued(state, i) == 0, QUEUE_EMPTY, rest),
     )
 }
 
 // What fire and enter ask of the place: xs is what leaves it or leads to it.
-fn row(xs: u32, ready: bool, taken: bool) -> u8
+fn row(xs: u32, ready: bool, taken: bool) -> u32
     ensures { λ r. ⌜ r ≡ row xs ready taken ⌝ }
 {
     let late = refuse_if(taken, HELD_OR_MARKED, 0);
     refuse_if(xs == 0, NO_TRANSITION, refuse_if(!ready, NOT_READY, late))
 }
 
-// So many queue slots lose their head, none where the queue stays; a move changes no connection.
-fn plan(refused: u8, after: Instance, closing: u8) -> Plan
-    ensures { λ r. ⌜ r ≡ moved refused after closing ⌝ }
+// What leaves p in the current behavior of instance i, and what leads to it.
+fn leavers(tables: &TableWords, state: &StateWords, i: u32, p: u32) -> u32
+    ensures { λ r. ⌜ r ≡ leavers (tablesIn (now (tables .entry))) (stateIn (now (state .entry))) i p ⌝ }
 {
-    let slots = Slots::Headless(closing);
-    let joins = Joins::Kept;
-    Plan {
-        refused,
-        after,
-        slots,
-        joins,
+    leaving(tables, kind(state, i), behavior(tables, state, i), p)
+}
+
+fn enterers(tables: &TableWords, state: &StateWords, i: u32, p: u32) -> u32
+    ensures { λ r. ⌜ r ≡ enterers (tablesIn (now (tables .entry))) (stateIn (now (state .entry))) i p ⌝ }
+{
+    entering(tables, kind(state, i), behavior(tables, state, i), p)
+}
+
+pub fn fire_check(tables: &TableWords, state: &StateWords, i: u32, p: u32) -> u32
+    ensures { λ r. ⌜ r ≡ fireCheck (tablesIn (now (tables .entry))) (stateIn (now (state .entry))) i p ⌝ }
+{
+    let xs = leavers(tables, state, i, p);
+    let ready = sets::member(marked(state, i), p);
+    let taken = sets::overlaps(xs, held(state, i));
+    let refused = first(state, i, row(xs, ready, taken));
+    if refused != 0 {
+        return refused;
     }
+    let loses = Sets {
+        places: sets::only(p),
+        holds: 0,
+    };
+    let gains = Sets {
+        places: 0,
+        holds: xs,
+    };
+    port_check(tables, state, i, loses, gains)
 }
 
-pub fn fire(source: &[u8; 512], v: Instance, m: u32, p: u8) -> Plan
-    ensures { λ r. ⌜ r ≡ firePlan (collect 32 (endsAt (endOf (now (source .entry)) (v .kind)) m p)) v p ⌝ }
+// The mark of p goes and what leaves it runs.
+pub fn fire_to(tables: &TableWords, state: &mut StateWords, i: u32, p: u32)
+    ensures { λ r. ⌜ stateIn (now (state .exit)) ≡ fireTo (tablesIn (now (tables .entry))) (stateIn (now (state .entry))) i p ⌝ }
 {
-    let xs = ending_at(source, v.kind, m, p as u32);
-    let marked = sets::member(v.marked, p as u32);
-    let rest = row(xs, marked, sets::overlaps(xs, held(v)));
-    let refused = first(v, rest);
-    let after = fired(v, p as u32, xs);
-    plan(refused, after, 0)
+    let xs = leavers(tables, state, i, p);
+    let marks = sets::without(marked(state, i), sets::only(p));
+    let runs = sets::joined(running(state, i), xs);
+    let ends = ended(state, i);
+    put_sets(state, i, marks, runs, ends);
 }
 
-fn entered(v: Instance, p: u32, xs: u32) -> Instance
-    ensures { λ r. ⌜ r ≡ entered v p xs ⌝ }
+pub fn end_check(state: &StateWords, i: u32, x: u32) -> u32
+    ensures { λ r. ⌜ r ≡ endCheck (stateIn (now (state .entry))) i x ⌝ }
 {
-    let mut w = v;
-    w.marked = sets::with(v.marked, p);
-    w.running = sets::without(v.running, xs);
-    w.ended = sets::without(v.ended, xs);
-    w
+    let runs = sets::member(running(state, i), x);
+    first(state, i, refuse_if(!runs, NOT_READY, 0))
 }
 
-pub fn enter(destination: &[u8; 512], v: Instance, m: u32, p: u8) -> Plan
-    ensures { λ r. ⌜ r ≡ enterPlan (collect 32 (endsAt (endOf (now (destination .entry)) (v .kind)) m p)) v p ⌝ }
+pub fn end_to(state: &mut StateWords, i: u32, x: u32)
+    ensures { λ r. ⌜ stateIn (now (state .exit)) ≡ endTo (stateIn (now (state .entry))) i x ⌝ }
 {
-    let xs = ending_at(destination, v.kind, m, p as u32);
-    let marked = sets::member(v.marked, p as u32);
-    let rest = row(xs, sets::within(xs, v.ended), marked);
-    let refused = first(v, rest);
-    let after = entered(v, p as u32, xs);
-    plan(refused, after, 0)
+    let marks = marked(state, i);
+    let runs = sets::without(running(state, i), sets::only(x));
+    let ends = sets::with(ended(state, i), x);
+    put_sets(state, i, marks, runs, ends);
 }
 
-fn ended_by(v: Instance, x: u32) -> Instance
-    ensures { λ r. ⌜ r ≡ endedBy v x ⌝ }
+pub fn enter_check(tables: &TableWords, state: &StateWords, i: u32, p: u32) -> u32
+    ensures { λ r. ⌜ r ≡ enterCheck (tablesIn (now (tables .entry))) (stateIn (now (state .entry))) i p ⌝ }
 {
-    let mut w = v;
-    w.running = sets::without(v.running, sets::only(x));
-    w.ended = sets::with(v.ended, x);
-    w
+    let xs = enterers(tables, state, i, p);
+    let ready = sets::within(xs, ended(state, i));
+    let taken = sets::member(marked(state, i), p);
+    let refused = first(state, i, row(xs, ready, taken));
+    if refused != 0 {
+        return refused;
+    }
+    let loses = Sets {
+        places: 0,
+        holds: xs,
+    };
+    let gains = Sets {
+        places: sets::only(p),
+        holds: 0,
+    };
+    port_check(tables, state, i, loses, gains)
 }
 
-pub fn end(v: Instance, x: u8) -> Plan
-    ensures { λ r. ⌜ r ≡ endPlan v x ⌝ }
+// What leads to p is neither running nor ended, and p is marked.
+pub fn enter_to(tables: &TableWords, state: &mut StateWords, i: u32, p: u32)
+    ensures { λ r. ⌜ stateIn (now (state .exit)) ≡ enterTo (tablesIn (now (tables .entry))) (stateIn (now (state .entry))) i p ⌝ }
 {
-    let running = sets::member(v.running, x as u32);
-    let refused = first(v, refuse_if(!running, NOT_READY, 0));
-    let after = ended_by(v, x as u32);
-    plan(refused, after, 0)
+    let xs = enterers(tables, state, i, p);
+    let marks = sets::with(marked(state, i), p);
+    let runs = sets::without(running(state, i), xs);
+    let ends = sets::without(ended(state, i), xs);
+    put_sets(state, i, marks, runs, ends);
 }
 
-pub fn finish<'a>(
-    source: &'a [u8; 512],
-    places: &'a [u32; 256],
-    transitions: &'a [u32; 256],
-    v: Instance,
-    m: u32,
-) -> Plan
-    ensures { λ r. ⌜ r ≡ finishPlan (rows (now (source .entry)) [] [] [] []) v m ⌝ }
+fn may_leave(tables: &TableWords, state: &StateWords, i: u32, m: u32, p: u32) -> bool
+    ensures { λ r. ⌜ r ≡ mayLeave (tablesIn (now (tables .entry))) (instance (stateIn (now (state .entry))) i) m p ⌝ }
 {
-    let may_leave = some_place(PlaceTest::MayLeave, source, places, transitions, v, m);
-    // a place that may be left counts, also where every firing would fail its ports
-    let busy = (held(v) != 0) | may_leave;
-    let refused = first(v, refuse_if(busy, TOO_EARLY, 0));
-    let mut after = v;
-    after.queued = one_less(v.queued);
-    plan(refused, after, v.queued)
+    sets::member(marked(state, i), p) && leaving(tables, kind(state, i), m, p) != 0
+}
+
+// A place that may be left counts, also where every firing would fail its ports.
+fn some_leaver(tables: &TableWords, state: &StateWords, i: u32, m: u32) -> bool
+    ensures { λ r. ⌜ r ≡ anyBelow 16 (mayLeave (tablesIn (now (tables .entry))) (instance (stateIn (now (state .entry))) i) m) ⌝ }
+{
+    let mut p: u32 = 0;
+    while p < 16 {
+        if may_leave(tables, state, i, m, p) {
+            return true;
+        }
+        p += 1;
+    }
+    false
+}
+
+pub fn finish_check(tables: &TableWords, state: &StateWords, i: u32) -> u32
+    ensures { λ r. ⌜ r ≡ finishCheck (tablesIn (now (tables .entry))) (stateIn (now (state .entry))) i ⌝ }
+{
+    let leaver = some_leaver(tables, state, i, behavior(tables, state, i));
+    let busy = (held(state, i) != 0) | leaver;
+    first(state, i, refuse_if(busy, TOO_EARLY, 0))
+}
+
+// The slots after `at` and before `end` move down one, and the last of them is freed. Those from `end` on stay as they are.
+fn close_slots(state: &mut StateWords, at: usize, end: usize)
+    ensures { λ r. ⌜ stateIn (now (state .exit)) ≡ withQueue (stateIn (now (state .entry))) (closed 0 (stateIn (now (state .entry)) .queue) at end) ⌝ }
+{
+    let last = less(end, 1);
+    let n = less(last, at);
+    let mut k: usize = 0;
+    while k < n {
+        let to = at + k;
+        let x = slot_at(state, to + 1);
+        put_slot(state, to, x);
+        k += 1;
+    }
+    put_slot(state, last, 0);
+}
+
+// The head of the queue goes.
+pub fn finish_to(state: &mut StateWords, i: u32)
+    ensures { λ r. ⌜ stateIn (now (state .exit)) ≡ finished (stateIn (now (state .entry))) i ⌝ }
+{
+    let n = queued(state, i);
+    let at = (i as usize) * 8;
+    close_slots(state, at, at + n as usize);
+    put_queued(state, i, fewer(n, 1));
 }

@@ -1,4 +1,2 @@
-pub mod Closing
-pub mod Checks
-pub mod Marks
-pub mod Tests
+-- The port check by what is lost and gained is the port check by the instance after the move.
+pub mod Ports

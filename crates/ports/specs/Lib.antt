@@ -1,3 +1,2 @@
--- The tables as a function has them that is lent a few of their arrays, and the tests of places, connections and ports as values.
-pub mod Rows
+-- The questions of the port check as values, and what a move takes and gives.
 pub mod Tests

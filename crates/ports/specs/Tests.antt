@@ -1,58 +1,31 @@
--- The tests of places, connections and ports, as values. Each goes to its definition in rules/specs.
-use mathlib.Core.Bool.{Bool, not, _&&_, cond}
-use mathlib.Core.List.{List}
-use Prim.Native.Nat.{ℕ, zero, suc}
-use lib.Dec.{eqb}
-use lib.ListN.{getD, set}
+-- The three questions of the port check as values. Each goes to its definition in rules/specs.
+use mathlib.Core.Bool.{Bool, not, _&&_, _||_, cond}
+use Prim.Native.Nat.{ℕ}
 use Rattle.sets.specs.Test.{anyBelow}
+use Rattle.sets.specs.Mask.{overlaps, joined, without}
 use Rattle.model.specs.declared.Tables.{Tables}
 use Rattle.model.specs.declared.Instance.{Instance}
 use Rattle.model.specs.declared.Connection.{Connection}
 use Rattle.model.specs.declared.Configuration.{Configuration}
-use Rattle.model.specs.View.{isUse, instance, connection, queueHead}
-use Rattle.rules.specs.Instance.{active, current}
-use Rattle.rules.specs.Ports.{wouldLeave, refusing, serves, blocks, employs, failsUnserved, failsRefusing, failsInUse}
-use Rattle.rules.specs.Finish.{mayLeave}
-use Rattle.rules.specs.Refusal.{_⇒_∣_, allowed, unserved, providerRefusing, serviceInUse}
-use Rattle.ports.specs.declared.instance.PlaceTest.{PlaceTest}
-use Rattle.ports.specs.declared.connections.ConnectionTest.{ConnectionTest}
-use Rattle.ports.specs.declared.connections.Ends.{Ends}
+use Rattle.model.specs.View.{source, destination, groupPlaces, groupTransitions, isUse, instance}
+use Rattle.rules.specs.Instance.{active, portsOf}
+use Rattle.rules.specs.Ports.{someConnection, serves, blocks, employs, failsUnserved, failsRefusing, failsInUse, behavior, refusing, portCheck}
 use Rattle.ports.specs.declared.PortTest.{PortTest}
+use Rattle.ports.specs.declared.Sets.{Sets}
 
--- of a place, where m is the current behavior
-unfoldable pub leaves : PlaceTest → Tables → Instance → ℕ → ℕ → Bool
-leaves PlaceTest.MayLeave t v m = mayLeave t v m
-leaves (PlaceTest.WouldLeave q) t v m = wouldLeave t v m q
+-- the end of transition x, where it leaves or where it leads
+abbrev pub endOf : Tables → Bool → ℕ → ℕ → ℕ
+endOf t out k x = cond out (source t k x) (destination t k x)
+
+-- port q of an instance of type k is active where these places are marked and these transitions held
+abbrev pub activeWith : Tables → ℕ → ℕ → ℕ → ℕ → Bool
+activeWith t k marked held q = overlaps marked (groupPlaces t k q) || overlaps held (groupTransitions t k q)
 
 -- of a connection of port q of i
-unfoldable pub passes : ConnectionTest → Tables → Configuration → ℕ → ℕ → Connection → Bool
-passes ConnectionTest.Serves t c i q = serves t c i q
-passes ConnectionTest.Blocks t c i q = blocks t c i q
-passes ConnectionTest.Employs t c i q = employs t c i q
-
--- the end of the connection that is to be port q of i, and the other
-abbrev pub endsOf : ConnectionTest → Connection → Ends
-endsOf ConnectionTest.Serves k = record { near = k .user; nearport = k .useport; far = k .provider; farport = k .provideport }
-endsOf ConnectionTest.Blocks k = record { near = k .user; nearport = k .useport; far = k .provider; farport = k .provideport }
-endsOf ConnectionTest.Employs k = record { near = k .provider; nearport = k .provideport; far = k .user; farport = k .useport }
-
--- what is asked of the other end, port q of v, where the head of its queue is `head`
-unfoldable pub farPasses : ConnectionTest → Tables → Instance → ℕ → ℕ → Bool
-farPasses ConnectionTest.Serves t v head q = active t v q
-farPasses ConnectionTest.Blocks t v head q = refusing t v (current t v head) q
-farPasses ConnectionTest.Employs t v head q = active t v q
-
--- the connection is one of i, and its other end passes
-abbrev pub reaches : ConnectionTest → Tables → Configuration → ℕ → Connection → Bool
-reaches test t c i k =
-    eqb (endsOf test k .near) i && farPasses test t (instance c (endsOf test k .far)) (queueHead c (endsOf test k .far)) (endsOf test k .farport)
-
--- each of the first connections that does marks its port with 1
-unfoldable pub marked : ConnectionTest → Tables → Configuration → ℕ → List ℕ → ℕ → List ℕ
-marked test t c i found zero = found
-marked test t c i found (suc l) =
-    let before = marked test t c i found l in
-    cond (reaches test t c i (connection c l)) (set before (endsOf test (connection c l) .nearport) 1) before
+unfoldable pub passes : PortTest → Tables → Configuration → ℕ → ℕ → Connection → Bool
+passes PortTest.Unserved t c i q = serves t c i q
+passes PortTest.Refusing t c i q = blocks t c i q
+passes PortTest.InUse t c i q = employs t c i q
 
 -- of port q of i, which goes from v to w
 unfoldable pub fails : PortTest → Tables → Configuration → ℕ → Instance → Instance → ℕ → Bool
@@ -60,47 +33,45 @@ fails PortTest.Unserved t c i v w = failsUnserved t c i w
 fails PortTest.Refusing t c i v w = failsRefusing t c i v w
 fails PortTest.InUse t c i v w = failsInUse t c i v w
 
--- what it asks of the port: a use port or not, active before and after or not
-abbrev pub wantsKind : PortTest → Bool → Bool
-wantsKind PortTest.Unserved useport = useport
-wantsKind PortTest.Refusing useport = useport
-wantsKind PortTest.InUse useport = not useport
-
-abbrev pub wantsActivity : PortTest → Bool → Bool → Bool
-wantsActivity PortTest.Unserved before after = after
-wantsActivity PortTest.Refusing before after = after && not before
-wantsActivity PortTest.InUse before after = before && not after
-
-abbrev pub wantsPort : PortTest → Tables → Instance → Instance → ℕ → Bool
-wantsPort test t v w q = wantsKind test (isUse t (w .kind) q) && wantsActivity test (active t v q) (active t w q)
-
--- and of its connections: a test of them, and whether it is a fault that one passes
-abbrev pub askedBy : PortTest → ConnectionTest
-askedBy PortTest.Unserved = ConnectionTest.Serves
-askedBy PortTest.Refusing = ConnectionTest.Blocks
-askedBy PortTest.InUse = ConnectionTest.Employs
+-- what it asks of the port, and whether a connection that passes is a fault
+abbrev pub wants : PortTest → Bool → Bool → Bool → Bool
+wants PortTest.Unserved useport before after = useport && after
+wants PortTest.Refusing useport before after = useport && (after && not before)
+wants PortTest.InUse useport before after = not useport && (before && not after)
 
 abbrev pub isFault : PortTest → Bool → Bool
 isFault PortTest.Unserved found = not found
 isFault PortTest.Refusing found = found
 isFault PortTest.InUse found = found
 
--- the same as `fails`, where the ports that have a connection as asked are marked
-abbrev pub failsBy : PortTest → Tables → Instance → Instance → List ℕ → ℕ → Bool
-failsBy test t v w found q = isFault test (eqb (getD found q 0) 1) && wantsPort test t v w q
+-- port q of i fails, where after the move these places are marked and these transitions held
+unfoldable pub failsWith : PortTest → Tables → Configuration → ℕ → ℕ → ℕ → ℕ → Bool
+failsWith test t c i marked held q =
+    wants test (isUse t (instance c i .kind) q) (active t (instance c i) q) (activeWith t (instance c i .kind) marked held q)
+    && isFault test (someConnection c (passes test t c i q))
 
--- the tests in their order, and the number of each
-abbrev pub testAt : ℕ → PortTest
-testAt r = cond (eqb r 0) PortTest.Unserved (cond (eqb r 1) PortTest.Refusing PortTest.InUse)
+unfoldable pub somePort : PortTest → Tables → Configuration → ℕ → ℕ → ℕ → Bool
+somePort test t c i marked held = anyBelow (portsOf t (instance c i)) (failsWith test t c i marked held)
 
-abbrev pub numberOf : PortTest → ℕ
-numberOf PortTest.Unserved = unserved
-numberOf PortTest.Refusing = providerRefusing
-numberOf PortTest.InUse = serviceInUse
+-- provide port q of instance i refuses
+abbrev pub refusingAt : Tables → Configuration → ℕ → ℕ → Bool
+refusingAt t c i q = refusing t (instance c i) (behavior t c i) q
 
-unfoldable pub portsCheck : ℕ → Tables → Configuration → ℕ → Instance → Instance → ℕ
-portsCheck n t c i v w =
-    anyBelow n (failsUnserved t c i w) ⇒ unserved
-    ∣ anyBelow n (failsRefusing t c i v w) ⇒ providerRefusing
-    ∣ anyBelow n (failsInUse t c i v w) ⇒ serviceInUse
-    ∣ allowed
+-- a set without what is lost and with what is gained
+abbrev pub changed : ℕ → ℕ → ℕ → ℕ
+changed m loses gains = joined (without m loses) gains
+
+-- v without what it loses and with what it gains
+unfoldable pub turned : Instance → Sets → Sets → Instance
+turned v loses gains = record {
+  present = v .present;
+  kind = v .kind;
+  marked = changed (v .marked) (loses .places) (gains .places);
+  running = changed (v .running) (loses .holds) (gains .holds);
+  ended = without (v .ended) (loses .holds);
+  queued = v .queued;
+}
+
+-- the port check of a move by which instance i loses and gains so much
+abbrev pub turnCheck : Tables → Configuration → ℕ → Sets → Sets → ℕ
+turnCheck t c i loses gains = portCheck t c i (instance c i) (turned (instance c i) loses gains)

@@ -1,37 +1,46 @@
 // One instance by itself: what is held, which ports are active, what leaves and enters a place, which ports refuse.
-use model::Instance;
-use model::mask_at;
-use model::number_at;
+use words::StateWords;
+use words::TableWords;
+use words::state::ended;
+use words::state::kind;
+use words::state::marked;
+use words::state::queued;
+use words::state::running;
+use words::state::slot;
+use words::tables::behavior_of;
+use words::tables::destination;
+use words::tables::group_places;
+use words::tables::group_transitions;
+use words::tables::source;
 ghost use mathlib.Core.Path.{_≡_};
-ghost use mathlib.Core.List.{[]};
-ghost use Rattle.sets.specs.Test.{anyBelow};
 ghost use Rattle.sets.specs.Mask.{collect};
-ghost use Rattle.rules.specs.Instance.{held, active, current, endsAt, fired};
-ghost use Rattle.rules.specs.Ports.{wouldLeave, refusing};
-ghost use Rattle.rules.specs.Finish.{mayLeave};
-ghost use Rattle.ports.specs.Rows.{rows, endOf};
-ghost use Rattle.ports.specs.Tests.{leaves};
+ghost use Rattle.model.specs.View.{instance};
+ghost use Rattle.rules.specs.Instance.{held, active, endsAt, leaving, entering};
+ghost use Rattle.rules.specs.Ports.{behavior, wouldLeave};
+ghost use Rattle.words.specs.Words.{tablesIn, stateIn};
+ghost use Rattle.ports.specs.Tests.{endOf, activeWith, refusingAt};
 
-// What is asked of a marked place: that it has leaving transitions; that firing it would make this port inactive.
-pub enum PlaceTest {
-    MayLeave,
-    WouldLeave(u8),
-}
-
-fn ends_at(ends: &[u8; 512], kind: u8, m: u32, p: u32, x: u32) -> bool
-    ensures { λ r. ⌜ r ≡ endsAt (endOf (now (ends .entry)) kind) m p x ⌝ }
+fn ends_at(tables: &TableWords, out: bool, k: u32, m: u32, p: u32, x: u32) -> bool
+    ensures { λ r. ⌜ r ≡ endsAt (endOf (tablesIn (now (tables .entry))) out k) m p x ⌝ }
 {
-    sets::member(m, x) && number_at(ends, (kind as usize) * 32 + x as usize) == p as usize
+    if !sets::member(m, x) {
+        return false;
+    }
+    if out {
+        source(tables, k, x) == p
+    } else {
+        destination(tables, k, x) == p
+    }
 }
 
-// The transitions of the set m that have this end, source or destination, at place p: what leaves it, or what leads to it.
-pub fn ending_at(ends: &[u8; 512], kind: u8, m: u32, p: u32) -> u32
-    ensures { λ r. ⌜ r ≡ collect 32 (endsAt (endOf (now (ends .entry)) kind) m p) ⌝ }
+// The transitions of the set m of type k that leave p, or that lead to it.
+fn ending_at(tables: &TableWords, out: bool, k: u32, m: u32, p: u32) -> u32
+    ensures { λ r. ⌜ r ≡ collect 32 (endsAt (endOf (tablesIn (now (tables .entry))) out k) m p) ⌝ }
 {
     let mut xs: u32 = 0;
     let mut x: u32 = 0;
     while x < 32 {
-        if ends_at(ends, kind, m, p, x) {
+        if ends_at(tables, out, k, m, p, x) {
             xs = sets::with(xs, x);
         }
         x += 1;
@@ -39,117 +48,82 @@ pub fn ending_at(ends: &[u8; 512], kind: u8, m: u32, p: u32) -> u32
     xs
 }
 
-pub fn held(v: Instance) -> u32
-    ensures { λ r. ⌜ r ≡ held v ⌝ }
+pub fn leaving(tables: &TableWords, k: u32, m: u32, p: u32) -> u32
+    ensures { λ r. ⌜ r ≡ leaving (tablesIn (now (tables .entry))) k m p ⌝ }
 {
-    sets::joined(v.running, v.ended)
+    ending_at(tables, true, k, m, p)
 }
 
-pub fn active<'a>(places: &'a [u32; 256], transitions: &'a [u32; 256], v: Instance, q: u8) -> bool
-    ensures { λ r. ⌜ r ≡ active (rows [] [] [] (now (places .entry)) (now (transitions .entry))) v q ⌝ }
+pub fn entering(tables: &TableWords, k: u32, m: u32, p: u32) -> u32
+    ensures { λ r. ⌜ r ≡ entering (tablesIn (now (tables .entry))) k m p ⌝ }
 {
-    let at = (v.kind as usize) * 16 + q as usize;
-    sets::overlaps(v.marked, mask_at(places, at))
-        || sets::overlaps(held(v), mask_at(transitions, at))
+    ending_at(tables, false, k, m, p)
 }
 
-pub fn fired(v: Instance, p: u32, xs: u32) -> Instance
-    ensures { λ r. ⌜ r ≡ fired v p xs ⌝ }
+pub fn held(state: &StateWords, i: u32) -> u32
+    ensures { λ r. ⌜ r ≡ held (instance (stateIn (now (state .entry))) i) ⌝ }
 {
-    let mut w = v;
-    w.marked = sets::without(v.marked, sets::only(p));
-    w.running = sets::joined(v.running, xs);
-    w
+    sets::joined(running(state, i), ended(state, i))
 }
 
-fn may_leave(source: &[u8; 512], v: Instance, m: u32, p: u32) -> bool
-    ensures { λ r. ⌜ r ≡ mayLeave (rows (now (source .entry)) [] [] [] []) v m p ⌝ }
+// Port q of an instance of type k is active, where these places are marked and these transitions held.
+pub fn active_with(tables: &TableWords, k: u32, marks: u32, holds: u32, q: u32) -> bool
+    ensures { λ r. ⌜ r ≡ activeWith (tablesIn (now (tables .entry))) k marks holds q ⌝ }
 {
-    sets::member(v.marked, p) && ending_at(source, v.kind, m, p) != 0
+    sets::overlaps(marks, group_places(tables, k, q))
+        || sets::overlaps(holds, group_transitions(tables, k, q))
 }
 
-fn would_leave<'a>(
-    source: &'a [u8; 512],
-    places: &'a [u32; 256],
-    transitions: &'a [u32; 256],
-    v: Instance,
-    m: u32,
-    q: u8,
-    p: u32,
-) -> bool
-    ensures { λ r. ⌜ r ≡ wouldLeave (rows (now (source .entry)) [] [] (now (places .entry)) (now (transitions .entry))) v m q p ⌝ }
+pub fn active(tables: &TableWords, state: &StateWords, i: u32, q: u32) -> bool
+    ensures { λ r. ⌜ r ≡ active (tablesIn (now (tables .entry))) (instance (stateIn (now (state .entry))) i) q ⌝ }
 {
-    if !sets::member(v.marked, p) {
+    active_with(tables, kind(state, i), marked(state, i), held(state, i), q)
+}
+
+// The current behavior of instance i: a set of transitions, none where its queue is empty.
+pub fn behavior(tables: &TableWords, state: &StateWords, i: u32) -> u32
+    ensures { λ r. ⌜ r ≡ behavior (tablesIn (now (tables .entry))) (stateIn (now (state .entry))) i ⌝ }
+{
+    if queued(state, i) == 0 {
+        return 0;
+    }
+    behavior_of(tables, kind(state, i), slot(state, i, 0))
+}
+
+fn would_leave(tables: &TableWords, state: &StateWords, i: u32, m: u32, q: u32, p: u32) -> bool
+    ensures { λ r. ⌜ r ≡ wouldLeave (tablesIn (now (tables .entry))) (instance (stateIn (now (state .entry))) i) m q p ⌝ }
+{
+    let marks = marked(state, i);
+    if !sets::member(marks, p) {
         return false;
     }
-    let xs = ending_at(source, v.kind, m, p);
+    let k = kind(state, i);
+    let xs = leaving(tables, k, m, p);
     if xs == 0 {
         return false;
     }
-    if sets::overlaps(xs, held(v)) {
+    if sets::overlaps(xs, held(state, i)) {
         return false;
     }
-    !active(places, transitions, fired(v, p, xs), q)
+    let runs = sets::joined(running(state, i), xs);
+    let holds = sets::joined(runs, ended(state, i));
+    !active_with(tables, k, sets::without(marks, sets::only(p)), holds, q)
 }
 
-fn place_passes<'a>(
-    test: PlaceTest,
-    source: &'a [u8; 512],
-    places: &'a [u32; 256],
-    transitions: &'a [u32; 256],
-    v: Instance,
-    m: u32,
-    p: u32,
-) -> bool
-    ensures { λ r. ⌜ r ≡ leaves test (rows (now (source .entry)) [] [] (now (places .entry)) (now (transitions .entry))) v m p ⌝ }
+// Provide port q of instance i refuses.
+pub fn refusing(tables: &TableWords, state: &StateWords, i: u32, q: u32) -> bool
+    ensures { λ r. ⌜ r ≡ refusingAt (tablesIn (now (tables .entry))) (stateIn (now (state .entry))) i q ⌝ }
 {
-    match test {
-        PlaceTest::MayLeave => may_leave(source, v, m, p),
-        PlaceTest::WouldLeave(q) => would_leave(source, places, transitions, v, m, q, p),
+    if !active(tables, state, i, q) {
+        return false;
     }
-}
-
-// Some place passes the test, where m is the current behavior.
-pub fn some_place<'a>(
-    test: PlaceTest,
-    source: &'a [u8; 512],
-    places: &'a [u32; 256],
-    transitions: &'a [u32; 256],
-    v: Instance,
-    m: u32,
-) -> bool
-    ensures { λ r. ⌜ r ≡ anyBelow 16 (leaves test (rows (now (source .entry)) [] [] (now (places .entry)) (now (transitions .entry))) v m) ⌝ }
-{
+    let m = behavior(tables, state, i);
     let mut p: u32 = 0;
     while p < 16 {
-        if place_passes(test, source, places, transitions, v, m, p) {
+        if would_leave(tables, state, i, m, q, p) {
             return true;
         }
         p += 1;
     }
     false
-}
-
-pub fn refusing<'a>(
-    source: &'a [u8; 512],
-    places: &'a [u32; 256],
-    transitions: &'a [u32; 256],
-    v: Instance,
-    m: u32,
-    q: u8,
-) -> bool
-    ensures { λ r. ⌜ r ≡ refusing (rows (now (source .entry)) [] [] (now (places .entry)) (now (transitions .entry))) v m q ⌝ }
-{
-    active(places, transitions, v, q)
-        && some_place(PlaceTest::WouldLeave(q), source, places, transitions, v, m)
-}
-
-// The current behavior where the queue's head is `head`: a set of transitions, none where the queue is empty.
-pub fn current(behaviors: &[u32; 128], v: Instance, head: u8) -> u32
-    ensures { λ r. ⌜ r ≡ current (rows [] (now (behaviors .entry)) [] [] []) v head ⌝ }
-{
-    if v.queued == 0 {
-        return 0;
-    }
-    mask_at(behaviors, (v.kind as usize) * 8 + head as usize)
 }

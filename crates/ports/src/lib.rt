@@ -1,29 +1,36 @@
-// Active and refusing ports, the tests over places, connections and ports, and the port check 34, 35, 36, on lent tables.
-// Promised: each function answers what rules/specs say, for every table, configuration and number; lent arrays stand for tables by `rows`.
-pub mod connections;
-pub mod gap;
+// Active and refusing ports and the port check 34, 35, 36, on words.
+// Promised: each function answers what rules/specs say of the tables and the configuration that the words are.
 pub mod instance;
 
-use connections::ConnectionTest;
-use connections::mark;
 use instance::active;
-use model::Connection;
-use model::Instance;
-use model::no_instance;
-use model::number_at;
+use instance::active_with;
+use instance::held;
+use instance::refusing;
+use words::StateWords;
+use words::TableWords;
+use words::state::connections;
+use words::state::kind;
+use words::state::marked;
+use words::state::provideport;
+use words::state::provider;
+use words::state::useport;
+use words::state::user;
+use words::tables::is_use;
+use words::tables::ports_of;
 ghost use mathlib.Core.Path.{_≡_};
-ghost use mathlib.Core.List.{[]};
 ghost use Rattle.sets.specs.Test.{anyBelow};
-ghost use Rattle.model.specs.View.{instance, put};
+ghost use Rattle.model.specs.View.{instance, connection};
+ghost use Rattle.rules.specs.Instance.{portsOf};
 ghost use Rattle.rules.specs.Refusal.{_⇒_∣_};
-ghost use Rattle.ports.specs.Rows.{rows, parts};
-ghost use Rattle.ports.specs.Tests.{wantsKind, wantsActivity, wantsPort, askedBy, isFault, fails, failsBy, testAt, numberOf, portsCheck};
+ghost use Rattle.rules.specs.Ports.{someConnection};
+ghost use Rattle.words.specs.Words.{tablesIn, stateIn};
+ghost use Rattle.ports.specs.Tests.{passes, wants, isFault, failsWith, somePort, turnCheck};
 
-const UNSERVED: u8 = 34;
+const UNSERVED: u32 = 34;
 
-const PROVIDER_REFUSING: u8 = 35;
+const PROVIDER_REFUSING: u32 = 35;
 
-const SERVICE_IN_USE: u8 = 36;
+const SERVICE_IN_USE: u32 = 36;
 
 // What a port fails by at 34, 35 and 36.
 pub enum PortTest {
@@ -32,36 +39,59 @@ pub enum PortTest {
     InUse,
 }
 
-// The ports that a test is about are use ports or provide ports,
-fn wants_kind(test: PortTest, useport: bool) -> bool
-    ensures { λ r. ⌜ r ≡ wantsKind test useport ⌝ }
+// What a move takes from an instance, or gives it: marks, and transitions that are held.
+pub struct Sets {
+    pub places: u32,
+    pub holds: u32,
+}
+
+// The first test that holds gives its number, else what follows.
+pub fn refuse_if(test: bool, n: u32, rest: u32) -> u32
+    ensures { λ r. ⌜ r ≡ (test ⇒ n ∣ rest) ⌝ }
 {
+    if test { n } else { rest }
+}
+
+// Connection l joins port q of i to a port that the question is about: an active provider, a refusing one, an active user.
+fn reaches(test: PortTest, tables: &TableWords, state: &StateWords, i: u32, q: u32, l: u32) -> bool
+    ensures { λ r. ⌜ r ≡ passes test (tablesIn (now (tables .entry))) (stateIn (now (state .entry))) i q
+        (connection (stateIn (now (state .entry))) l) ⌝ }
+{
+    let u = user(state, l);
+    let uq = useport(state, l);
+    let v = provider(state, l);
+    let vq = provideport(state, l);
     match test {
-        PortTest::Unserved => useport,
-        PortTest::Refusing => useport,
-        PortTest::InUse => !useport,
+        PortTest::Unserved => u == i && (uq == q && active(tables, state, v, vq)),
+        PortTest::Refusing => u == i && (uq == q && refusing(tables, state, v, vq)),
+        PortTest::InUse => v == i && (vq == q && active(tables, state, u, uq)),
     }
 }
 
-// active or not before and after the move.
-fn wants_activity(test: PortTest, before: bool, after: bool) -> bool
-    ensures { λ r. ⌜ r ≡ wantsActivity test before after ⌝ }
+// Some connection does.
+fn some_connection(test: PortTest, tables: &TableWords, state: &StateWords, i: u32, q: u32) -> bool
+    ensures { λ r. ⌜ r ≡ someConnection (stateIn (now (state .entry)))
+        (passes test (tablesIn (now (tables .entry))) (stateIn (now (state .entry))) i q) ⌝ }
 {
-    match test {
-        PortTest::Unserved => after,
-        PortTest::Refusing => after & !before,
-        PortTest::InUse => before & !after,
+    let n = connections(state);
+    let mut l: u32 = 0;
+    while l < n {
+        if reaches(test, tables, state, i, q, l) {
+            return true;
+        }
+        l += 1;
     }
+    false
 }
 
-// What is asked of their connections, and whether it is a fault that one is found.
-fn asked_by(test: PortTest) -> ConnectionTest
-    ensures { λ r. ⌜ r ≡ askedBy test ⌝ }
+// The ports that a question is about: use ports or not, active or not before and after the move.
+fn wants(test: PortTest, useport: bool, before: bool, after: bool) -> bool
+    ensures { λ r. ⌜ r ≡ wants test useport before after ⌝ }
 {
     match test {
-        PortTest::Unserved => ConnectionTest::Serves,
-        PortTest::Refusing => ConnectionTest::Blocks,
-        PortTest::InUse => ConnectionTest::Employs,
+        PortTest::Unserved => useport && after,
+        PortTest::Refusing => useport && (after && !before),
+        PortTest::InUse => !useport && (before && !after),
     }
 }
 
@@ -75,42 +105,41 @@ fn is_fault(test: PortTest, found: bool) -> bool
     }
 }
 
-// Port q is one that the test is about, where its instance goes from v to w.
-fn is_wanted<'a>(
+// Port q of instance i fails, where after the move these places are marked and these transitions held.
+fn fails_at(
     test: PortTest,
-    uses: &'a [u8; 256],
-    places: &'a [u32; 256],
-    transitions: &'a [u32; 256],
-    v: Instance,
-    w: Instance,
-    q: u8,
+    tables: &TableWords,
+    state: &StateWords,
+    i: u32,
+    marks: u32,
+    holds: u32,
+    q: u32,
 ) -> bool
-    ensures { λ r. ⌜ r ≡ wantsPort test (rows [] [] (now (uses .entry)) (now (places .entry)) (now (transitions .entry))) v w q ⌝ }
+    ensures { λ r. ⌜ r ≡ failsWith test (tablesIn (now (tables .entry))) (stateIn (now (state .entry))) i marks holds q ⌝ }
 {
-    let useport = number_at(uses, (w.kind as usize) * 16 + q as usize) == 1;
-    if !wants_kind(test, useport) {
+    let k = kind(state, i);
+    let before = active(tables, state, i, q);
+    let after = active_with(tables, k, marks, holds, q);
+    if !wants(test, is_use(tables, k, q), before, after) {
         return false;
     }
-    let before = active(places, transitions, v, q);
-    let after = active(places, transitions, w, q);
-    wants_activity(test, before, after)
+    is_fault(test, some_connection(test, tables, state, i, q))
 }
 
-// One of the first n ports is.
-fn some_wanted<'a>(
+fn some_port(
     test: PortTest,
-    n: u8,
-    uses: &'a [u8; 256],
-    places: &'a [u32; 256],
-    transitions: &'a [u32; 256],
-    v: Instance,
-    w: Instance,
+    tables: &TableWords,
+    state: &StateWords,
+    i: u32,
+    marks: u32,
+    holds: u32,
 ) -> bool
-    ensures { λ r. ⌜ r ≡ anyBelow n (wantsPort test (rows [] [] (now (uses .entry)) (now (places .entry)) (now (transitions .entry))) v w) ⌝ }
+    ensures { λ r. ⌜ r ≡ somePort test (tablesIn (now (tables .entry))) (stateIn (now (state .entry))) i marks holds ⌝ }
 {
-    let mut q: u8 = 0;
+    let n = ports_of(tables, kind(state, i));
+    let mut q: u32 = 0;
     while q < n {
-        if is_wanted(test, uses, places, transitions, v, w, q) {
+        if fails_at(test, tables, state, i, marks, holds, q) {
             return true;
         }
         q += 1;
@@ -118,162 +147,19 @@ fn some_wanted<'a>(
     false
 }
 
-// Port q fails the test, where the ports that a connection was found for are marked with 1. The mark is looked at first: it costs less.
-fn fails_at<'a>(
-    test: PortTest,
-    uses: &'a [u8; 256],
-    places: &'a [u32; 256],
-    transitions: &'a [u32; 256],
-    v: Instance,
-    w: Instance,
-    found: &'a [u8; 256],
-    q: u8,
-) -> bool
-    ensures { λ r. ⌜ r ≡ failsBy test (rows [] [] (now (uses .entry)) (now (places .entry)) (now (transitions .entry))) v w (now (found .entry)) q ⌝ }
+// The port check of a move by which instance i loses and gains so much.
+pub fn port_check(tables: &TableWords, state: &StateWords, i: u32, loses: Sets, gains: Sets) -> u32
+    ensures { λ r. ⌜ r ≡ turnCheck (tablesIn (now (tables .entry))) (stateIn (now (state .entry))) i loses gains ⌝ }
 {
-    is_fault(test, found[q as usize] == 1) && is_wanted(test, uses, places, transitions, v, w, q)
-}
-
-// One of the first n ports does.
-fn some_port<'a>(
-    test: PortTest,
-    n: u8,
-    uses: &'a [u8; 256],
-    places: &'a [u32; 256],
-    transitions: &'a [u32; 256],
-    v: Instance,
-    w: Instance,
-    found: &'a [u8; 256],
-) -> bool
-    ensures { λ r. ⌜ r ≡ anyBelow n (failsBy test (rows [] [] (now (uses .entry)) (now (places .entry)) (now (transitions .entry))) v w (now (found .entry))) ⌝ }
-{
-    let mut q: u8 = 0;
-    while q < n {
-        if fails_at(test, uses, places, transitions, v, w, found, q) {
-            return true;
-        }
-        q += 1;
-    }
-    false
-}
-
-// One of the first n ports of instance i, which goes from v to w, fails the test. Connections are looked at only where a port is wanted.
-fn port_fails<'a>(
-    test: PortTest,
-    n: u8,
-    source: &'a [u8; 512],
-    behaviors: &'a [u32; 128],
-    uses: &'a [u8; 256],
-    places: &'a [u32; 256],
-    transitions: &'a [u32; 256],
-    instances: [Instance; 32],
-    queue: &'a [u8; 256],
-    connections: [Connection; 64],
-    count: u8,
-    i: u8,
-    v: Instance,
-    w: Instance,
-) -> bool
-    ensures { λ r. ⌜ r ≡ anyBelow n (fails test (rows (now (source .entry)) (now (behaviors .entry)) (now (uses .entry)) (now (places .entry)) (now (transitions .entry))) (parts instances (now (queue .entry)) connections count) i v w) ⌝ }
-{
-    if !some_wanted(test, n, uses, places, transitions, v, w) {
-        return false;
-    }
-    let asked = asked_by(test);
-    let mut found = [0u8; 256];
-    mark(
-        asked,
-        source,
-        behaviors,
-        places,
-        transitions,
-        instances,
-        queue,
-        connections,
-        count,
-        i,
-        &mut found,
-    );
-    some_port(test, n, uses, places, transitions, v, w, &found)
-}
-
-// A row of checks, as in rules/specs/Refusal: where the test holds its number, else what follows.
-pub fn refuse_if(test: bool, number: u8, rest: u8) -> u8
-    ensures { λ r. ⌜ r ≡ (test ⇒ number ∣ rest) ⌝ }
-{
-    if test { number } else { rest }
-}
-
-// The tests in their order: "34, 35, 36".
-fn test_at(r: u8) -> PortTest
-    ensures { λ t. ⌜ t ≡ testAt r ⌝ }
-{
-    match r {
-        0 => PortTest::Unserved,
-        1 => PortTest::Refusing,
-        _ => PortTest::InUse,
-    }
-}
-
-fn number_of(test: PortTest) -> u8
-    ensures { λ r. ⌜ r ≡ numberOf test ⌝ }
-{
-    match test {
-        PortTest::Unserved => UNSERVED,
-        PortTest::Refusing => PROVIDER_REFUSING,
-        PortTest::InUse => SERVICE_IN_USE,
-    }
-}
-
-// The port check of a move of instance i, over n ports: v is the instance before it, and after it stands in a trial configuration beside the
-// real one. No test is made once one has failed.
-pub fn port_check<'a>(
-    n: u8,
-    source: &'a [u8; 512],
-    behaviors: &'a [u32; 128],
-    uses: &'a [u8; 256],
-    places: &'a [u32; 256],
-    transitions: &'a [u32; 256],
-    instances: [Instance; 32],
-    queue: &'a [u8; 256],
-    connections: [Connection; 64],
-    count: u8,
-    i: u8,
-    v: Instance,
-    after: Instance,
-) -> u8
-    ensures { λ r. ⌜ r ≡ portsCheck n (rows (now (source .entry)) (now (behaviors .entry)) (now (uses .entry)) (now (places .entry)) (now (transitions .entry))) (parts instances (now (queue .entry)) connections count) i v
-        (instance (put (parts instances (now (queue .entry)) connections count) i after) i) ⌝ }
-{
-    let at = i as usize;
-    let mut trial = instances;
-    let mut w = no_instance();
-    if at < 32 {
-        trial[at] = after;
-        w = trial[at];
-    }
-    let mut r: u8 = 0;
-    while r < 3 {
-        let test = test_at(r);
-        if port_fails(
-            test,
-            n,
-            source,
-            behaviors,
-            uses,
-            places,
-            transitions,
-            instances,
-            queue,
-            connections,
-            count,
-            i,
-            v,
-            w,
-        ) {
-            return number_of(test);
-        }
-        r += 1;
-    }
-    0
+    let marks = sets::joined(sets::without(marked(state, i), loses.places), gains.places);
+    let holds = sets::joined(sets::without(held(state, i), loses.holds), gains.holds);
+    let unserved = some_port(PortTest::Unserved, tables, state, i, marks, holds);
+    let blocked = some_port(PortTest::Refusing, tables, state, i, marks, holds);
+    let in_use = some_port(PortTest::InUse, tables, state, i, marks, holds);
+    let late = refuse_if(in_use, SERVICE_IN_USE, 0);
+    refuse_if(
+        unserved,
+        UNSERVED,
+        refuse_if(blocked, PROVIDER_REFUSING, late),
+    )
 }

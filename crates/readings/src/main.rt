@@ -52,12 +52,12 @@ fn read_text(name: &[u8], text: &[u8]) {
     if ends_in(name, b".sheet") {
         let mut tables = [0u32; 2002];
         let mut program = [0u32; 1281];
-        let read = word_sheets::fill_sheet(text, &mut tables, &mut program);
+        let read = sheets::fill_sheet(text, &mut tables, &mut program);
         write_reading(name, text, read.refused, read.place);
     }
     if ends_in(name, b".answer") {
         let mut answer = [0u32; 3073];
-        let read = word_answers::fill_answer(text, &mut answer);
+        let read = answers::fill_answer(text, &mut answer);
         write_reading(name, text, read.refused, read.place);
     }
 }

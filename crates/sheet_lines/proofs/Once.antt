@@ -13,5 +13,5 @@ row-once = no-other rowSays (elim [ past x n ↦ row.Got x n | fault k ↦ row.R
 pub instruction-once : NoOther instructionSays
 instruction-once =
     no-other instructionSays
-    (elim [ past x n ↦ instruction.Got x n | fault k ↦ instruction.Refused k ])
-    (elim [ instruction.Got x n ↦ refl | instruction.Refused k ↦ refl ])
+    (elim [ past x n ↦ instruction.Got (x .verb) (x .id) (x .number) (x .provider) (x .provideport) n | fault k ↦ instruction.Refused k ])
+    (elim [ instruction.Got v a b c d n ↦ refl | instruction.Refused k ↦ refl ])

@@ -1,10 +1,9 @@
 -- The line of a row, by the kind of the row: the kinds of lines of crate reading, each with its values in one record.
 use Prim.Native.Nat.{ℕ}
-use Rattle.forms.specs.Refusal.{badClause}
 use Rattle.forms.specs.Reader.{Reader, _>>=_, _>>_, give, check}
-use Rattle.model.specs.declared.ComponentType.{ComponentType}
 use Rattle.reading.specs.Limits.{useOk}
 use Rattle.reading.specs.Kinds.{group, tranLine, behaviorLine, portLine}
+use Rattle.sheet_lines.specs.declared.Known.{Known}
 use Rattle.sheet_lines.specs.declared.Row.{Row}
 use Rattle.sheet_lines.specs.declared.Rows.{Rows}
 use Rattle.sheet_lines.specs.declared.Rows.the-variants.{Transitions, Behaviors, Ports}
@@ -19,7 +18,7 @@ abbrev pub portRow : ℕ → ℕ → ℕ → Row
 portRow u a b = record { source = 0; destination = 0; uses = u; places = a; transitions = b }
 
 -- in a type of which c is known
-unfoldable pub rowLine : Rows → ComponentType → Reader Row
+unfoldable pub rowLine : Rows → Known → Reader Row
 rowLine Transitions c = do
   (a, b) ← tranLine (c .places)
   give (transitionRow a b)
@@ -34,5 +33,5 @@ rowLine Ports c = do
 unfoldable pub portAfter : ℕ → ℕ → ℕ → ℕ → Reader Row
 portAfter u n k m = do
   (a, b) ← group n k
-  check (useOk m a) badClause
+  check (useOk m a) 4
   give (portRow u a b)

@@ -12,5 +12,5 @@ rowSays (row.Got x n) = past x n
 rowSays (row.Refused k) = fault k
 
 abbrev pub instructionSays : Do → Outcome Instruction
-instructionSays (instruction.Got x n) = past x n
+instructionSays (instruction.Got v a b c d n) = past (record { verb = v; id = a; number = b; provider = c; provideport = d }) n
 instructionSays (instruction.Refused k) = fault k

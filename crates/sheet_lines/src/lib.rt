@@ -4,8 +4,6 @@ use forms::BAD_CLAUSE;
 use forms::BAD_FORM;
 use forms::BEYOND_LIMIT;
 use lines::Line;
-use model::ComponentType;
-use model::Instruction;
 use texts::Digits;
 use texts::Due;
 use texts::FourNumbers;
@@ -33,10 +31,17 @@ pub enum Rows {
 // The numbers that the line of a row has, and 0 for those that it has not: a transition its ends, a behavior its transitions,
 // a port 1 for use and 0 for provide, and its group.
 pub struct Row {
-    pub source: u8,
-    pub destination: u8,
-    pub uses: u8,
+    pub source: u32,
+    pub destination: u32,
+    pub uses: u32,
     pub places: u32,
+    pub transitions: u32,
+}
+
+// What the rows of a type are held to: how many places it has, which are initial, and how many transitions it has.
+pub struct Known {
+    pub places: u32,
+    pub initial: u32,
     pub transitions: u32,
 }
 
@@ -45,20 +50,20 @@ pub enum RowLine {
     Refused(u8),
 }
 
+// Verb, id, number, provider and provideport, 0 for those that the line has not.
 pub enum Do {
-    Got(Instruction, usize),
+    Got(u32, u32, u32, u32, u32, usize),
     Refused(u8),
 }
 
 // `initial=` list, in a type of so many places.
-pub fn initial_line(s: &[u8], places: u8) -> Line
+pub fn initial_line(s: &[u8], places: u32) -> Line
     ensures { λ r. ⌜ Reads (now (s .entry)) (lineSays r) (initialLine places (now (s .entry))) ⌝ }
 {
     let OneList::Got(mask, top, used) = texts::list_line(s, b"initial=", Digits::Five) else {
         return Line::Refused(BAD_FORM);
     };
-    let most = texts::wide(places);
-    if most < top {
+    if places < top {
         return Line::Refused(BEYOND_LIMIT);
     }
     if top == 0 {
@@ -68,27 +73,24 @@ pub fn initial_line(s: &[u8], places: u8) -> Line
 }
 
 // `tran=source,destination`, in a type of which so much is known.
-fn tran_line(s: &[u8], known: ComponentType) -> RowLine
+fn tran_line(s: &[u8], known: Known) -> RowLine
     ensures { λ r. ⌜ Reads (now (s .entry)) (rowSays r) (rowLine Transitions known (now (s .entry))) ⌝ }
 {
     let TwoNumbers::Got(a, b, used) = texts::two_numbers_line(s, b"tran=", Digits::Five) else {
         return RowLine::Refused(BAD_FORM);
     };
-    let below = texts::wide(known.places);
-    if below <= a {
+    if known.places <= a {
         return RowLine::Refused(BEYOND_LIMIT);
     }
-    if below <= b {
+    if known.places <= b {
         return RowLine::Refused(BEYOND_LIMIT);
     }
     if a == b {
         return RowLine::Refused(BAD_CLAUSE);
     }
-    let source = a as u8;
-    let destination = b as u8;
     let row = Row {
-        source,
-        destination,
+        source: a,
+        destination: b,
         uses: 0,
         places: 0,
         transitions: 0,
@@ -97,14 +99,13 @@ fn tran_line(s: &[u8], known: ComponentType) -> RowLine
 }
 
 // `behavior=` list of transitions.
-fn behavior_line(s: &[u8], known: ComponentType) -> RowLine
+fn behavior_line(s: &[u8], known: Known) -> RowLine
     ensures { λ r. ⌜ Reads (now (s .entry)) (rowSays r) (rowLine Behaviors known (now (s .entry))) ⌝ }
 {
     let OneList::Got(mask, top, used) = texts::list_line(s, b"behavior=", Digits::Five) else {
         return RowLine::Refused(BAD_FORM);
     };
-    let count = texts::wide(known.transitions);
-    if count < top {
+    if known.transitions < top {
         return RowLine::Refused(BEYOND_LIMIT);
     }
     let row = Row {
@@ -118,19 +119,17 @@ fn behavior_line(s: &[u8], known: ComponentType) -> RowLine
 }
 
 // What follows `port=use,` or `port=provide,`. A provide port may have initial places: it is held to none of them.
-fn port_after(s: &[u8], at: usize, uses: u8, known: ComponentType, initial: u32) -> RowLine
+fn port_after(s: &[u8], at: usize, uses: u32, known: Known, initial: u32) -> RowLine
     ensures { λ r. ⌜ Reads (now (s .entry)) (rowSays r) (portAfter uses (known .places) (known .transitions) initial (drop at (now (s .entry)))) ⌝ }
 {
     let TwoLists::Got(places, m, transitions, n, used) = texts::two_lists(s, at, Digits::Five)
     else {
         return RowLine::Refused(BAD_FORM);
     };
-    let most_places = texts::wide(known.places);
-    let most_transitions = texts::wide(known.transitions);
-    if most_places < m {
+    if known.places < m {
         return RowLine::Refused(BEYOND_LIMIT);
     }
-    if most_transitions < n {
+    if known.transitions < n {
         return RowLine::Refused(BEYOND_LIMIT);
     }
     if sets::overlaps(initial, places) {
@@ -147,7 +146,7 @@ fn port_after(s: &[u8], at: usize, uses: u8, known: ComponentType, initial: u32)
 }
 
 // `port=`
-fn port_line(s: &[u8], known: ComponentType) -> RowLine
+fn port_line(s: &[u8], known: Known) -> RowLine
     ensures { λ r. ⌜ Reads (now (s .entry)) (rowSays r) (rowLine Ports known (now (s .entry))) ⌝ }
 {
     if let Due::Past(i) = texts::past_key(s, 0, b"port=use,") {
@@ -160,7 +159,7 @@ fn port_line(s: &[u8], known: ComponentType) -> RowLine
 }
 
 // The line of a row, in a type of which so much is known.
-pub fn row_line(s: &[u8], rows: Rows, known: ComponentType) -> RowLine
+pub fn row_line(s: &[u8], rows: Rows, known: Known) -> RowLine
     ensures { λ r. ⌜ Reads (now (s .entry)) (rowSays r) (rowLine rows known (now (s .entry))) ⌝ }
 {
     match rows {
@@ -171,7 +170,7 @@ pub fn row_line(s: &[u8], rows: Rows, known: ComponentType) -> RowLine
 }
 
 // What follows `do=del,` and `do=wait,`.
-fn do_id(s: &[u8], at: usize, verb: u8) -> Do
+fn do_id(s: &[u8], at: usize, verb: u32) -> Do
     ensures { λ r. ⌜ Reads (now (s .entry)) (instructionSays r) (doId verb (drop at (now (s .entry)))) ⌝ }
 {
     let Number::Got(a, used) = texts::one_number(s, at, Digits::Five) else {
@@ -180,45 +179,27 @@ fn do_id(s: &[u8], at: usize, verb: u8) -> Do
     if 31 < a {
         return Do::Refused(BEYOND_LIMIT);
     }
-    let id = a as u8;
-    let instruction = Instruction {
-        verb,
-        id,
-        number: 0,
-        provider: 0,
-        provideport: 0,
-    };
-    Do::Got(instruction, used)
+    Do::Got(verb, a, 0, 0, 0, used)
 }
 
 // What follows `do=add,` and `do=pushb,`: the number is below so many.
-fn do_number(s: &[u8], at: usize, verb: u8, below: u8) -> Do
+fn do_number(s: &[u8], at: usize, verb: u32, below: u32) -> Do
     ensures { λ r. ⌜ Reads (now (s .entry)) (instructionSays r) (doNumber verb (typeOk below) (drop at (now (s .entry)))) ⌝ }
 {
     let TwoNumbers::Got(a, b, used) = texts::two_numbers(s, at, Digits::Five) else {
         return Do::Refused(BAD_FORM);
     };
-    let count = texts::wide(below);
     if 31 < a {
         return Do::Refused(BEYOND_LIMIT);
     }
-    if count <= b {
+    if below <= b {
         return Do::Refused(BEYOND_LIMIT);
     }
-    let id = a as u8;
-    let number = b as u8;
-    let instruction = Instruction {
-        verb,
-        id,
-        number,
-        provider: 0,
-        provideport: 0,
-    };
-    Do::Got(instruction, used)
+    Do::Got(verb, a, b, 0, 0, used)
 }
 
 // What follows `do=con,` and `do=dcon,`.
-fn do_ends(s: &[u8], at: usize, verb: u8) -> Do
+fn do_ends(s: &[u8], at: usize, verb: u32) -> Do
     ensures { λ r. ⌜ Reads (now (s .entry)) (instructionSays r) (doEnds verb (drop at (now (s .entry)))) ⌝ }
 {
     let FourNumbers::Got(a, b, c, d, used) = texts::four_numbers(s, at, Digits::Five) else {
@@ -236,22 +217,11 @@ fn do_ends(s: &[u8], at: usize, verb: u8) -> Do
     if 15 < d {
         return Do::Refused(BEYOND_LIMIT);
     }
-    let id = a as u8;
-    let number = b as u8;
-    let provider = c as u8;
-    let provideport = d as u8;
-    let instruction = Instruction {
-        verb,
-        id,
-        number,
-        provider,
-        provideport,
-    };
-    Do::Got(instruction, used)
+    Do::Got(verb, a, b, c, d, used)
 }
 
 // `do=`, in a sheet of so many types.
-pub fn do_line(s: &[u8], types: u8) -> Do
+pub fn do_line(s: &[u8], types: u32) -> Do
     ensures { λ r. ⌜ Reads (now (s .entry)) (instructionSays r) (doLine types (now (s .entry))) ⌝ }
 {
     if let Due::Past(i) = texts::past_key(s, 0, b"do=add,") {
@@ -289,7 +259,7 @@ pub fn do_refusal(line: Do) -> u8
     ensures { λ r. ⌜ r ≡ refusal (instructionSays line) ⌝ }
 {
     match line {
-        Do::Got(_, _) => 0,
+        Do::Got(_, _, _, _, _, _) => 0,
         Do::Refused(k) => k,
     }
 }

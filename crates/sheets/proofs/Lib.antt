@@ -1,3 +1,3 @@
--- The laws that the readers of a sheet cite: the rows and parts of a sheet (Parts), what its lines come to (Answer).
-pub mod Parts
-pub mod Answer
+-- The lines of a type with its rows by their kind (TypeRows), and that no other outcome and no other words fit (Once).
+pub mod TypeRows
+pub mod Once

@@ -1,4 +1,3 @@
--- What reading a sheet answers (Sheet), the tables as the lines fill them (Filled), and the lines of a type and of a sheet in parts (Onward).
-pub mod Filled
-pub mod Onward
+-- The rows of a type by their kind (Rows), and what reading a sheet answers (Sheet).
+pub mod Rows
 pub mod Sheet

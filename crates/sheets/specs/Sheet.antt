@@ -1,40 +1,33 @@
--- What reading a sheet answers, as one function of the text.
-use Prim.Native.Nat.{ℕ, _-_}
+-- What reading a sheet answers, as one function of the text, and that no other outcome fits.
+use Prim.Native.Nat.{ℕ}
 use mathlib.Core.List.{List}
-use mathlib.Core.Bool.{true, false}
 use mathlib.Core.Path.{_≡_}
-use lib.ListN.{length}
-use Rattle.forms.specs.Refusal.{tooLong}
+use lib.ListN.{length, replicate}
 use Rattle.model.specs.declared.Tables.{Tables}
 use Rattle.model.specs.declared.Program.{Program}
 use Rattle.model.specs.Empty.{noTables, noProgram}
-use Rattle.reading.specs.Limits.{lengthOk}
-use Rattle.reading.specs.Lines.{Run, on, stop}
 use Rattle.reading.specs.Texts.{sheet}
-use Rattle.sheets.specs.declared.Sheet.{Sheet}
-use Rattle.sheets.specs.declared.SheetRead.{SheetRead}
-use Rattle.sheets.specs.Filled.{Filled, tablesOf}
+use Rattle.runs.specs.declared.Place.{Place}
+use Rattle.runs.specs.Whole.{Whole, whole, beside}
+use Rattle.words.specs.Words.{tablesIn, programIn}
 
--- what was read and the rows f in the lent arrays, as one sheet
-abbrev pub said : SheetRead → Filled → Sheet
-said r f = record { refused = r .refused; place = r .place; tables = tablesOf (r .depth) (r .count) (r .types) f; program = r .program }
+-- the number of the refusal, or 0, the place, the tables and the program: none beside a refusal
+abbrev pub sheetRead : List ℕ → Whole (Tables × Program)
+sheetRead s = whole (noTables, noProgram) sheet s
 
--- nothing is handed out beside a refusal
-abbrev pub refusedSheet : ℕ → ℕ → Sheet
-refusedSheet k at = record { refused = k; place = at; tables = noTables; program = noProgram }
+-- what r and the words of tables and program say together is what reading the text s answers
+abbrev pub Reads : List ℕ → Place → List ℕ → List ℕ → Type 0
+Reads s r ws ps = beside r (tablesIn ws, programIn ps) ≡ sheetRead s
 
--- the place is where the rest starts: the line at fault, or the text's end
-abbrev pub answered : List ℕ → Run (Tables × Program) → Sheet
-answered s (on x r) = record { refused = 0; place = length s - length r; tables = x .0; program = x .1 }
-answered s (stop k r) = refusedSheet k (length s - length r)
+-- as many words as tables and program have
+abbrev pub Full : List ℕ → List ℕ → Type 0
+Full ws ps = (length ws ≡ 2002) × (length ps ≡ 1281)
 
--- "length of the sheet, .. then the sheet's lines"
-unfoldable pub sheetRead : List ℕ → Sheet
-sheetRead s = elim (lengthOk (length s)) [ true ↦ answered s (sheet s) | false ↦ refusedSheet tooLong 0 ]
-
--- no other answer fits the promise; and no other with the rows that stand beside it
+-- no other outcome and no other words fit the promise
 unfoldable pub NoOtherSheet : Type 0
-NoOtherSheet = (s : List ℕ) (r q : Sheet) → r ≡ sheetRead s → q ≡ sheetRead s → r ≡ q
+NoOtherSheet = (s : List ℕ) (r q : Place) (ws vs ps qs : List ℕ) → Full ws ps → Full vs qs → Reads s r ws ps → Reads s q vs qs → (r ≡ q) × (ws ≡ vs) × (ps ≡ qs)
 
-unfoldable pub NoOtherRows : Type 0
-NoOtherRows = (s : List ℕ) (r q : SheetRead) (f g : Filled) → said r f ≡ sheetRead s → said q g ≡ sheetRead s → (r ≡ q) × (f ≡ g)
+-- beside a refusal all words are 0
+unfoldable pub NoWordsLeft : Type 0
+NoWordsLeft = (s : List ℕ) (r : Place) (ws ps : List ℕ) → Full ws ps → Reads s r ws ps → (r .refused ≡ 0 → ⊥)
+    → (ws ≡ replicate 2002 0) × (ps ≡ replicate 1281 0)

@@ -18,7 +18,7 @@ use Rattle.reading.specs.Lines.{Run, on, stop}
 use Rattle.rules.specs.Walk.{walkAnswer}
 use Rattle.judged.specs.Course.{Course, faulty, reached, goOn, defaultDepth, both}
 use Rattle.words.specs.Words.{stateIn}
-use Rattle.word_walks.specs.Reached.{walked}
+use Rattle.walks.specs.Reached.{walked}
 use Rattle.judging.specs.Room.{Short}
 use Rattle.judging.proofs.Order.{long, not-long, TextRead, went, stopped, Told, in-sheet, in-answer, walks, small-number, both-told}
 use Rattle.times.specs.declared.Times.{Times}

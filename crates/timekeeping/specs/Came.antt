@@ -9,7 +9,7 @@ use Rattle.judged.specs.Course.{Course, faulty, reached}
 use Rattle.judged.specs.Judged.{Judgement, inRoom}
 use Rattle.timed.specs.Timed.{markedReport}
 use Rattle.words.specs.Words.{stateIn}
-use Rattle.word_walks.specs.Reached.{walked}
+use Rattle.walks.specs.Reached.{walked}
 use Rattle.clocks.specs.declared.TimedWalk.{TimedWalk}
 use Rattle.timekeeping.specs.declared.TimedOutcome.{TimedOutcome}
 use Rattle.timekeeping.specs.declared.TimedOutcome.the-variants.{InSheet, InAnswer, InTimes, Reached}

@@ -9,7 +9,7 @@ use judging::pairs::Outcome;
 use judging::pairs::read_both;
 use model::Text;
 use timed::Timed;
-use word_walks::Passed;
+use walks::Passed;
 use words::AnswerWords;
 use words::ProgramWords;
 use words::StateWords;

@@ -1,5 +1,3 @@
+-- A step by its verb (Steps), and what is left of a walk (Ahead).
+pub mod Steps
 pub mod Ahead
-pub mod Moves
-pub mod Orders
-pub mod Comes
-pub mod Once

@@ -1,2 +1,2 @@
--- What a step comes to.
-pub mod Plans
+-- What a step and a walk have come to.
+pub mod Reached

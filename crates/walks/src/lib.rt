@@ -1,206 +1,199 @@
-// One step by its verb, and the walk of an answer, to its end or to the first step that the rules forbid.
-// Promised: both are those of rules/specs for every table, program, configuration and answer, past the ends of arrays too.
-mod steps;
-
-use model::ComponentType;
-use model::Configuration;
-use model::Instance;
-use model::Instruction;
-use model::Program;
-use model::Step;
-use model::Stepped;
-use model::Tables;
-use model::Walked;
-use model::depth_of;
-use model::no_instance;
-use model::no_instruction;
-use model::no_type;
-use model::smaller;
-use plans::changes_list;
-use plans::join;
-use plans::turn_slots;
-use steps::plan_step;
-ghost use mathlib.Core.Bool.{cond};
+// One step by its verb, and the walk of an answer, in place.
+// Promised: what each leaves in the state and answers is the step and the walk of rules/specs.
+use instructions::add_check;
+use instructions::add_to;
+use instructions::con_check;
+use instructions::connections::connect;
+use instructions::connections::disconnect;
+use instructions::dcon_check;
+use instructions::del_check;
+use instructions::del_to;
+use instructions::push_to;
+use instructions::pushb_check;
+use instructions::wait_check;
+use moves::end_check;
+use moves::end_to;
+use moves::enter_check;
+use moves::enter_to;
+use moves::finish_check;
+use moves::finish_to;
+use moves::fire_check;
+use moves::fire_to;
+use words::AnswerWords;
+use words::ProgramWords;
+use words::StateWords;
+use words::TableWords;
+use words::answer::step_id;
+use words::answer::step_number;
+use words::answer::step_verb;
+use words::answer::steps;
+use words::program::instruction_id;
+use words::program::instruction_number;
+use words::program::instruction_provideport;
+use words::program::instruction_provider;
+use words::program::instruction_verb;
+use words::program::instructions;
+use words::state::done;
+use words::state::put_done;
 ghost use mathlib.Core.Path.{_≡_};
-ghost use Prim.Native.Nat.{ℕ, min};
-ghost use lib.Dec.{ltb};
-ghost use lib.ListN.{length};
-ghost use Rattle.model.specs.Empty.{noType, noInstruction, absent};
-ghost use Rattle.model.specs.Lent.{answerIn};
+ghost use Prim.Native.Nat.{ℕ, _<_, min};
 ghost use Rattle.model.specs.View.{stepsOf};
-ghost use Rattle.rules.specs.Step.{step};
+ghost use Rattle.rules.specs.Action.{moveAction, actionCheck, effect};
+ghost use Rattle.rules.specs.Step.{actionAt, step};
 ghost use Rattle.rules.specs.Walk.{walk};
-ghost use Rattle.walks.specs.Plans.{whole, actor, doneAfter};
+ghost use Rattle.words.specs.Words.{tablesIn, programIn, answerIn, stateIn};
+ghost use Rattle.words.specs.Parts.{stepOf};
+ghost use Rattle.walks.specs.Reached.{tally, stepped, walked};
 
-// What stands at number i of a list: what was read there, or nothing where i lies past the last and the last was read in its place.
-fn type_in(i: u8, kind: ComponentType) -> ComponentType
-    ensures { λ r. ⌜ r ≡ cond (ltb i 16) kind noType ⌝ }
-{
-    if i < 16 { kind } else { no_type() }
+const NO_INSTRUCTION_LEFT: u32 = 10;
+
+// How far a walk came: the steps allowed, and the number of the refusal, or 0.
+pub struct Passed {
+    pub accepted: u32,
+    pub refused: u32,
 }
 
-fn instance_in(i: u8, v: Instance) -> Instance
-    ensures { λ r. ⌜ r ≡ cond (ltb i 32) v absent ⌝ }
+// The number of a move, by its verb: an unknown one counts as the last.
+fn move_check(tables: &TableWords, state: &StateWords, verb: u32, i: u32, n: u32) -> u32
+    ensures { λ r. ⌜ ((default : ℕ) → r ≡ actionCheck default (tablesIn (now (tables .entry))) (stateIn (now (state .entry))) (moveAction (stepOf verb i n))) ⌝ }
 {
-    if i < 32 { v } else { no_instance() }
-}
-
-fn instruction_in(i: usize, n: Instruction) -> Instruction
-    ensures { λ r. ⌜ r ≡ cond (ltb i 256) n noInstruction ⌝ }
-{
-    if i < 256 { n } else { no_instruction() }
-}
-
-// The instance that a step names: `next` names that of the instruction which is due.
-fn actor(s: Step, due: Instruction) -> u8
-    ensures { λ r. ⌜ r ≡ actor s due ⌝ }
-{
-    if s.verb == 0 { due.id } else { s.id }
-}
-
-// One more after a `next` that had an instruction left.
-fn done_after(s: Step, done: usize, count: usize) -> usize
-    ensures { λ r. ⌜ r ≡ doneAfter s done count ⌝ }
-{
-    if s.verb != 0 {
-        return done;
-    }
-    if done < count { done + 1 } else { done }
-}
-
-fn reached(accepted: usize, refused: u8, configuration: Configuration) -> Walked
-    ensures { λ r. ⌜ r ≡ record { accepted = accepted; refused = refused; configuration = configuration } ⌝ }
-{
-    Walked {
-        accepted,
-        refused,
-        configuration,
+    match verb {
+        1 => fire_check(tables, state, i, n),
+        2 => end_check(state, i, n),
+        3 => enter_check(tables, state, i, n),
+        _ => finish_check(tables, state, i),
     }
 }
 
-// How many steps there are, where `count` were written: no more than the arrays hold, whose lengths are learnt where they are lent as slices.
-fn step_count(verbs: &[u8], ids: &[u8], numbers: &[u8], count: usize) -> usize
-    ensures { λ r. ⌜ r ≡ min count (min (length (now (verbs .entry))) (min (length (now (ids .entry))) (length (now (numbers .entry))))) ⌝ }
+fn move_to(tables: &TableWords, state: &mut StateWords, verb: u32, i: u32, n: u32)
+    ensures { λ r. ⌜ stateIn (now (state .exit)) ≡ effect (tablesIn (now (tables .entry))) (stateIn (now (state .entry))) (moveAction (stepOf verb i n)) ⌝ }
 {
-    smaller(
-        count,
-        smaller(verbs.len(), smaller(ids.len(), numbers.len())),
-    )
-}
-
-// The walk of an answer from a configuration. A step changes the configuration in place: to hand it on would be to copy it.
-pub fn walk<'a>(
-    default: u8,
-    own: u8,
-    types: [ComponentType; 16],
-    source: &'a [u8; 512],
-    destination: &'a [u8; 512],
-    behaviors: &'a [u32; 128],
-    uses: &'a [u8; 256],
-    places: &'a [u32; 256],
-    transitions: &'a [u32; 256],
-    p: Program,
-    c: Configuration,
-    verbs: &'a [u8; 1024],
-    ids: &'a [u8; 1024],
-    numbers: &'a [u8; 1024],
-    count: usize,
-) -> Walked
-    ensures { λ r. ⌜ ((known : ℕ) → r ≡ walk default (whole own known types (now (source .entry)) (now (destination .entry)) (now (behaviors .entry)) (now (uses .entry)) (now (places .entry)) (now (transitions .entry))) p c (stepsOf (answerIn count (now (verbs .entry)) (now (ids .entry)) (now (numbers .entry))))) ⌝ }
-{
-    let n = step_count(verbs, ids, numbers, count);
-    let depth = depth_of(default, own);
-    let mut now = c;
-    let mut i: usize = 0;
-    while i < n {
-        let s = Step {
-            verb: verbs[i],
-            id: ids[i],
-            number: numbers[i],
-        };
-        let done = now.done;
-        let due = instruction_in(done, p.instructions[smaller(done, 255)]);
-        let id = actor(s, due);
-        let at = id as usize;
-        let v = instance_in(id, now.instances[smaller(at, 31)]);
-        let w = instance_in(
-            due.provider,
-            now.instances[smaller(due.provider as usize, 31)],
-        );
-        let kind = type_in(v.kind, types[smaller(v.kind as usize, 15)]);
-        let instances = now.instances;
-        let connections = now.connections;
-        let plan = plan_step(
-            depth,
-            types,
-            kind,
-            source,
-            destination,
-            behaviors,
-            uses,
-            places,
-            transitions,
-            instances,
-            &now.queue,
-            connections,
-            now.count,
-            s,
-            done < p.count,
-            due,
-            v,
-            w,
-        );
-        if plan.refused != 0 {
-            return reached(i, plan.refused, now);
-        }
-        let slots = plan.slots;
-        turn_slots(&mut now.queue, id, slots);
-        if at < 32 {
-            let after = plan.after;
-            now.instances[at] = after;
-        }
-        let joins = plan.joins;
-        if changes_list(joins) {
-            let old = now.connections;
-            let list = join(old, now.count, joins);
-            let changed = list.connections;
-            now.connections = changed;
-            now.count = list.count;
-        }
-        now.done = done_after(s, done, p.count);
-        i += 1;
+    match verb {
+        1 => fire_to(tables, state, i, n),
+        2 => end_to(state, i, n),
+        3 => enter_to(tables, state, i, n),
+        _ => finish_to(state, i),
     }
-    reached(i, 0, now)
 }
 
-// One step is the walk of an answer that has this step alone.
-pub fn step(default: u8, t: Tables, p: Program, c: Configuration, s: Step) -> Stepped
-    ensures { λ r. ⌜ r ≡ step default t p c s ⌝ }
+// The number of instruction n, by its verb: an unknown one counts as the last. Where it is 0 there is room for one more.
+fn line_check(
+    default: u32,
+    tables: &TableWords,
+    program: &ProgramWords,
+    state: &StateWords,
+    n: u32,
+) -> u32
+    ensures value { λ r. ⌜ r ≡ actionCheck default (tablesIn (now (tables .entry))) (stateIn (now (state .entry)))
+        (actionAt (programIn (now (program .entry))) n) ⌝ }
+    ensures room { λ r. ⌜ (r ≡ 0 → tally (stateIn (now (state .entry))) (actionAt (programIn (now (program .entry))) n) < 4294967295) ⌝ }
 {
-    let types = t.types;
-    let verbs = [s.verb; 1024];
-    let ids = [s.id; 1024];
-    let numbers = [s.number; 1024];
-    let w = walk(
-        default,
-        t.depth,
-        types,
-        &t.transitions.source,
-        &t.transitions.destination,
-        &t.behaviors,
-        &t.ports.uses,
-        &t.ports.places,
-        &t.ports.transitions,
-        p,
-        c,
-        &verbs,
-        &ids,
-        &numbers,
-        1,
-    );
-    let configuration = w.configuration;
-    Stepped {
-        refused: w.refused,
-        configuration,
+    let v = instruction_verb(program, n);
+    let i = instruction_id(program, n);
+    let m = instruction_number(program, n);
+    let w = instruction_provider(program, n);
+    let q = instruction_provideport(program, n);
+    match v {
+        0 => add_check(state, i),
+        1 => del_check(state, i),
+        2 => pushb_check(default, tables, state, i, m),
+        3 => con_check(tables, state, i, m, w, q),
+        4 => dcon_check(tables, state, i, m, w, q),
+        _ => wait_check(state, i),
+    }
+}
+
+fn line_to(tables: &TableWords, program: &ProgramWords, state: &mut StateWords, n: u32)
+    ensures { λ r. ⌜ (tally (stateIn (now (state .entry))) (actionAt (programIn (now (program .entry))) n) < 4294967295
+        → stateIn (now (state .exit)) ≡ effect (tablesIn (now (tables .entry))) (stateIn (now (state .entry)))
+        (actionAt (programIn (now (program .entry))) n)) ⌝ }
+{
+    let v = instruction_verb(program, n);
+    let i = instruction_id(program, n);
+    let m = instruction_number(program, n);
+    let w = instruction_provider(program, n);
+    let q = instruction_provideport(program, n);
+    match v {
+        0 => add_to(tables, state, i, m),
+        1 => del_to(state, i),
+        2 => push_to(state, i, m),
+        3 => connect(state, i, m, w, q),
+        4 => disconnect(state, i, m, w, q),
+        _ => {}
+    }
+}
+
+// One step: the number of its refusal and nothing changed, or 0 and what it changes.
+pub fn step(
+    default: u32,
+    tables: &TableWords,
+    program: &ProgramWords,
+    state: &mut StateWords,
+    verb: u32,
+    i: u32,
+    n: u32,
+) -> u32
+    ensures { λ r. ⌜ stepped r (stateIn (now (state .exit)))
+        ≡ step default (tablesIn (now (tables .entry))) (programIn (now (program .entry))) (stateIn (now (state .entry))) (stepOf verb i n) ⌝ }
+{
+    if verb != 0 {
+        let refused = move_check(tables, state, verb, i, n);
+        if refused != 0 {
+            return refused;
+        }
+        move_to(tables, state, verb, i, n);
+        return 0;
+    }
+    let at = done(state);
+    if instructions(program) <= at {
+        return NO_INSTRUCTION_LEFT;
+    }
+    let refused = line_check(default, tables, program, state, at);
+    if refused != 0 {
+        return refused;
+    }
+    line_to(tables, program, state, at);
+    put_done(state, at + 1);
+    0
+}
+
+// How many steps there are: no more than the array holds.
+pub fn step_count(answer: &AnswerWords) -> u32
+    ensures { λ r. ⌜ r ≡ min (answerIn (now (answer .entry)) .count) 1024 ⌝ }
+{
+    let n = steps(answer);
+    if n < 1024 { n } else { 1024 }
+}
+
+// The walk of an answer, to its end or to the first step that the rules forbid.
+pub fn walk(
+    default: u32,
+    tables: &TableWords,
+    program: &ProgramWords,
+    answer: &AnswerWords,
+    state: &mut StateWords,
+) -> Passed
+    ensures { λ r. ⌜ walked r (stateIn (now (state .exit)))
+        ≡ walk default (tablesIn (now (tables .entry))) (programIn (now (program .entry))) (stateIn (now (state .entry)))
+        (stepsOf (answerIn (now (answer .entry)))) ⌝ }
+{
+    let n = step_count(answer);
+    let mut k: u32 = 0;
+    while k < n {
+        let verb = step_verb(answer, k);
+        let i = step_id(answer, k);
+        let number = step_number(answer, k);
+        let refused = step(default, tables, program, state, verb, i, number);
+        if refused != 0 {
+            return Passed {
+                accepted: k,
+                refused,
+            };
+        }
+        k += 1;
+    }
+    Passed {
+        accepted: k,
+        refused: 0,
     }
 }

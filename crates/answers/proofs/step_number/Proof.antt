@@ -23,20 +23,17 @@ returns-2 c =
 returns-3 : tie.Need-returns-3
 unfolding stepNumber
 returns-3 c =
-    let h = told twoSays _ (c .before .before .before .before .before .before .two-numbers .ensures) (c .before .before .before .before .a .given .1) in
-    let b = lt-leb _ _ (rw (c .before .wide .ensures) at (c .if2 .taken)) in
-    record { within = zero-le; same = sym (rw (sym (h .same), le-leb _ _ (c .before .before .if1 .left), b, stepNumber)) }
+    let h = told twoSays _ (c .before .before .before .before .before .two-numbers .ensures) (c .before .before .before .a .given .1) in
+    let b = lt-leb _ _ (c .if2 .taken) in
+    record { within = zero-le; same = sym (rw (sym (h .same), le-leb _ _ (c .before .if1 .left), b, stepNumber)) }
 
 returns-4 : tie.Need-returns-4
 unfolding stepNumber
 returns-4 c =
-    let h = told twoSays _ (c .before .before .before .before .before .before .two-numbers .ensures) (c .before .before .before .before .a .given .1) in
-    let b = le-leb _ _ (rw (c .before .wide .ensures) at (c .if2 .left)) in
-    record { within = h .within; same = sym (rw (sym (h .same), le-leb _ _ (c .before .before .if1 .left), b, stepNumber)) }
+    let h = told twoSays _ (c .before .before .before .before .before .two-numbers .ensures) (c .before .before .before .a .given .1) in
+    let b = le-leb _ _ (c .if2 .left) in
+    record { within = h .within; same = sym (rw (sym (h .same), le-leb _ _ (c .before .if1 .left), b, stepNumber)) }
 
 pub step-number-spec : {M : Type 1} → statement M
 step-number-spec =
-    tie.close
-    (tie.spec
-    (λ c κs. search needs) (λ c. search needs) (λ c. search needs) returns returns-2 (λ c κs. search needs) returns-3
-    (λ c. search needs) (λ c. search needs) returns-4)
+    tie.close (tie.spec (λ c κs. search needs) (λ c. search needs) (λ c. search needs) returns returns-2 returns-3 returns-4)

@@ -2,7 +2,7 @@ use mathlib.Core.Path.{_≡_}
 use Rattle.model.specs.declared.Text.the-variants as text
 use Rattle.judged.specs.Course.{reached, course}
 use Rattle.words.specs.Words.{stateIn}
-use Rattle.word_walks.specs.Reached.{walked}
+use Rattle.walks.specs.Reached.{walked}
 use Rattle.judging.proofs.Judgement.{fault-judges, walk-judges, fault-places, walk-places}
 use Rattle.judging.proofs.Order.{reached-short}
 use borrow.Author.Needs.{needs}

@@ -6,7 +6,7 @@ use Rattle.inks.proofs.Laws.{fits-all}
 use borrow.Author.Tests.{not-true, not-false, leb-true}
 use Rattle.judged.specs.Judged.{noRoom, afterWalk, inRoom, over}
 use Rattle.words.specs.Words.{stateIn}
-use Rattle.word_walks.specs.Reached.{walked}
+use Rattle.walks.specs.Reached.{walked}
 use Rattle.verdicts.proofs.InRoom.{fits-place, size-verdict}
 use Rattle.judging.specs.Came.{reportIn}
 use Rattle.judging.proofs.Room.{fits-told}

@@ -3,7 +3,7 @@ use Rattle.model.specs.declared.Text.the-variants as text
 use Rattle.report.specs.Report.{report}
 use Rattle.judged.specs.Course.{reached, course}
 use Rattle.words.specs.Words.{stateIn}
-use Rattle.word_walks.specs.Reached.{walked}
+use Rattle.walks.specs.Reached.{walked}
 use Rattle.verdicts.proofs.InRoom.{fits-place}
 use Rattle.judging.proofs.Judgement.{fault-places, walk-places}
 use Rattle.judging.proofs.Order.{reached-short}

@@ -17,17 +17,14 @@ returns-2 : tie.Need-returns-2
 unfolding rowLine behaviorLine
 returns-2 c =
     let h = told listSays _ (c .before .before .before .before .before .list-line .ensures) (c .before .before .before .mask .given .1) in
-    form-fault _ _ (whole-line _ _ _ (limit-fault _ _ h (rw (lt-leb _ _ (rw (c .before .wide .ensures) at (c .if1 .taken))))))
+    form-fault _ _ (whole-line _ _ _ (limit-fault _ _ h (rw (lt-leb _ _ (c .if1 .taken)))))
 
 returns-3 : tie.Need-returns-3
 unfolding rowLine behaviorLine
 returns-3 c =
     let h = told listSays _ (c .before .before .before .before .before .list-line .ensures) (c .before .before .before .mask .given .1) in
-    limit-kept _ _ (whole-line _ _ _ (limit-kept _ _ h (rw (le-leb _ _ (rw (c .before .wide .ensures) at (c .if1 .left)))))) refl
+    limit-kept _ _ (whole-line _ _ _ (limit-kept _ _ h (rw (le-leb _ _ (c .if1 .left))))) refl
 
 pub behavior-line-spec : {M : Type 1} → statement M
 behavior-line-spec =
-    tie.close
-    (tie.spec
-    (λ c. search needs) (λ c κs. search needs) (λ c. search needs) (λ c. search needs) returns (λ c κs. search needs) returns-2
-    returns-3)
+    tie.close (tie.spec (λ c. search needs) (λ c κs. search needs) (λ c. search needs) (λ c. search needs) returns returns-2 returns-3)

@@ -14,26 +14,23 @@ returns c = whole-line _ _ _ (form-fault _ _ (told listSays _ (c .before .before
 returns-2 : tie.Need-returns-2
 unfolding initialLine
 returns-2 c =
-    let h = told listSays _ (c .before .before .before .before .before .list-line .ensures) (c .before .before .before .mask .given .1) in
-    whole-line _ _ _ (limit-fault _ _ h (rw (lt-leb _ _ (rw (c .before .wide .ensures) at (c .if1 .taken)))))
+    let h = told listSays _ (c .before .before .before .before .list-line .ensures) (c .before .before .mask .given .1) in
+    whole-line _ _ _ (limit-fault _ _ h (rw (lt-leb _ _ (c .if1 .taken))))
 
 returns-3 : tie.Need-returns-3
 unfolding initialLine
 returns-3 c =
-    let h = told listSays _ (c .before .before .before .before .before .before .list-line .ensures) (c .before .before .before .before .mask .given .1) in
-    let l = le-leb _ _ (rw (c .before .before .wide .ensures) at (c .before .if1 .left)) in
+    let h = told listSays _ (c .before .before .before .before .before .list-line .ensures) (c .before .before .before .mask .given .1) in
+    let l = le-leb _ _ (c .before .if1 .left) in
     whole-line _ _ _ (limit-fault _ _ h (rw (l, eq-eqb _ _ (c .if2 .taken))))
 
 returns-4 : tie.Need-returns-4
 unfolding initialLine
 returns-4 c =
-    let h = told listSays _ (c .before .before .before .before .before .before .list-line .ensures) (c .before .before .before .before .mask .given .1) in
-    let l = le-leb _ _ (rw (c .before .before .wide .ensures) at (c .before .if1 .left)) in
+    let h = told listSays _ (c .before .before .before .before .before .list-line .ensures) (c .before .before .before .mask .given .1) in
+    let l = le-leb _ _ (c .before .if1 .left) in
     whole-line _ _ _ (limit-kept _ _ h (rw (l, ne-eqb _ _ (c .if2 .left))))
 
 pub initial-line-spec : {M : Type 1} → statement M
 initial-line-spec =
-    tie.close
-    (tie.spec
-    (λ c. search needs) (λ c κs. search needs) (λ c. search needs) (λ c. search needs) returns (λ c κs. search needs) returns-2
-    returns-3 returns-4)
+    tie.close (tie.spec (λ c. search needs) (λ c κs. search needs) (λ c. search needs) (λ c. search needs) returns returns-2 returns-3 returns-4)

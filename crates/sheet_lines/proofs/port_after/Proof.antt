@@ -17,36 +17,33 @@ returns c = form-fault _ _ (form-fault _ _ (told listsSays _ (c .before .before 
 returns-2 : tie.Need-returns-2
 unfolding portAfter group
 returns-2 c =
-    let h = told listsSays _ (c .before .before .before .before .before .before .two-lists .ensures) (c .before .before .before .before .places .given .1) in
-    form-fault _ _ (limit-fault _ _ h (rw (lt-leb _ _ (rw (c .before .before .wide .ensures) at (c .if1 .taken)))))
+    let h = told listsSays _ (c .before .before .before .before .before .two-lists .ensures) (c .before .before .before .places .given .1) in
+    form-fault _ _ (limit-fault _ _ h (rw (lt-leb _ _ (c .if1 .taken))))
 
 returns-3 : tie.Need-returns-3
 unfolding portAfter group
 returns-3 c =
     let h = told listsSays _ (c .before .before .before .before .before .before .before .two-lists .ensures) (c .before .before .before .before .before .places .given .1) in
-    let a = le-leb _ _ (rw (c .before .before .before .wide .ensures) at (c .before .if1 .left)) in
-    let b = lt-leb _ _ (rw (c .before .before .wide2 .ensures) at (c .if2 .taken)) in
+    let a = le-leb _ _ (c .before .before .if1 .left) in
+    let b = lt-leb _ _ (c .if2 .taken) in
     form-fault _ _ (limit-fault _ _ h (rw (a, b)))
 
 returns-4 : tie.Need-returns-4
 unfolding portAfter
 returns-4 c =
     let h = told listsSays _ (c .before .before .before .before .before .before .before .before .before .two-lists .ensures) (c .before .before .before .before .before .before .before .places .given .1) in
-    let a = le-leb _ _ (rw (c .before .before .before .before .before .wide .ensures) at (c .before .before .before .if1 .left)) in
-    let b = le-leb _ _ (rw (c .before .before .before .before .wide2 .ensures) at (c .before .before .if2 .left)) in
+    let a = le-leb _ _ (c .before .before .before .before .if1 .left) in
+    let b = le-leb _ _ (c .before .before .if2 .left) in
     limit-fault _ _ (group-kept _ _ _ _ h a b) (rw (sym (c .before .overlaps .ensures) ∙ c .if3 .taken))
 
 returns-5 : tie.Need-returns-5
 unfolding portAfter
 returns-5 c =
     let h = told listsSays _ (c .before .before .before .before .before .before .before .before .before .two-lists .ensures) (c .before .before .before .before .before .before .before .places .given .1) in
-    let a = le-leb _ _ (rw (c .before .before .before .before .before .wide .ensures) at (c .before .before .before .if1 .left)) in
-    let b = le-leb _ _ (rw (c .before .before .before .before .wide2 .ensures) at (c .before .before .if2 .left)) in
+    let a = le-leb _ _ (c .before .before .before .before .if1 .left) in
+    let b = le-leb _ _ (c .before .before .if2 .left) in
     limit-kept _ _ (group-kept _ _ _ _ h a b) (rw (sym (c .before .overlaps .ensures) ∙ c .if3 .left))
 
 pub port-after-spec : {M : Type 1} → statement M
 port-after-spec =
-    tie.close
-    (tie.spec
-    (λ c κs. search needs) (λ c. search needs) (λ c. search needs) returns (λ c κs. search needs) (λ c κs. search needs) returns-2
-    returns-3 (λ c κs. search needs) returns-4 returns-5)
+    tie.close (tie.spec (λ c κs. search needs) (λ c. search needs) (λ c. search needs) returns returns-2 returns-3 (λ c κs. search needs) returns-4 returns-5)

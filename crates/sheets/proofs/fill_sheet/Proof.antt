@@ -1,16 +1,17 @@
+use Rattle.model.specs.Empty.{noTables, noProgram}
+use Rattle.reading.specs.Texts.{sheet}
+use Rattle.runs.proofs.Chain.{came-refused, came-read}
 use borrow.Author.Needs.{needs}
-use Rattle.sheets.proofs.Answer.{rows-kept, rows-cleared}
 use Rattle.sheets.proofs.fill_sheet.Statement.{statement}
 use Rattle.sheets.proofs.fill_sheet.Tie as tie
 
 returns : tie.Need-returns
 returns c =
-    let refused = c .before .before .before .before .before .before .before in
-    let read = refused .before .before .read-lines in
-    rows-cleared (read .result) _ (read .ensures) (refused .if1 .taken) (c .clear2 .ensures)
+    rw (c .came-to .ensures, c .before .clear-program .ensures, c .before .before .before .clear-tables .ensures)
+    (came-refused (noTables, noProgram) sheet _ (c .before .before .before .before .before .before .before .read-lines .ensures) (c .before .before .before .before .before .enum-told2 .given .1))
 
 returns-2 : tie.Need-returns-2
-returns-2 c = let read = c .before .before .read-lines in rows-kept (read .result) _ (read .ensures) (c .if1 .left)
+returns-2 c = rw (c .came-to2 .ensures) (came-read (noTables, noProgram) sheet _ (c .before .before .before .read-lines .ensures) (c .before .enum-told .given .1))
 
 pub fill-sheet-spec : {M : Type 1} → statement M
-fill-sheet-spec = tie.close (tie.spec (λ c κs. search needs) (λ c κs. search needs) (λ c κs. search needs) returns returns-2)
+fill-sheet-spec = tie.close (tie.spec (λ c κs. search needs) (λ c. search needs) (λ c. search needs) (λ c κs. search needs) (λ c κs. search needs) (λ c κs. search needs) returns (λ c κs. search needs) returns-2)

@@ -5,7 +5,7 @@ use borrow.Author.Tests.{not-true, not-false, leb-true}
 use Rattle.inks.proofs.Laws.{fits-all}
 use Rattle.judged.specs.Judged.{noRoom, afterWalk, inRoom, over}
 use Rattle.words.specs.Words.{stateIn}
-use Rattle.word_walks.specs.Reached.{walked}
+use Rattle.walks.specs.Reached.{walked}
 use Rattle.verdicts.proofs.InRoom.{size-verdict}
 use Rattle.judging.proofs.Room.{fits-told}
 use Rattle.timed.specs.Timed.{markInRoom}

@@ -3,7 +3,7 @@ use Rattle.model.specs.declared.Text.the-variants as text
 use Rattle.judged.specs.Course.{reached}
 use Rattle.judged.specs.Judged.{afterFault}
 use Rattle.words.specs.Words.{stateIn}
-use Rattle.word_walks.specs.Reached.{walked}
+use Rattle.walks.specs.Reached.{walked}
 use Rattle.timed.specs.Timed.{timedCourse}
 use Rattle.timekeeping.proofs.Order.{marked-short}
 use Rattle.timekeeping.proofs.Timing.{fault-answers, walk-answers}

@@ -2,7 +2,7 @@ use mathlib.Core.Path.{_≡_, refl}
 use Rattle.model.specs.declared.Text.the-variants as text
 use Rattle.judged.specs.Course.{reached}
 use Rattle.words.specs.Words.{stateIn}
-use Rattle.word_walks.specs.Reached.{walked}
+use Rattle.walks.specs.Reached.{walked}
 use Rattle.verdicts.proofs.InRoom.{fits-place}
 use Rattle.judging.proofs.Room.{fits-told}
 use Rattle.timed.specs.Timed.{timedCourse}

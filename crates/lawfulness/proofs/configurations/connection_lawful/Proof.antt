@@ -2,7 +2,7 @@ use mathlib.Core.Path.{_≡_}
 use Rattle.model.specs.declared.Connection.{Connection}
 use Rattle.model.specs.View.{connection}
 use Rattle.words.specs.Words.{stateIn}
-use Rattle.word_instructions.specs.Queries.{asks, someBefore}
+use Rattle.instructions.specs.Queries.{asks, someBefore}
 use Rattle.lawfulness.specs.Lawful.{connectedBefore, connectionLawful}
 use borrow.Author.Needs.{needs}
 use Rattle.lawfulness.proofs.configurations.connection_lawful.Statement.{statement}

@@ -1,19 +1,20 @@
 use mathlib.Core.Path.{_≡_, sym, ap, _∙_}
 use mathlib.Core.Logic.{⊎-elim}
 use Prim.Native.Nat.{_≤_, _-_}
-use borrow.Author.Needs.{needs}
 use Rattle.sets.specs.Mask.{collect, with}
 use Rattle.sets.proofs.Laws.{gather-start, gather-in, gather-out, gather-end}
 use Rattle.rules.specs.Instance.{endsAt}
-use Rattle.ports.specs.Rows.{endOf}
+use Rattle.words.specs.Words.{tablesIn}
+use Rattle.ports.specs.Tests.{endOf}
+use borrow.Author.Needs.{needs}
 use Rattle.ports.proofs.instance.ending_at.Statement.{statement}
 use Rattle.ports.proofs.instance.ending_at.Tie as tie
 
 abbrev Inv-loop : tie.InvT-loop
-Inv-loop ends kind m p xs₀ x₀ xs x = (x ≤ 32) × (xs ≡ collect x (endsAt (endOf ends kind) m p))
+Inv-loop tables out k m p xs₀ x₀ xs x = (x ≤ 32) × (xs ≡ collect x (endsAt (endOf (tablesIn tables) out k) m p))
 
 abbrev μ-loop : tie.MeasureT-loop
-μ-loop ends kind m p xs₀ x₀ xs x = 32 - x
+μ-loop tables out k m p xs₀ x₀ xs x = 32 - x
 
 loop-holds : tie.Need-loop-holds Inv-loop μ-loop
 loop-holds c = (search needs, gather-start _)
@@ -32,7 +33,4 @@ returns : tie.Need-returns Inv-loop μ-loop
 returns c = c .before .loop .inv .1 ∙ gather-end 32 (c .before .loop .x) _ (c .before .loop .inv .0) (c .loop-test .left)
 
 pub ending-at-spec : {M : Type 1} → statement M
-ending-at-spec =
-    tie.close
-    (tie.spec
-    Inv-loop μ-loop loop-holds (λ c κs. search needs) (λ c κs. search needs) (λ c. search needs) (λ c. search needs) loop-again returns)
+ending-at-spec = tie.close (tie.spec Inv-loop μ-loop loop-holds (λ c κs. search needs) (λ c κs. search needs) (λ c. search needs) (λ c. search needs) loop-again returns)

@@ -1,0 +1,19 @@
+use Rattle.reading.specs.Texts.{answer}
+use Rattle.runs.specs.Chain.{shortly}
+use Rattle.runs.proofs.Chain.{run-after, after-then, after-give}
+use borrow.Author.Needs.{needs}
+use Rattle.answers.proofs.read_lines.Statement.{statement}
+use Rattle.answers.proofs.read_lines.Tie as tie
+
+returns : tie.Need-returns
+unfolding shortly answer
+returns c =
+    run-after _ _ (c .before .before .before .before .before .before .before .before .before .length-run .ensures)
+    (after-then _ _ (c .before .before .before .before .before .before .before .then-due .ensures)
+    (after-then _ _ (c .before .before .before .before .before .then-number .ensures .0)
+    (after-then _ _ (rw (c .before .before .before .start-answer .ensures) at (c .before .then-steps .ensures))
+    (after-give _ _ (c .then-end .ensures)))))
+
+pub read-lines-spec : {M : Type 1} → statement M
+read-lines-spec =
+    tie.close (tie.spec (λ c κs. search needs) (λ c. search needs) (λ c κs. search needs) (λ c. search needs) (λ c κs. search needs) (λ c κs. search needs) (λ c κs. search needs) (λ c κs. search needs) returns)

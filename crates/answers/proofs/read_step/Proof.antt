@@ -1,0 +1,30 @@
+use mathlib.Core.Path.{refl}
+use native.Mathlib.Omega.{arith}
+use Rattle.runs.proofs.Laws.{put-line, put-refused}
+use Rattle.reading.specs.Kinds.{stepLine}
+use Rattle.reading.specs.Fill.{withStep}
+use Rattle.reading.specs.Texts.{stepAt}
+use Rattle.words.specs.Words.{answerIn}
+use Rattle.answers.specs.Says.{stepSays}
+use borrow.Author.Needs.{needs}
+use Rattle.answers.proofs.read_step.Statement.{statement}
+use Rattle.answers.proofs.read_step.Tie as tie
+
+returns : tie.Need-returns
+unfolding stepAt
+returns c =
+    let a = c .before .before .before .before .before .before .before .args in
+    put-refused stepSays stepLine (withStep (answerIn (a .answer .now)) (a .n)) _ _ _ (c .before .before .before .before .before .place-in .ensures) _ (c .before .before .before .step-line .ensures) (c .before .enum-told .given .1) refl
+    (c .step-refusal .ensures)
+
+returns-2 : tie.Need-returns-2
+unfolding stepAt
+returns-2 c =
+    let a = c .before .before .before .before .before .before .before .before .before .args in
+    rw (c .put-step .ensures)
+    (put-line stepSays stepLine (withStep (answerIn (a .answer .now)) (a .n)) _ _ _ (c .before .before .before .before .before .before .before .place-in .ensures) _ (c .before .before .before .before .before .step-line .ensures) (c .before .before .before .line .given .1) refl)
+
+pub read-step-spec : {M : Type 1} → statement M
+read-step-spec =
+    tie.close
+    (tie.spec (λ c κs. search needs) (λ c. search needs) (λ c. search needs) (λ c. search needs) (λ c κs. search needs) (λ c. search needs) (λ c. search needs) (λ c κs. search needs) returns (λ c κs. search needs) (λ c. omega (arith, returns-2 c .within)) returns-2)

@@ -1,0 +1,14 @@
+use Rattle.rules.specs.Finish.{finishRow, finishCheck}
+use borrow.Author.Needs.{needs}
+use Rattle.moves.proofs.finish_check.Statement.{statement}
+use Rattle.moves.proofs.finish_check.Tie as tie
+
+returns : tie.Need-returns
+unfolding finishCheck finishRow
+returns c =
+    let h = c .before .before in
+    let l = h .before in
+    rw (← l .before .behavior .ensures, ← l .some-leaver .ensures, ← h .held .ensures, ← c .before .refuse-if .ensures) (c .first .ensures)
+
+pub finish-check-spec : {M : Type 1} → statement M
+finish-check-spec = tie.close (tie.spec (λ c κs. search needs) (λ c κs. search needs) (λ c κs. search needs) (λ c κs. search needs) (λ c κs. search needs) returns)

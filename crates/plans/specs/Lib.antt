@@ -1,2 +1,0 @@
--- What a plan changes.
-pub mod Changes

@@ -1,2 +1,0 @@
--- That no other answer fits the promises (Once).
-pub mod Once

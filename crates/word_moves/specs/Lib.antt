@@ -1,2 +1,0 @@
--- The checks that the moves share.
-pub mod Rows

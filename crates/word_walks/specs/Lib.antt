@@ -1,2 +1,0 @@
--- What a step and a walk have come to.
-pub mod Reached
