@@ -16,6 +16,7 @@ use words::AnswerWords;
 ghost use mathlib.Core.Path.{_≡_};
 ghost use lib.ListN.{drop};
 ghost use Rattle.texts.specs.Reads.{Reads, refusal};
+ghost use Rattle.model.specs.Empty.{noAnswer};
 ghost use Rattle.reading.specs.Lines.{each};
 ghost use Rattle.reading.specs.Kinds.{stepId, stepNumber, stepLine};
 ghost use Rattle.reading.specs.Texts.{stepAt};
@@ -148,14 +149,15 @@ fn then_steps(text: &[u8], count: NumberRead, answer: &mut AnswerWords) -> Lines
     LinesRead { went, at }
 }
 
-// The lines of an answer, up to the text's end.
+// The lines of an answer, up to the text's end, into words that say none.
 fn read_lines(text: &[u8], answer: &mut AnswerWords) -> LinesRead
+    requires { ⌜ answerIn (now answer) ≡ noAnswer ⌝ }
     ensures { λ r. ⌜ RunsTo (now (text .entry)) (r .went) (r .at) (answerIn (now (answer .exit))) (answerLines (now (text .entry))) ⌝ }
 {
     let length = runs::length_run(text);
     let first = runs::then_due(text, length, b"answer=", 1);
     let count = runs::then_number(text, first, b"steps=", Limit::Steps);
-    words::answer::start_answer(answer, count.number);
+    words::answer::put_steps(answer, count.number);
     let steps = then_steps(text, count, answer);
     runs::then_end(text, steps)
 }
@@ -164,6 +166,7 @@ fn read_lines(text: &[u8], answer: &mut AnswerWords) -> LinesRead
 pub fn fill_answer(text: &[u8], answer: &mut AnswerWords) -> Place
     ensures { λ r. ⌜ beside r (answerIn (now (answer .exit))) ≡ answerRead (now (text .entry)) ⌝ }
 {
+    words::answer::clear_answer(answer);
     let read = read_lines(text, answer);
     let went = read.went;
     let Went::On = went else {

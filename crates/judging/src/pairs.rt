@@ -114,11 +114,11 @@ pub(crate) struct Came {
 pub(crate) fn walk_texts(sheet: &[u8], answer: &[u8], state: &mut StateWords) -> Came
     ensures { λ r. ⌜ came (r .outcome) (walked (r .passed) (stateIn (now (state .exit)))) ≡ course (now (sheet .entry)) (now (answer .entry)) ⌝ }
 {
+    clear_state(state);
     let mut tables = [0u32; 2002];
     let mut program = [0u32; 1281];
     let mut steps = [0u32; 3073];
     let outcome = read_both(sheet, answer, &mut tables, &mut program, &mut steps);
-    clear_state(state);
     let passed = walks::walk(DEFAULT_DEPTH as u32, &tables, &program, &steps, state);
     Came { outcome, passed }
 }

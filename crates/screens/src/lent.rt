@@ -3,7 +3,7 @@ use words::ProgramWords;
 use words::StateWords;
 use words::TableWords;
 use words::program::put_instruction;
-use words::program::start_program;
+use words::program::put_instructions;
 use words::state::clear_state;
 use words::state::put_bare;
 use words::state::put_connection;
@@ -14,9 +14,9 @@ use words::state::put_sets;
 use words::state::put_slot;
 use words::tables::put_behavior;
 use words::tables::put_ends;
+use words::tables::put_head;
 use words::tables::put_port;
 use words::tables::put_type;
-use words::tables::start_tables;
 ghost use Prim.Native.Nat.{_≤_, _<_};
 
 pub const BYTES: usize = 6254;
@@ -83,7 +83,7 @@ fn fill_row(tables: &mut TableWords, bytes: &[u8; BYTES], j: u32)
 }
 
 pub(crate) fn fill_tables(tables: &mut TableWords, bytes: &[u8; BYTES]) {
-    start_tables(tables, byte_at(bytes, 0), byte_at(bytes, 1));
+    put_head(tables, byte_at(bytes, 0), byte_at(bytes, 1));
     for j in 0..512u32 {
         fill_row(tables, bytes, j);
     }
@@ -102,7 +102,7 @@ fn fill_instruction(program: &mut ProgramWords, bytes: &[u8; BYTES], n: u32)
 }
 
 pub(crate) fn fill_program(program: &mut ProgramWords, bytes: &[u8; BYTES]) {
-    start_program(program, mask_at(bytes, 5250));
+    put_instructions(program, mask_at(bytes, 5250));
     for n in 0..256u32 {
         fill_instruction(program, bytes, n);
     }

@@ -13,6 +13,7 @@ use types::then_types;
 use words::ProgramWords;
 use words::TableWords;
 ghost use mathlib.Core.Path.{_≡_};
+ghost use Rattle.model.specs.Empty.{noTables, noProgram};
 ghost use Rattle.reading.specs.Texts.{sheet};
 ghost use Rattle.lines.specs.Runs.{RunsTo};
 ghost use Rattle.runs.specs.Chain.{shortly};
@@ -20,8 +21,10 @@ ghost use Rattle.runs.specs.Whole.{beside};
 ghost use Rattle.words.specs.Words.{tablesIn, programIn};
 ghost use Rattle.sheets.specs.Sheet.{sheetRead};
 
-// The lines of a sheet, up to the text's end.
+// The lines of a sheet, up to the text's end, into words that say none.
 fn read_lines(text: &[u8], tables: &mut TableWords, program: &mut ProgramWords) -> LinesRead
+    requires { ⌜ tablesIn (now tables) ≡ noTables ⌝ }
+    requires { ⌜ programIn (now program) ≡ noProgram ⌝ }
     ensures { λ r. ⌜ RunsTo (now (text .entry)) (r .went) (r .at) (tablesIn (now (tables .exit)), programIn (now (program .exit)))
         (shortly sheet (now (text .entry))) ⌝ }
 {
@@ -29,10 +32,10 @@ fn read_lines(text: &[u8], tables: &mut TableWords, program: &mut ProgramWords) 
     let first = runs::then_due(text, length, b"sheet=", 1);
     let depth = runs::then_number(text, first, b"depth=", Limit::Depth);
     let types = runs::then_number(text, depth.read, b"types=", Limit::Types);
-    words::tables::start_tables(tables, depth.number, types.number);
+    words::tables::put_head(tables, depth.number, types.number);
     let filled = then_types(text, types, tables);
     let count = runs::then_number(text, filled, b"program=", Limit::Program);
-    words::program::start_program(program, count.number);
+    words::program::put_instructions(program, count.number);
     let instructions = then_instructions(text, count, types.number, program);
     runs::then_end(text, instructions)
 }
@@ -41,6 +44,8 @@ fn read_lines(text: &[u8], tables: &mut TableWords, program: &mut ProgramWords) 
 pub fn fill_sheet(text: &[u8], tables: &mut TableWords, program: &mut ProgramWords) -> Place
     ensures { λ r. ⌜ beside r (tablesIn (now (tables .exit)), programIn (now (program .exit))) ≡ sheetRead (now (text .entry)) ⌝ }
 {
+    words::tables::clear_tables(tables);
+    words::program::clear_program(program);
     let read = read_lines(text, tables, program);
     let went = read.went;
     let Went::On = went else {

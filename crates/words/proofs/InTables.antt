@@ -11,10 +11,10 @@ use Rattle.model.specs.declared.ComponentType.{ComponentType}
 use Rattle.model.specs.declared.Tables.{Tables}
 use Rattle.model.specs.Empty.{noType, noTables}
 use Rattle.model.specs.View.{typeOf, listOf}
-use Rattle.reading.specs.Fill.{headed, withTransition, withPort}
+use Rattle.reading.specs.Fill.{withTransition, withPort}
 use Rattle.words.specs.Rows.{word, rowAt, rows, column, puts, putsIn}
 use Rattle.words.specs.Words.{typeIn, tablesIn}
-use Rattle.words.specs.Parts.{withEnds, withBehavior, withGroup, withKind, typeOfWords}
+use Rattle.words.specs.Parts.{withHead, withEnds, withBehavior, withGroup, withKind, typeOfWords}
 use Rattle.words.proofs.Rows.{Apart, in-far, rows-put, rows-far, rows-same, rows-at, rows-none, none-word}
 
 pub type-at : (ws : List ℕ) (k : ℕ) (get : ComponentType → ℕ) → get (typeIn k []) ≡ get noType → get (typeOf (tablesIn ws) k) ≡ get (typeIn k (rowAt ws 1920 16 5 k))
@@ -125,21 +125,21 @@ no-tables i = record {
     none : (at n w f : ℕ) → word (replicate w 0) f ≡ 0 → column (replicate 2002 0) at n w f ≡ replicate n 0
     none at n w f e = rows-none (λ k r. word r f) 0 at n w 2002 (λ k. e)
 
-pub tables-start : (ws : List ℕ) (d n : ℕ) → length ws ≡ 2002 → tablesIn ws ≡ noTables → tablesIn (set (set ws 2000 d) 2001 n) ≡ headed d n
-unfolding tablesIn headed
-tables-start ws d n full e i = record {
+pub tables-head : (ws : List ℕ) (d n : ℕ) → length ws ≡ 2002 → tablesIn (set (set ws 2000 d) 2001 n) ≡ withHead (tablesIn ws) d n
+unfolding tablesIn
+tables-head ws d n full i = record {
   depth = (getD-set-other (set ws 2000 d) 2001 2000 n 0 (λ z. omega arith) ∙ getD-set-same ws 2000 d 0 (omega arith)) i;
   count = getD-set-same (set ws 2000 d) 2001 n 0 (rw (length-set ws 2000 d) (omega arith)) i;
-  types = (rows-same typeIn 1920 16 5 ws us (λ m l h. far m (omega arith)) ∙ ap (λ (t : Tables). t .types) e) i;
+  types = rows-same typeIn 1920 16 5 ws us (λ m l h. far m (omega arith)) i;
   transitions = record {
-    source = (same 0 512 2 0 (omega arith) ∙ ap (λ (t : Tables). t .transitions .source) e) i;
-    destination = (same 0 512 2 1 (omega arith) ∙ ap (λ (t : Tables). t .transitions .destination) e) i;
+    source = same 0 512 2 0 (omega arith) i;
+    destination = same 0 512 2 1 (omega arith) i;
   };
-  behaviors = (same 1792 128 1 0 (omega arith) ∙ ap (λ (t : Tables). t .behaviors) e) i;
+  behaviors = same 1792 128 1 0 (omega arith) i;
   ports = record {
-    uses = (same 1024 256 3 0 (omega arith) ∙ ap (λ (t : Tables). t .ports .uses) e) i;
-    places = (same 1024 256 3 1 (omega arith) ∙ ap (λ (t : Tables). t .ports .places) e) i;
-    transitions = (same 1024 256 3 2 (omega arith) ∙ ap (λ (t : Tables). t .ports .transitions) e) i;
+    uses = same 1024 256 3 0 (omega arith) i;
+    places = same 1024 256 3 1 (omega arith) i;
+    transitions = same 1024 256 3 2 (omega arith) i;
   };
 }
   where

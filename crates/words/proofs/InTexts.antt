@@ -13,10 +13,10 @@ use Rattle.model.specs.declared.Step.{Step}
 use Rattle.model.specs.declared.Answer.{Answer}
 use Rattle.model.specs.Empty.{noInstruction, noStep, noProgram, noAnswer}
 use Rattle.model.specs.View.{listOf}
-use Rattle.reading.specs.Fill.{programOf, withInstruction, answerOf, withStep}
+use Rattle.reading.specs.Fill.{withInstruction, withStep}
 use Rattle.words.specs.Rows.{word, rowAt, rows, puts, putsIn}
 use Rattle.words.specs.Words.{instructionIn, programIn, stepIn, answerIn}
-use Rattle.words.specs.Parts.{instructionOf, stepOf}
+use Rattle.words.specs.Parts.{instructionOf, stepOf, withInstructions, withSteps}
 use Rattle.words.proofs.Rows.{in-far, rows-put, rows-same, rows-at, rows-none, none-word}
 
 module _ (ws : List ℕ) (n : ℕ) where
@@ -48,10 +48,10 @@ pub no-answer : answerIn (replicate 3073 0) ≡ noAnswer
 unfolding answerIn noAnswer
 no-answer i = record { steps = rows-none stepIn noStep 0 1024 3 3073 (λ k. refl) i; count = none-word 3073 3072 i }
 
-pub answer-start : (ws : List ℕ) (n : ℕ) → length ws ≡ 3073 → answerIn ws ≡ noAnswer → answerIn (set ws 3072 n) ≡ answerOf n
-unfolding answerIn answerOf
-answer-start ws n full e i = record {
-  steps = (rows-same stepIn 0 1024 3 ws (set ws 3072 n) (λ m l h. getD-set-other ws 3072 m n 0 (λ z. omega arith)) ∙ ap (λ (a : Answer). a .steps) e) i;
+pub answer-count : (ws : List ℕ) (n : ℕ) → length ws ≡ 3073 → answerIn (set ws 3072 n) ≡ withSteps (answerIn ws) n
+unfolding answerIn
+answer-count ws n full i = record {
+  steps = rows-same stepIn 0 1024 3 ws (set ws 3072 n) (λ m l h. getD-set-other ws 3072 m n 0 (λ z. omega arith)) i;
   count = getD-set-same ws 3072 n 0 (omega arith) i;
 }
 
@@ -59,9 +59,9 @@ pub no-program : programIn (replicate 1281 0) ≡ noProgram
 unfolding programIn noProgram
 no-program i = record { instructions = rows-none instructionIn noInstruction 0 256 5 1281 (λ k. refl) i; count = none-word 1281 1280 i }
 
-pub program-start : (ws : List ℕ) (n : ℕ) → length ws ≡ 1281 → programIn ws ≡ noProgram → programIn (set ws 1280 n) ≡ programOf n
-unfolding programIn programOf
-program-start ws n full e i = record {
-  instructions = (rows-same instructionIn 0 256 5 ws (set ws 1280 n) (λ m l h. getD-set-other ws 1280 m n 0 (λ z. omega arith)) ∙ ap (λ (p : Program). p .instructions) e) i;
+pub program-count : (ws : List ℕ) (n : ℕ) → length ws ≡ 1281 → programIn (set ws 1280 n) ≡ withInstructions (programIn ws) n
+unfolding programIn
+program-count ws n full i = record {
+  instructions = rows-same instructionIn 0 256 5 ws (set ws 1280 n) (λ m l h. getD-set-other ws 1280 m n 0 (λ z. omega arith)) i;
   count = getD-set-same ws 1280 n 0 (omega arith) i;
 }

@@ -7,12 +7,31 @@ use Rattle.sets.specs.Mask.{with, without, only}
 use Rattle.model.specs.declared.ComponentType.{ComponentType}
 use Rattle.model.specs.declared.Tables.{Tables}
 use Rattle.model.specs.declared.Instruction.{Instruction}
+use Rattle.model.specs.declared.Program.{Program}
 use Rattle.model.specs.declared.Step.{Step}
+use Rattle.model.specs.declared.Answer.{Answer}
 use Rattle.model.specs.declared.Instance.{Instance}
 use Rattle.model.specs.declared.Connection.{Connection}
 use Rattle.model.specs.declared.Configuration.{Configuration}
 use Rattle.model.specs.View.{withConnections, withQueue}
 use Rattle.reading.specs.Fill.{withTransition, withPort}
+
+-- the depth as it is written, and how many types, instructions, steps there are
+abbrev pub withHead : Tables → ℕ → ℕ → Tables
+withHead t d n = record {
+  depth = d;
+  count = n;
+  types = t .types;
+  transitions = t .transitions;
+  behaviors = t .behaviors;
+  ports = t .ports;
+}
+
+abbrev pub withInstructions : Program → ℕ → Program
+withInstructions p n = record { instructions = p .instructions; count = n }
+
+abbrev pub withSteps : Answer → ℕ → Answer
+withSteps a n = record { steps = a .steps; count = n }
 
 -- transition j, behavior j, port j, each counted over all types
 abbrev pub withEnds : Tables → ℕ → ℕ → ℕ → Tables

@@ -6,9 +6,9 @@ use crate::put_word;
 ghost use mathlib.Core.Path.{_≡_};
 ghost use lib.ListN.{getD};
 ghost use Rattle.model.specs.Empty.{noStep, noAnswer};
-ghost use Rattle.reading.specs.Fill.{answerOf, withStep};
+ghost use Rattle.reading.specs.Fill.{withStep};
 ghost use Rattle.words.specs.Words.{answerIn};
-ghost use Rattle.words.specs.Parts.{stepOf};
+ghost use Rattle.words.specs.Parts.{stepOf, withSteps};
 
 pub fn step_verb(answer: &AnswerWords, n: u32) -> u32
     ensures { λ r. ⌜ r ≡ getD (answerIn (now (answer .entry)) .steps) n noStep .verb ⌝ }
@@ -48,9 +48,9 @@ pub fn clear_answer(answer: &mut AnswerWords)
     *answer = [0u32; 3073];
 }
 
-pub fn start_answer(answer: &mut AnswerWords, count: u32)
-    ensures { λ r. ⌜ answerIn (now (answer .exit)) ≡ answerOf count ⌝ }
+// How many steps there are.
+pub fn put_steps(answer: &mut AnswerWords, count: u32)
+    ensures { λ r. ⌜ answerIn (now (answer .exit)) ≡ withSteps (answerIn (now (answer .entry))) count ⌝ }
 {
-    *answer = [0u32; 3073];
     put_word(answer, 3072, count);
 }

@@ -6,9 +6,9 @@ use crate::put_word;
 ghost use mathlib.Core.Path.{_≡_};
 ghost use lib.ListN.{getD};
 ghost use Rattle.model.specs.Empty.{noInstruction, noProgram};
-ghost use Rattle.reading.specs.Fill.{programOf, withInstruction};
+ghost use Rattle.reading.specs.Fill.{withInstruction};
 ghost use Rattle.words.specs.Words.{programIn};
-ghost use Rattle.words.specs.Parts.{instructionOf};
+ghost use Rattle.words.specs.Parts.{instructionOf, withInstructions};
 
 pub fn instruction_verb(program: &ProgramWords, n: u32) -> u32
     ensures { λ r. ⌜ r ≡ getD (programIn (now (program .entry)) .instructions) n noInstruction .verb ⌝ }
@@ -77,9 +77,9 @@ pub fn clear_program(program: &mut ProgramWords)
     *program = [0u32; 1281];
 }
 
-pub fn start_program(program: &mut ProgramWords, count: u32)
-    ensures { λ r. ⌜ programIn (now (program .exit)) ≡ programOf count ⌝ }
+// How many instructions there are.
+pub fn put_instructions(program: &mut ProgramWords, count: u32)
+    ensures { λ r. ⌜ programIn (now (program .exit)) ≡ withInstructions (programIn (now (program .entry))) count ⌝ }
 {
-    *program = [0u32; 1281];
     put_word(program, 1280, count);
 }

@@ -6,9 +6,8 @@ use crate::put_word;
 ghost use mathlib.Core.Path.{_≡_};
 ghost use Rattle.model.specs.Empty.{noTables};
 ghost use Rattle.model.specs.View.{source, destination, behaviorOf, portKind, isUse, groupPlaces, groupTransitions, typeOf};
-ghost use Rattle.reading.specs.Fill.{headed};
 ghost use Rattle.words.specs.Words.{tablesIn};
-ghost use Rattle.words.specs.Parts.{withEnds, withBehavior, withGroup, withKind, typeOfWords};
+ghost use Rattle.words.specs.Parts.{withHead, withEnds, withBehavior, withGroup, withKind, typeOfWords};
 
 // Of type k: the ends of transition x, the set of behavior b, the kind and the group of port q.
 pub fn source(tables: &TableWords, k: u32, x: u32) -> u32
@@ -154,10 +153,10 @@ pub fn clear_tables(tables: &mut TableWords)
     *tables = [0u32; 2002];
 }
 
-pub fn start_tables(tables: &mut TableWords, depth: u32, count: u32)
-    ensures { λ r. ⌜ tablesIn (now (tables .exit)) ≡ headed depth count ⌝ }
+// The depth, and how many types there are.
+pub fn put_head(tables: &mut TableWords, depth: u32, count: u32)
+    ensures { λ r. ⌜ tablesIn (now (tables .exit)) ≡ withHead (tablesIn (now (tables .entry))) depth count ⌝ }
 {
-    *tables = [0u32; 2002];
     put_word(tables, 2000, depth);
     put_word(tables, 2001, count);
 }

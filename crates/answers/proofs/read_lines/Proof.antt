@@ -1,3 +1,5 @@
+use Rattle.model.specs.Empty.{noAnswer}
+use Rattle.reading.specs.Fill.{answerOf}
 use Rattle.reading.specs.Texts.{answer}
 use Rattle.runs.specs.Chain.{shortly}
 use Rattle.runs.proofs.Chain.{run-after, after-then, after-give}
@@ -6,12 +8,12 @@ use Rattle.answers.proofs.read_lines.Statement.{statement}
 use Rattle.answers.proofs.read_lines.Tie as tie
 
 returns : tie.Need-returns
-unfolding shortly answer
+unfolding shortly answer answerOf noAnswer
 returns c =
     run-after _ _ (c .before .before .before .before .before .before .before .before .before .length-run .ensures)
     (after-then _ _ (c .before .before .before .before .before .before .before .then-due .ensures)
     (after-then _ _ (c .before .before .before .before .before .then-number .ensures .0)
-    (after-then _ _ (rw (c .before .before .before .start-answer .ensures) at (c .before .then-steps .ensures))
+    (after-then _ _ (rw (c .before .before .before .put-steps .ensures, c .before .before .before .before .before .before .before .before .before .before .before .pre) at (c .before .then-steps .ensures))
     (after-give _ _ (c .then-end .ensures)))))
 
 pub read-lines-spec : {M : Type 1} → statement M

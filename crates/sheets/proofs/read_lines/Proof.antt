@@ -1,3 +1,5 @@
+use Rattle.model.specs.Empty.{noTables, noProgram}
+use Rattle.reading.specs.Fill.{headed, programOf}
 use Rattle.reading.specs.Texts.{sheet}
 use Rattle.runs.specs.Chain.{shortly}
 use Rattle.runs.proofs.Chain.{run-after, after-then, after-give}
@@ -9,15 +11,15 @@ then-types-requires : tie.Need-then-types-requires
 then-types-requires c κs = c .before .before .before .then-number2 .ensures .1 .few
 
 returns : tie.Need-returns
-unfolding shortly sheet
+unfolding shortly sheet headed programOf noTables noProgram
 returns c =
     run-after _ _ (c .before .before .before .before .before .before .before .before .before .before .before .before .before .before .before .before .before .length-run .ensures)
     (after-then _ _ (c .before .before .before .before .before .before .before .before .before .before .before .before .before .before .before .then-due .ensures)
     (after-then _ _ (c .before .before .before .before .before .before .before .before .before .before .before .before .before .then-number .ensures .0)
     (after-then _ _ (c .before .before .before .before .before .before .before .before .before .before .before .then-number2 .ensures .0)
-    (after-then _ _ (rw (c .before .before .before .before .before .before .before .before .before .start-tables .ensures) at (c .before .before .before .before .before .before .before .then-types .ensures))
+    (after-then _ _ (rw (c .before .before .before .before .before .before .before .before .before .put-head .ensures, c .before .before .before .before .before .before .before .before .before .before .before .before .before .before .before .before .before .before .before .pre .0) at (c .before .before .before .before .before .before .before .then-types .ensures))
     (after-then _ _ (c .before .before .before .before .before .then-number3 .ensures .0)
-    (after-then _ _ (rw (c .before .before .before .start-program .ensures) at (c .before .then-instructions .ensures))
+    (after-then _ _ (rw (c .before .before .before .put-instructions .ensures, c .before .before .before .before .before .before .before .before .before .before .before .before .before .before .before .before .before .before .before .pre .1) at (c .before .then-instructions .ensures))
     (after-give _ _ (c .then-end .ensures))))))))
 
 pub read-lines-spec : {M : Type 1} → statement M

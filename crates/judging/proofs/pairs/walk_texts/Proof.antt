@@ -7,9 +7,8 @@ use Rattle.judging.proofs.pairs.walk_texts.Tie as tie
 returns : tie.Need-returns
 unfolding walkAnswer
 returns c =
-    let begun = c .before .before .before .before .before in
-    let read = begun .before .before .read-both in
-    outcome-walks _ _ (read .result) _ _ _ (read .ensures .same) (rw (begun .clear-state .ensures) at (c .walk .ensures))
+    let read = c .before .before .before .before .before .read-both in
+    outcome-walks _ _ (read .result) _ _ _ (read .ensures .same) (rw (c .before .before .before .before .before .before .before .before .before .clear-state .ensures) at (c .walk .ensures))
 
 pub walk-texts-spec : {M : Type 1} → statement M
 walk-texts-spec = tie.close (tie.spec (λ c κs. search needs) (λ c κs. search needs) (λ c. search needs) (λ c κs. search needs) returns)
