@@ -44,6 +44,12 @@ read x m s = elim (m s) [ on a r ↦ reached a | stop n r ↦ faulty x n (length
 abbrev pub defaultDepth : ℕ
 defaultDepth = 4
 
+-- what a sheet alone says
+unfoldable pub sheetCourse : List ℕ → Course (Tables × Program)
+sheetCourse s = do
+  short text.Sheet s
+  read text.Sheet sheet s
+
 -- what the two texts say, where both are read
 unfoldable pub both : List ℕ → List ℕ → Course (Tables × Program × Answer)
 both s a = do
@@ -53,7 +59,11 @@ both s a = do
   y ← read text.Answer answer a
   reached (t, p, y)
 
-unfoldable pub course : List ℕ → List ℕ → Course Walked
-course s a = do
+-- where 0 stands for d
+abbrev pub courseUnder : ℕ → List ℕ → List ℕ → Course Walked
+courseUnder d s a = do
   (t, p, y) ← both s a
-  reached (walkAnswer defaultDepth t p y)
+  reached (walkAnswer d t p y)
+
+unfoldable pub course : List ℕ → List ℕ → Course Walked
+course s a = courseUnder defaultDepth s a
