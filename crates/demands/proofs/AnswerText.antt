@@ -31,14 +31,14 @@ checked : (b : Bool) (n : ℕ) (s : List ℕ) {u : Unit {0}} {t : List ℕ} → 
 checked true n s q = (refl, got-rest q)
 checked false n s q = absurd (not-got q)
 
-due-back : (k : List ℕ) (n : ℕ) (s : List ℕ) {u : Unit {0}} {r : List ℕ} → dueLine k n s ≡ got u r → s ≡ k ++ oneText n ++ r
+pub due-back : (k : List ℕ) (n : ℕ) (s : List ℕ) {u : Unit {0}} {r : List ℕ} → dueLine k n s ≡ got u r → s ≡ k ++ oneText n ++ r
 unfolding dueLine
 due-back k n s q =
     bound-to (key k s) _ q λ _ t e q. bound-to (oneForm fiveDigits t) _ q λ a v f q.
     let (same, rest) = checked (eqb a n) 2 v q in
     rw (key-back k s e, one-back fiveDigits (omega arith) t f .0, eqb-true a n same, rest) (simp append-assoc)
 
-count-back : (k : List ℕ) (limit : ℕ → Bool) (s : List ℕ) {n : ℕ} {r : List ℕ} → countLine k limit s ≡ got n r → (s ≡ k ++ oneText n ++ r) × (limit n ≡ true)
+pub count-back : (k : List ℕ) (limit : ℕ → Bool) (s : List ℕ) {n : ℕ} {r : List ℕ} → countLine k limit s ≡ got n r → (s ≡ k ++ oneText n ++ r) × (limit n ≡ true)
 unfolding countLineIn
 count-back k limit s q =
     bound-to (key k s) _ q λ _ t e q. bound-to (oneForm fiveDigits t) _ q λ a v f q. bound-to (check (limit a) 3 v) _ q λ _ w g q.
@@ -79,17 +79,17 @@ step-back =
     (λ s x r q. absurd (not-got q))))))
 
 -- ---- a run of lines
-not-on : {A : Type 0} {n : ℕ} {a : A} {s r : List ℕ} → stop n s ≡ on a r → ⊥
+pub not-on : {A : Type 0} {n : ℕ} {a : A} {s r : List ℕ} → stop n s ≡ on a r → ⊥
 not-on {n = n} {a = a} {s = s} {r = r} e = let z : _≡_ {A = ℕ} 0 1 = cc in omega arith
 
-on-value : {A : Type 0} {a b : A} {s r : List ℕ} → on a s ≡ on b r → a ≡ b
+pub on-value : {A : Type 0} {a b : A} {s r : List ℕ} → on a s ≡ on b r → a ≡ b
 on-value {a = a} {b = b} {s = s} {r = r} e = cc
 
 on-rest : {A : Type 0} {a b : A} {s r : List ℕ} → on a s ≡ on b r → s ≡ r
 on-rest {a = a} {b = b} {s = s} {r = r} e = cc
 
 -- lines that are read, and what comes after
-run-then : {A B W : Type 0} (x : Run A) (f : A → Lines B) {b : B} {r : List ℕ} → runOn x f ≡ on b r →
+pub run-then : {A B W : Type 0} (x : Run A) (f : A → Lines B) {b : B} {r : List ℕ} → runOn x f ≡ on b r →
     ((a : A) (t : List ℕ) → x ≡ on a t → f a t ≡ on b r → W) → W
 run-then (on a t) f q k = k a t refl q
 run-then (stop n t) f q k = absurd (not-on q)
@@ -98,7 +98,7 @@ line-back : {A : Type 0} (x : Reply A) (s : List ℕ) {a : A} {t : List ℕ} →
 line-back (got a t) s e = rw (on-value e, on-rest e) refl
 line-back (refused n) s e = absurd (not-on e)
 
-line-then : {A B W : Type 0} (m : Reader A) (f : A → Lines B) (s : List ℕ) {b : B} {r : List ℕ} → runOn (line m s) f ≡ on b r →
+pub line-then : {A B W : Type 0} (m : Reader A) (f : A → Lines B) (s : List ℕ) {b : B} {r : List ℕ} → runOn (line m s) f ≡ on b r →
     ((a : A) (t : List ℕ) → m s ≡ got a t → f a t ≡ on b r → W) → W
 line-then m f s q k = run-then (line m s) f q λ a t e. k a t (line-back (m s) s e)
 
