@@ -56,7 +56,7 @@ unfolding mapRun
 deep-on d (on t s) q = ap (λ (t : Tables). t .depth) (sym (on-value q))
 deep-on d (stop n s) q = absurd (not-on q)
 
-begins : (s r : List ℕ) (t : Tables) (p : Program) → sheet s ≡ on (t, p) r → t .depth ≡ 0 → (x : List ℕ) × (s ≡ oldHead ++ x)
+pub begins : (s r : List ℕ) (t : Tables) (p : Program) → sheet s ≡ on (t, p) r → t .depth ≡ 0 → (x : List ℕ) × (s ≡ oldHead ++ x)
 unfolding sheet headed oneText numberText digitsIn
 begins s r t p q z =
     line-then (dueLine (bytes "sheet=") 1) _ s q λ _ s₁ e₁ q. line-then (countLine (bytes "depth=") depthOk) _ s₁ q λ d s₂ e₂ q. line-then (countLine (bytes "types=") typesOk) _ s₂ q λ n s₃ e₃ q.

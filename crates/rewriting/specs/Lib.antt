@@ -1,0 +1,2 @@
+-- What rewriting a sheet promises, and that no other outcome fits.
+pub mod Rewrites
