@@ -185,7 +185,7 @@ configurationRows =
     ∷ clauseRow "queue" 0 1
     -- "more instructions done than the program has", "a queue past the depth", "over 64 connections"
     ∷ clauseRow "done" 6 7
-    ∷ clauseRow "queued" 4 5
+    ∷ clauseRow "queued" 8 9
     ∷ clauseRow "connections" 2 65
     -- "or one with an absent end"
     ∷ clauseRow "user" 1 3

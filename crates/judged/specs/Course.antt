@@ -40,9 +40,9 @@ short x s = elim (lengthOk (length s)) [ true ↦ reached tt | false ↦ faulty 
 unfoldable pub read : {A : Type 0} → Text → Lines A → List ℕ → Course A
 read x m s = elim (m s) [ on a r ↦ reached a | stop n r ↦ faulty x n (length s - length r) ]
 
--- "0 stands for the default, 4"
+-- "0 stands for the default"; 02, C-15: "From the spring sitting 0 stands for 8"
 abbrev pub defaultDepth : ℕ
-defaultDepth = 4
+defaultDepth = 8
 
 -- what a sheet alone says
 unfoldable pub sheetCourse : List ℕ → Course (Tables × Program)

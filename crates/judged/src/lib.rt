@@ -2,8 +2,8 @@
 // Proved: the marked cases, that 6 never occurs with a room of 8,192, that none of the four shams keeps the promise, that no other outcome fits.
 use model::Text;
 
-// "0 stands for the default, 4": `defaultDepth` of specs/Course, in code.
-pub const DEFAULT_DEPTH: u8 = 4;
+// "From the spring sitting 0 stands for 8": `defaultDepth` of specs/Course, in code.
+pub const DEFAULT_DEPTH: u8 = 8;
 
 // "It lends 8,192 bytes": `lentBytes` of specs/Judged, in code.
 pub const LENT_BYTES: usize = 8192;
