@@ -3,7 +3,7 @@ import re
 from dataclasses import dataclass, field
 
 LONGEST = 32768
-DEFAULT_DEPTH = 4
+DEFAULT_DEPTH = 8  # the second paper, C-15
 CONNECTIONS = 64
 
 

@@ -33,8 +33,8 @@ def move(i, x, source, destination):
     return [f"fire,{i},{source}", f"end,{i},{x}", f"enter,{i},{destination}"]
 
 
-def example(name):
-    """A text of the README's example."""
-    folder = os.path.join(os.path.dirname(os.path.abspath(__file__)), "..", "..", "examples", "maintenance")
+def example(name, folder="maintenance"):
+    """A text of the README's examples."""
+    folder = os.path.join(os.path.dirname(os.path.abspath(__file__)), "..", "..", "examples", folder)
     with open(os.path.join(folder, name + ".txt"), encoding="ascii") as file:
         return file.read()

@@ -39,9 +39,11 @@ case("pair_second_finish", P, [A, "finish,0"], 13, 30)
 case("pair_no_steps", P, [], 0, 0)
 
 # ---- queues
-pushes = sheet(pair, ["add,0,0"] + ["pushb,0,0"] * 5)
-case("four_pushes_at_depth_0", pushes, [nexts(5)], 5, 0)
-case("fifth_push_at_depth_0", pushes, [nexts(6)], 5, 20)
+pushes = ["add,0,0"] + ["pushb,0,0"] * 9
+case("eight_pushes_at_depth_0", sheet(pair, pushes), [nexts(9)], 9, 0)
+case("ninth_push_at_depth_0", sheet(pair, pushes), [nexts(10)], 9, 20)
+case("four_pushes_at_depth_4", sheet(pair, pushes, 4), [nexts(5)], 5, 0)
+case("fifth_push_at_depth_4", sheet(pair, pushes, 4), [nexts(6)], 5, 20)
 case("second_push_at_depth_1", sheet(pair, ["add,0,0", "pushb,0,0", "pushb,0,1"], 1), [nexts(3)], 2, 20)
 eight = sheet(pair, ["add,0,0"] + ["pushb,0,1"] * 9, 8)
 case("eighth_push_at_depth_8", eight, [nexts(9)], 9, 0)
@@ -129,6 +131,11 @@ case("all_busy", sheet([busy], adds + queues, 8), [list(flat(turns))[:1024]], 10
 case("maintenance", example("sheet"), example("answer"), 50, 0)
 case("maintenance_started_before_its_server", example("sheet"), example("started-before-its-server"), 19, 34)
 case("maintenance_stopped_under_its_client", example("sheet"), example("stopped-under-its-client"), 29, 36)
+
+# ---- an old sheet that relies on 4, and the same sheet rewritten
+old = example("sheet", "old-sheet")
+case("old_sheet", old, example("answer", "old-sheet"), 6, 0)
+case("old_sheet_rewritten", old.replace("depth=0", "depth=4"), example("answer", "old-sheet"), 5, 20)
 
 # ---- the worked examples of the source papers
 for row in papers:
