@@ -9,7 +9,7 @@
 /* "The two texts": the greatest counts, and the depth that 0 stands for. */
 enum {
     TYPES = 16, PLACES = 16, TRANSITIONS = 32, BEHAVIORS = 8, PORTS = 16, INSTRUCTIONS = 256, STEPS = 1024,
-    INSTANCES = 32, CONNECTIONS = 64, DEPTH = 8, DEFAULT_DEPTH = 4
+    INSTANCES = 32, CONNECTIONS = 64, DEPTH = 8, DEFAULT_DEPTH = 8
 };
 
 enum instruction_verb { ADD, DEL, PUSHB, CON, DCON, WAIT, INSTRUCTION_VERBS };
@@ -49,7 +49,7 @@ static inline uint32_t bit(unsigned member) { return (uint32_t)1 << member; }
 /* The set of the numbers below `count`, which may be 32. */
 static inline uint32_t below(unsigned count) { return count >= 32 ? UINT32_MAX : bit(count) - 1; }
 
-/* "depth=D (.. 0 stands for the default, 4)" */
+/* "depth=D (1 to 8, the queue depth; 0 stands for the default", "From the spring sitting 0 stands for 8" */
 unsigned effective_depth(const struct tables *tables);
 
 bool port_active(const struct port *port, const struct instance *instance);
