@@ -17,7 +17,7 @@ use Rattle.reading.specs.Lines.{Run, on, stop}
 use Rattle.reading.specs.Texts.{sheet}
 use Rattle.reading.proofs.Lawful.{sheet-stops}
 use Rattle.runs.specs.Whole.{Whole, outcome, whole}
-use Rattle.word_sheets.specs.Sheet.{sheetRead}
+use Rattle.sheets.specs.Sheet.{sheetRead}
 use Rattle.judged.specs.Course.{faulty, reached, short, read, sheetCourse}
 use Rattle.judged.specs.Judged.{faultLine, over}
 use Rattle.rewritten.specs.Rewritten.{sheetAfter, rewritten}

@@ -43,7 +43,7 @@ pub fn rewrite(sheet: &[u8], out: &mut [u8; LONGEST]) -> Rewritten
 {
     let mut tables = [0u32; 2002];
     let mut program = [0u32; 1281];
-    let read = word_sheets::fill_sheet(sheet, &mut tables, &mut program);
+    let read = sheets::fill_sheet(sheet, &mut tables, &mut program);
     if read.refused != 0 {
         let fault = verdicts::after_fault(Text::Sheet, sheet, read.refused, read.place);
         return Rewritten {
