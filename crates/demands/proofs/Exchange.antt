@@ -2,13 +2,12 @@
 -- Assumes nothing.
 use mathlib.Core.Path.{_≡_, refl, sym, ap, ap₂, _∙_}
 use mathlib.Core.Logic.{_≢_, by-cases}
-use mathlib.Core.Bool.{Bool, true, false, _&&_, or-true, false≢true}
+use mathlib.Core.Bool.{Bool, true, false, _&&_, or-true, and-false, false≢true}
 use mathlib.Core.List.{List, [], _∷_, _++_}
 use Prim.Native.Nat.{ℕ, _<_}
 use native.Mathlib.Omega.{arith}
 use native.Mathlib.Decide.{ℕ-discrete}
 use lib.Dec.{eqb}
-use lib.ListN.{getD}
 use borrow.Author.Tests.{eqb-true, eq-eqb}
 use Rattle.sets.specs.Test.{anyBelow}
 use Rattle.sets.proofs.Laws.{any-same}
@@ -20,17 +19,18 @@ use Rattle.model.specs.declared.Instance.{Instance}
 use Rattle.model.specs.declared.Connection.{Connection}
 use Rattle.model.specs.declared.Configuration.{Configuration}
 use Rattle.model.specs.declared.Walked.{Walked}
-use Rattle.model.specs.Empty.{noConnection, start}
-use Rattle.model.specs.View.{instance, connection, queueHead}
+use Rattle.model.specs.Empty.{start}
+use Rattle.model.specs.View.{instance, isServed, connection, queueHead}
 use Rattle.rules.specs.Refusal.{orNumber}
 use Rattle.rules.specs.Instance.{portsOf, current, leaving, entering, fired, entered}
-use Rattle.rules.specs.Ports.{someConnection, serves, blocks, employs, failsUnserved, failsRefusing, failsInUse, portCheck}
+use Rattle.rules.specs.Standing.{standing, inTable, someConnection}
+use Rattle.rules.specs.Ports.{serves, blocks, employs, failsUnserved, failsRefusing, failsInUse, portCheck}
 use Rattle.rules.specs.Fire.{fireRow, fireCheck}
 use Rattle.rules.specs.End.{endCheck}
 use Rattle.rules.specs.Enter.{enterRow, enterCheck}
 use Rattle.rules.specs.Finish.{finishRow, finishCheck}
 use Rattle.rules.specs.Action.{Action, add, del, pushb, con, dcon, wait, fire, end, enter, finish, moveAction, actionCheck, effect}
-use Rattle.rules.specs.Step.{isNext, stepTo}
+use Rattle.rules.specs.Step.{isNext, stepTo, checkAt}
 use Rattle.rules.specs.Walk.{oneMore, walk}
 use Rattle.rules.specs.Proper.{Proper}
 use Rattle.rules.proofs.Tables.{Facts, facts}
@@ -56,10 +56,10 @@ guarded i j a b f = by-test (eqb i j) (λ e. rw (e, f (eqb-true i j e))) (λ e. 
 
 module _ (t : Tables) (c d : Configuration) (j : ℕ) (near : Near c d j) where
   some-same : (f g : Connection → Bool) → ((k : Connection) → Joined c k → f k ≡ g k) → someConnection d f ≡ someConnection c g
-  unfolding someConnection
+  unfolding inTable
   some-same f g same =
-      ap (λ (x : Wires). anyBelow (x .count) (λ l. f (getD (x .list) l noConnection))) (near .connections)
-      ∙ any-same (c .count) _ _ (λ l h. same (connection c l) (l, h, refl))
+      ap (λ (x : Wires). inTable x .some f) (near .connections)
+      ∙ any-same 512 _ _ (λ s h. by-test (isServed (c .servers) s) (λ on. rw (same (connection c s) (s, h, on, refl))) (λ off. rw (off, and-false (f (connection c s)), and-false (g (connection c s)))))
 
   serves-same : (q : ℕ) → someConnection d (serves t d j q) ≡ someConnection c (serves t c j q)
   unfolding serves
@@ -74,22 +74,22 @@ module _ (t : Tables) (c d : Configuration) (j : ℕ) (near : Near c d j) where
   unfolding employs
   employs-same q = some-same (employs t d j q) (employs t c j q) (λ k x. guarded (k .provider) j _ _ (λ e. rw (near .user k x e)))
 
-  ports-same : (v w : Instance) → portCheck t d j v w ≡ portCheck t c j v w
+  ports-same : (v w : Instance) → portCheck t (standing d) d j v w ≡ portCheck t (standing c) c j v w
   unfolding portCheck failsUnserved failsRefusing failsInUse
   ports-same v w =
       rw (
-        any-same (portsOf t v) (failsUnserved t d j w) (failsUnserved t c j w) (λ q h. rw (serves-same q)),
-        any-same (portsOf t v) (failsRefusing t d j v w) (failsRefusing t c j v w) (λ q h. rw (blocks-same q)),
-        any-same (portsOf t v) (failsInUse t d j v w) (failsInUse t c j v w) (λ q h. rw (employs-same q)),
+        any-same (portsOf t v) (failsUnserved t (standing d) d j w) (failsUnserved t (standing c) c j w) (λ q h. rw (serves-same q)),
+        any-same (portsOf t v) (failsRefusing t (standing d) d j v w) (failsRefusing t (standing c) c j v w) (λ q h. rw (blocks-same q)),
+        any-same (portsOf t v) (failsInUse t (standing d) d j v w) (failsInUse t (standing c) c j v w) (λ q h. rw (employs-same q)),
       )
 
   -- `fire` and `enter`: a row and the port checks, both told by the record and the head
   passing-same : (row : Instance → ℕ → ℕ) (result : Instance → ℕ → Instance)
-      → orNumber (row (instance d j) (queueHead d j)) (portCheck t d j (instance d j) (result (instance d j) (queueHead d j)))
-      ≡ orNumber (row (instance c j) (queueHead c j)) (portCheck t c j (instance c j) (result (instance c j) (queueHead c j)))
+      → orNumber (row (instance d j) (queueHead d j)) (portCheck t (standing d) d j (instance d j) (result (instance d j) (queueHead d j)))
+      ≡ orNumber (row (instance c j) (queueHead c j)) (portCheck t (standing c) c j (instance c j) (result (instance c j) (queueHead c j)))
   passing-same row result = rw (near .own, near .top, ports-same (instance c j) (result (instance c j) (queueHead c j)))
 
-check-same : (default : ℕ) (t : Tables) (c d : Configuration) (a : Action) → isMove a ≡ true → Near c d (ownerOf a) → actionCheck default t d a ≡ actionCheck default t c a
+check-same : (default : ℕ) (t : Tables) (c d : Configuration) (a : Action) → isMove a ≡ true → Near c d (ownerOf a) → checkAt default t d a ≡ checkAt default t c a
 unfolding isMove actionCheck change owner fireCheck enterCheck endCheck finishCheck
 check-same default t c d (fire i p) m near =
     passing-same t c d i near (λ v h. fireRow v p (leaving t (v .kind) (current t v h) p)) (λ v h. fired v p (leaving t (v .kind) (current t v h) p))
@@ -125,7 +125,7 @@ unfolding isMove
 move-lawfully t m j k e = absurd (false≢true (sym (ap isMove e) ∙ m .is-move))
 
 module _ (default : ℕ) (t : Tables) (p : Program) (law : Facts default t p) where
-  module _ (c : Configuration) (now : Proper default t p c) (a : Action) (i : ℕ) (m : MoveOf a i) (ok : actionCheck default t c a ≡ 0) where
+  module _ (c : Configuration) (now : Proper default t p c) (a : Action) (i : ℕ) (m : MoveOf a i) (ok : checkAt default t c a ≡ 0) where
     move-proper : Proper default t p (effect t c a)
     move-proper = action-proper default t p law c now a (move-lawfully t m) ok
 
@@ -145,9 +145,9 @@ module _ (default : ℕ) (t : Tables) (p : Program) (law : Facts default t p) wh
         fits : Room c a
         fits = room default t p law c now a (move-lawfully t m) ok
 
-    number-kept : (b : Action) (j : ℕ) → MoveOf b j → j ≢ i → Apart c i j → actionCheck default t (effect t c a) b ≡ actionCheck default t c b
+    number-kept : (b : Action) (j : ℕ) → MoveOf b j → j ≢ i → Apart c i j → checkAt default t (effect t c a) b ≡ checkAt default t c b
     number-kept b j n other apart =
-        at-owner (λ (k : ℕ). Near c (effect t c a) k → actionCheck default t (effect t c a) b ≡ actionCheck default t c b) b j (n .mine)
+        at-owner (λ (k : ℕ). Near c (effect t c a) k → checkAt default t (effect t c a) b ≡ checkAt default t c b) b j (n .mine)
         (λ _ near. check-same default t c (effect t c a) b (n .is-move) near) (near-after j other apart)
 
     move-part : (k : ℕ) → k < 32 → part (effect t c a) k ≡ acted t k a (part c k)
@@ -155,11 +155,11 @@ module _ (default : ℕ) (t : Tables) (p : Program) (law : Facts default t p) wh
 
   -- ---- a move a of i and a move b of j, one after the other
   module _ (c : Configuration) (now : Proper default t p c) (a b : Action) (i j : ℕ) (m : MoveOf a i) (n : MoveOf b j) (other : i ≢ j) (apart : Apart c i j)
-      (ea : actionCheck default t c a ≡ 0) (eb : actionCheck default t (effect t c a) b ≡ 0) where
-    second-first : actionCheck default t c b ≡ 0
+      (ea : checkAt default t c a ≡ 0) (eb : checkAt default t (effect t c a) b ≡ 0) where
+    second-first : checkAt default t c b ≡ 0
     second-first = sym (number-kept c now a i m ea b j n (λ q. other (sym q)) apart) ∙ eb
 
-    first-second : actionCheck default t (effect t c b) a ≡ 0
+    first-second : checkAt default t (effect t c b) a ≡ 0
     first-second = number-kept c now b j n second-first a i m other (λ k x. (apart k x .1, apart k x .0)) ∙ ea
 
     swapped : (k : ℕ) (x : Part) → acted t k a (acted t k b x) ≡ acted t k b (acted t k a x)
@@ -183,7 +183,7 @@ step-move : (s : Step) → MoveOf (moveAction s) (s .id)
 step-move s = record { is-move = move-is-move s; mine = move-changes s }
 
 module _ (default : ℕ) (t : Tables) (p : Program) (law : Facts default t p) where
-  walk-move : (c : Configuration) (s : Step) (ss : List Step) → isNext s ≡ false → actionCheck default t c (moveAction s) ≡ 0
+  walk-move : (c : Configuration) (s : Step) (ss : List Step) → isNext s ≡ false → checkAt default t c (moveAction s) ≡ 0
       → walk default t p c (s ∷ ss) ≡ oneMore (walk default t p (effect t c (moveAction s)) ss)
   walk-move c s ss e ok =
       walk-on default t p c s ss (move-number s t p c e default ∙ ok) ∙ ap (λ (d : Configuration). oneMore (walk default t p d ss)) (move-after s t p c e)
@@ -195,18 +195,18 @@ module _ (default : ℕ) (t : Tables) (p : Program) (law : Facts default t p) wh
         walk-move c n (m ∷ rest) second x ∙ ap oneMore (walk-move (effect t c (moveAction n)) m rest first y ∙ ap (λ (d : Configuration). oneMore (walk default t p d rest)) z)
         ∙ sym (walk-move c m (n ∷ rest) first ea ∙ ap oneMore (walk-move (effect t c (moveAction m)) n rest second eb))
       where
-        ea : actionCheck default t c (moveAction m) ≡ 0
+        ea : checkAt default t c (moveAction m) ≡ 0
         ea = sym (move-number m t p c first default) ∙ allowed-head default t p c m (n ∷ rest) ok
 
-        eb : actionCheck default t (effect t c (moveAction m)) (moveAction n) ≡ 0
+        eb : checkAt default t (effect t c (moveAction m)) (moveAction n) ≡ 0
         eb =
             sym (move-number n t p (effect t c (moveAction m)) second default)
             ∙ (rw (move-after m t p c first) at (allowed-head default t p (stepTo t p c m) n rest (allowed-tail default t p c m (n ∷ rest) ok)))
 
-        x : actionCheck default t c (moveAction n) ≡ 0
+        x : checkAt default t c (moveAction n) ≡ 0
         x = second-first default t p law c now (moveAction m) (moveAction n) (m .id) (n .id) (step-move m) (step-move n) two apart ea eb
 
-        y : actionCheck default t (effect t c (moveAction n)) (moveAction m) ≡ 0
+        y : checkAt default t (effect t c (moveAction n)) (moveAction m) ≡ 0
         y = first-second default t p law c now (moveAction m) (moveAction n) (m .id) (n .id) (step-move m) (step-move n) two apart ea eb
 
         z : effect t (effect t c (moveAction n)) (moveAction m) ≡ effect t (effect t c (moveAction m)) (moveAction n)

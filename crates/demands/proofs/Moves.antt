@@ -10,8 +10,8 @@ use Rattle.model.specs.declared.Program.{Program}
 use Rattle.model.specs.declared.Step.{Step}
 use Rattle.model.specs.declared.Configuration.{Configuration}
 use Rattle.model.specs.Empty.{noInstruction}
-use Rattle.rules.specs.Action.{Action, add, del, pushb, con, dcon, wait, fire, end, enter, finish, moveAction, actionCheck, effect}
-use Rattle.rules.specs.Step.{isNext, actionAt, action, stepCheck, stepTo}
+use Rattle.rules.specs.Action.{Action, add, del, pushb, con, dcon, wait, fire, end, enter, finish, moveAction, effect}
+use Rattle.rules.specs.Step.{isNext, actionAt, action, stepCheckWith, stepCheck, stepTo, checkAt}
 use Rattle.rules.proofs.Actions.{instruction-cases, move-cases}
 use Rattle.rules.proofs.Local.{change, touches, changes}
 
@@ -42,8 +42,8 @@ module _ (s : Step) where
   move-changes = let e = eq-eqb (s .id) (s .id) refl in move-cases (λ a. changes a (s .id) ≡ true) s e e e e
 
   module _ (t : Tables) (p : Program) (c : Configuration) (e : isNext s ≡ false) where
-    pub move-number : (default : ℕ) → stepCheck default t p c s ≡ actionCheck default t c (moveAction s)
-    unfolding stepCheck action
+    pub move-number : (default : ℕ) → stepCheck default t p c s ≡ checkAt default t c (moveAction s)
+    unfolding stepCheckWith action
     move-number default = rw e
 
     pub move-after : stepTo t p c s ≡ effect t c (moveAction s)

@@ -15,11 +15,12 @@ use Rattle.model.specs.declared.Instance.{Instance}
 use Rattle.model.specs.declared.Configuration.{Configuration}
 use Rattle.model.specs.View.{instance, slot, listOf}
 use Rattle.model.proofs.View.{list-same, list-at, same-instances, same-queues, same-fields}
-use Rattle.rules.specs.Action.{Action, actionCheck, effect}
+use Rattle.rules.specs.Action.{Action, effect}
+use Rattle.rules.specs.Step.{checkAt}
 use Rattle.rules.specs.Proper.{Proper}
 use Rattle.model.specs.declared.Program.{Program}
 use Rattle.rules.proofs.Tables.{Facts}
-use Rattle.rules.proofs.Local.{Turn, stays, cleared, shifted, appended, Wires, wires, change, changes, ownInstance, turn, turnedSlot, ownSlot, Fits, Room, room-own, instance-own, instance-other, slot-own, slot-other}
+use Rattle.rules.proofs.Local.{Turn, stays, cleared, shifted, appended, wires, change, changes, ownInstance, turn, turnedSlot, ownSlot, Fits, Room, room-own, instance-own, instance-other, slot-own, slot-other}
 use Rattle.rules.proofs.Proper.{Lawfully, room}
 
 pub record Part : Type 0 where
@@ -48,7 +49,7 @@ parts-same : {v w : Instance} {s u : List ℕ} → v ≡ w → s ≡ u → _≡_
 parts-same = ap₂ (λ (v : Instance) (s : List ℕ). record { self = v; slots = s })
 
 pub part-after : (default : ℕ) (t : Tables) (p : Program) → Facts default t p → (c : Configuration) → Proper default t p c
-    → (a : Action) → Lawfully t a → actionCheck default t c a ≡ 0 → (i : ℕ) → i < 32 → part (effect t c a) i ≡ acted t i a (part c i)
+    → (a : Action) → Lawfully t a → checkAt default t c a ≡ 0 → (i : ℕ) → i < 32 → part (effect t c a) i ≡ acted t i a (part c i)
 unfolding acted
 part-after default t p law c now a new ok i h =
     by-test (changes a i)
@@ -66,7 +67,7 @@ pub whole : (default : ℕ) (t : Tables) (p : Program) (c d : Configuration) →
     → ((i : ℕ) → i < 32 → part c i ≡ part d i) → wires c ≡ wires d → c .done ≡ d .done → c ≡ d
 whole default t p c d now then same connections done =
     same-fields c d (same-instances c d (now .instances-length) (then .instances-length) (λ i h. ap (λ (x : Part). x .self) (same i h)))
-    (same-queues c d (now .queue-length) (then .queue-length) slots) (ap (λ (x : Wires). x .list) connections) (ap (λ (x : Wires). x .count) connections) done
+    (same-queues c d (now .queue-length) (then .queue-length) slots) connections done
   where
     slots : (i r : ℕ) → i < 32 → r < 8 → slot c i r ≡ slot d i r
     slots i r h l = sym (list-at 8 (slot c i) 0 r l) ∙ ap (λ (x : Part). getD (x .slots) r 0) (same i h) ∙ list-at 8 (slot d i) 0 r l

@@ -17,7 +17,7 @@ use Rattle.model.specs.View.{instance, slot, queueHead, listOf, queueOf, withDo
 use Rattle.model.proofs.View.{list-same, list-snoc, list-head, start-instance}
 use Rattle.rules.specs.Instance.{fired, endedBy, entered, withQueued}
 use Rattle.rules.specs.Action.{Action, add, del, pushb, con, dcon, wait, fire, end, enter, finish, actionCheck, effect}
-use Rattle.rules.specs.Step.{action, stepCheck, stepTo}
+use Rattle.rules.specs.Step.{action, stepCheck, stepTo, checkAt}
 use Rattle.rules.specs.Walk.{oneMore, besideBy, walk}
 use Rattle.rules.specs.Proper.{Proper}
 use Rattle.rules.proofs.Tables.{Facts, facts}
@@ -73,7 +73,7 @@ tell-other c i (end j x) h e = refl
 tell-other c i (enter j q) h e = refl
 
 -- the story of the component that an action changes
-tell-own : (default : ℕ) (t : Tables) (c : Configuration) (a : Action) (h : Story ℕ) → actionCheck default t c a ≡ 0 → Fits (turn (change a)) (instance c (ownerOf a) .queued)
+tell-own : (default : ℕ) (t : Tables) (c : Configuration) (a : Action) (h : Story ℕ) → checkAt default t c a ≡ 0 → Fits (turn (change a)) (instance c (ownerOf a) .queued)
     → changes a (ownerOf a) ≡ true → Kept h (instance c (ownerOf a) .queued) (slot c (ownerOf a))
     → Kept (tell c (ownerOf a) a h) (ownInstance t (instance c (ownerOf a)) (queueHead c (ownerOf a)) a .queued) (ownSlot (instance c (ownerOf a) .queued) (slot c (ownerOf a)) a)
 unfolding actionCheck change touches owner self turn turnedSlot Fits tell listOf fired endedBy entered withQueued
@@ -103,7 +103,7 @@ module _ (default : ℕ) (t : Tables) (p : Program) (law : Facts default t p) (i
   abbrev pub KeptAt : Story ℕ → Configuration → Type 0
   KeptAt h c = Kept h (instance c i .queued) (slot c i)
 
-  action-told : (c : Configuration) → Proper default t p c → (a : Action) → Lawfully t a → actionCheck default t c a ≡ 0 → (h : Story ℕ) → KeptAt h c → KeptAt (tell c i a h) (effect t c a)
+  action-told : (c : Configuration) → Proper default t p c → (a : Action) → Lawfully t a → checkAt default t c a ≡ 0 → (h : Story ℕ) → KeptAt h c → KeptAt (tell c i a h) (effect t c a)
   action-told c now a new ok h told = by-test (changes a i) own other
     where
       fits : Room c a

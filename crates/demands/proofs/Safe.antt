@@ -17,16 +17,17 @@ use Rattle.model.specs.declared.Instance.{Instance}
 use Rattle.model.specs.declared.Connection.{Connection}
 use Rattle.model.specs.declared.Configuration.{Configuration}
 use Rattle.model.specs.Empty.{start}
-use Rattle.model.specs.View.{isUse, instance, queueHead, withConnections, withDone}
+use Rattle.model.specs.View.{isUse, instance, queueHead, withServers, withDone}
 use Rattle.model.proofs.View.{start-instance}
 use Rattle.rules.specs.Instance.{active, portsOf, fired, endedBy, entered, withQueued}
-use Rattle.rules.specs.Ports.{someConnection, serves, employs, portCheck}
+use Rattle.rules.specs.Standing.{standing, someConnection}
+use Rattle.rules.specs.Ports.{serves, employs, portCheck}
 use Rattle.rules.specs.Add.{fresh}
 use Rattle.rules.specs.Del.{namedBy}
 use Rattle.rules.specs.Con.{connected}
 use Rattle.rules.specs.DCon.{disconnected}
 use Rattle.rules.specs.Action.{Action, add, del, pushb, con, dcon, wait, fire, end, enter, finish, actionCheck, effect}
-use Rattle.rules.specs.Step.{action, stepCheck, stepTo}
+use Rattle.rules.specs.Step.{action, stepCheck, stepTo, checkAt}
 use Rattle.rules.specs.Walk.{walk}
 use Rattle.rules.specs.Proper.{Joins, Proper}
 use Rattle.rules.proofs.Masks.{neither, end-active}
@@ -34,8 +35,8 @@ use Rattle.rules.proofs.Tables.{Facts, facts}
 use Rattle.rules.proofs.Local.{Wiring, kept, made, cut, Wires, wires, rewired, wiringOf, change, touches, changes, owner, ownerOf, at-owner, self, ownInstance, part-wires, changes-one, instance-own, instance-other, rest-after}
 use Rattle.rules.proofs.Allowed.{add-facts, del-facts, pushb-facts, fire-facts, enter-facts, end-facts, finish-facts, served, unused, present-in}
 use Rattle.rules.proofs.Walks.{walk-keeps, number-facts, after-cases}
-use Rattle.rules.proofs.Connections.{Stands, Joined, some-joined, joined-some, joined-none, con-keeps, dcon-keeps, Passed, passed, joined-joins}
-use Rattle.rules.proofs.Proper.{Lawfully, step-lawfully, step-proper, start-proper}
+use Rattle.rules.proofs.Connections.{Stands, Joined, some-joined, joined-some, joined-none, con-keeps, same-stands, dcon-keeps, Passed, passed, joined-joins, new-joins}
+use Rattle.rules.proofs.Proper.{Lawfully, joins-small, step-lawfully, step-proper, start-proper}
 use Rattle.demands.specs.Safe.{Served, Safe, WalksAreSafe}
 
 -- the connection k joins the use port q of i to an active provide port
@@ -66,7 +67,7 @@ module _ (default : ℕ) (t : Tables) (p : Program) (law : Facts default t p) (c
   -- ---- the instance that an action changes
 
   -- `fire` and `enter`: the port checks say it
-  checked-steady : (i : ℕ) (w : Instance) → w .kind ≡ instance c i .kind → portCheck t c i (instance c i) w ≡ 0 → Steady t c i w
+  checked-steady : (i : ℕ) (w : Instance) → w .kind ≡ instance c i .kind → portCheck t (standing c) c i (instance c i) w ≡ 0 → Steady t c i w
   unfolding serves employs
   checked-steady i w kind ok = record { stays = stays; own = own }
     where
@@ -107,7 +108,7 @@ module _ (default : ℕ) (t : Tables) (p : Program) (law : Facts default t p) (c
         own = λ q here hq hu ha. absurd (false≢true (sym (idle q here hq hu) ∙ ha));
       }
 
-  own-steady : (a : Action) → Lawfully t a → actionCheck default t c a ≡ 0 → changes a (ownerOf a) ≡ true
+  own-steady : (a : Action) → Lawfully t a → checkAt default t c a ≡ 0 → changes a (ownerOf a) ≡ true
       → Steady t c (ownerOf a) (ownInstance t (instance c (ownerOf a)) (queueHead c (ownerOf a)) a)
   unfolding actionCheck change touches owner self fired endedBy entered withQueued active namedBy member anyBelow collect
   own-steady (add i k) new e q =
@@ -127,18 +128,18 @@ module _ (default : ℕ) (t : Tables) (p : Program) (law : Facts default t p) (c
   own-steady (finish i) new e q = calm-steady i _ (finish-facts t c i e .present) refl (λ q. refl)
 
   -- ---- every instance after an action
-  module _ (a : Action) (new : Lawfully t a) (ok : actionCheck default t c a ≡ 0) where
+  module _ (a : Action) (new : Lawfully t a) (ok : checkAt default t c a ≡ 0) where
     -- a connection stays where its use port is active
     joined-after : (k : Connection) → Joined c k → active t (instance c (k .user)) (k .useport) ≡ true → Joined (effect t c a) k
-    unfolding Passed rewired connected disconnected withConnections
+    unfolding Passed rewired connected disconnected withServers
     joined-after k j used =
         subst⁻¹ (λ (x : Wires). Stands x k) (rest-after t c a .connections) (go (wiringOf (change a)) (passed default t c a ok))
       where
         go : (w : Wiring) → Passed t c w → Stands (rewired w (wires c)) k
         go kept f = j
-        go (made l) f = con-keeps c l k j
+        go (made l) f = con-keeps (wires c) (now .servers-length) l (joins-small default t p law c now l (new-joins t c l f)) (f .free) k j
         go (cut l) f =
-            dcon-keeps c l (f .stands) (rw (now .connections-length) (now .few)) k j
+            dcon-keeps (wires c) (now .servers-length) l (same-stands (wires c) l (f .stands)) k j
             (λ e. false≢true (sym (f .idle) ∙ subst (λ (m : Connection). active t (instance c (m .user)) (m .useport) ≡ true) e used))
 
     provider-after : (k : Connection) → Joined c k → active t (instance c (k .user)) (k .useport) ≡ true → active t (instance c (k .provider)) (k .provideport) ≡ true
@@ -208,12 +209,13 @@ walks-are-safe default t p ss small law i q here hq hu ha =
   where
     of : (c : Configuration) → Proper default t p c → (k : Connection) → Serving t c i q k → Served t c i q
     of c now k s =
-        let (at, stands, e) = s .stands in
+        let (at, within, stands, e) = s .stands in
         record {
           at = at;
+          within = within;
           stands = stands;
-          joins = now .connections .joins at stands;
+          joins = now .connections at within stands;
           user = ap (λ (k : Connection). k .user) e ∙ s .user;
           useport = ap (λ (k : Connection). k .useport) e ∙ s .useport;
-          provider = rw e (s .provider);
+          provider = subst⁻¹ (λ (k : Connection). active t (instance c (k .provider)) (k .provideport) ≡ true) e (s .provider);
         }

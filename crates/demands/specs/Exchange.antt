@@ -12,7 +12,7 @@ use Rattle.model.specs.declared.Step.{Step}
 use Rattle.model.specs.declared.Connection.{Connection}
 use Rattle.model.specs.Empty.{start}
 use Rattle.reading.specs.Lawful.{Lawful}
-use Rattle.rules.specs.Ports.{someConnection}
+use Rattle.rules.specs.Standing.{someConnection}
 use Rattle.rules.specs.Step.{isNext}
 use Rattle.rules.specs.Walk.{walk}
 

@@ -8,16 +8,17 @@ use Rattle.model.specs.declared.Program.{Program}
 use Rattle.model.specs.declared.Step.{Step}
 use Rattle.model.specs.declared.Configuration.{Configuration}
 use Rattle.model.specs.Empty.{start}
-use Rattle.model.specs.View.{isUse, instance, connection}
+use Rattle.model.specs.View.{isUse, instance, isServed, connection}
 use Rattle.reading.specs.Lawful.{Lawful}
 use Rattle.rules.specs.Instance.{active, portsOf}
 use Rattle.rules.specs.Walk.{walk}
 use Rattle.rules.specs.Proper.{Joins}
 
--- connection `at` joins the use port q of i to a provide port, which is active
+-- the connection in the slot `at` joins the use port q of i to a provide port, which is active
 pub record Served (t : Tables) (c : Configuration) (i q : ℕ) : Type 0 where
   pub at : ℕ
-  pub stands : at < c .count
+  pub within : at < 512
+  pub stands : isServed (c .servers) at ≡ true
   pub joins : Joins t c (connection c at)
   pub user : connection c at .user ≡ i
   pub useport : connection c at .useport ≡ q

@@ -7,7 +7,7 @@ use lib.ListN.{getD}
 use Rattle.sets.specs.Mask.{member, collect}
 use Rattle.sets.specs.Test.{allBelow, anyBelow, tally}
 use Rattle.model.specs.Empty.{noTables, noProgram, noAnswer, start}
-use Rattle.model.specs.View.{listOf, queueOf, put, withQueue, withConnections, withDone}
+use Rattle.model.specs.View.{isServed, listOf, queueOf, put, withQueue, withServers, withDone}
 use Rattle.forms.specs.Read.{key, digit, numberFrom, membersFrom, list, oneForm, twoForm, fourForm, listForm, listsForm}
 use Rattle.forms.specs.Write.{digitsIn, numberText, membersBelow, moreText, listText, maskText, inTurn, oneText, twoText, threeText, fourText}
 use Rattle.reading.specs.Fill.{headed, withType, withTransition, withPort, programOf, withInstruction, answerOf, withStep}
@@ -19,20 +19,21 @@ use Rattle.rules.specs.Action.{instructionAction, moveAction, actionCheck, effe
 use Rattle.rules.specs.Add.{addCheck, added}
 use Rattle.rules.specs.Closing.{down, closed, zeroed, renewed}
 use Rattle.rules.specs.Con.{isOf, isUsePort, isProvidePort, conCheck, connected}
-use Rattle.rules.specs.DCon.{sameConnection, firstBelow, dconCheck, disconnected}
+use Rattle.rules.specs.DCon.{sameConnection, dconCheck, disconnected}
 use Rattle.rules.specs.Del.{namedBy, delCheck, deleted}
 use Rattle.rules.specs.End.{endCheck, endTo}
 use Rattle.rules.specs.Enter.{enterRow, enterCheck, enterTo}
 use Rattle.rules.specs.Finish.{mayLeave, finishRow, finishCheck, finished}
 use Rattle.rules.specs.Fire.{fireRow, fireCheck, fireTo}
 use Rattle.rules.specs.Instance.{active, current, endsAt, leaving, entering, fired, endedBy, entered, withQueued}
-use Rattle.rules.specs.Ports.{someConnection, wouldLeave, refusing, serves, blocks, employs, failsUnserved, failsRefusing, failsInUse, portCheck}
+use Rattle.rules.specs.Standing.{entries, inTable}
+use Rattle.rules.specs.Ports.{wouldLeave, refusing, serves, blocks, employs, failsUnserved, failsRefusing, failsInUse, portCheck}
 use Rattle.rules.specs.PushB.{pushbCheck, pushed}
-use Rattle.rules.specs.Step.{actionAt, action, stepCheck, stepTo, step}
+use Rattle.rules.specs.Step.{actionAt, action, stepCheckWith, stepTo, step}
 use Rattle.rules.specs.Wait.{waitCheck}
 use Rattle.rules.specs.Walk.{oneMore, walk, walkAnswer}
 use Rattle.report.specs.Faults.{textText, faultText}
-use Rattle.report.specs.Report.{countText, instanceText, connectionText, instanceAt, connectionAt, instancesText, connectionsText, report}
+use Rattle.report.specs.Report.{countText, instanceText, connectionText, instanceAt, connectionLine, linesFrom, instancesText, connectionsText, reportWith, report}
 use Rattle.judged.specs.Course.{short, read, both, course}
 use Rattle.judged.specs.Judged.{faultLine, faultPlace, afterFault, noRoom, stepPlace, afterWalk, inRoom, ending, judged, over, printing, printed}
 use Rattle.judged.specs.Cases.{P, P+, nexts, answerWith, table, AllMet}
@@ -60,7 +61,7 @@ pub record Computed : Type 0 where
   pub short : SixWhereShort
 
 pub computed : Computed
-unfolding member collect allBelow anyBelow noTables noProgram noAnswer start listOf queueOf put withQueue withConnections withDone key digit numberFrom membersFrom list oneForm twoForm fourForm listForm listsForm digitsIn numberText membersBelow moreText listText maskText inTurn oneText twoText threeText fourText headed withType withTransition withPort programOf withInstruction answerOf withStep dueLine countLineIn initialLine tranLine behaviorLine group portLine doId doNumber doEnds doLine stepId stepNumber stepLine each upToLf lfs lineNumber lineStart tranAt behaviorAt portAt typeLines instructionAt sheet stepAt answer instructionAction moveAction actionCheck effect addCheck added down closed zeroed renewed isOf isUsePort isProvidePort conCheck connected sameConnection firstBelow dconCheck disconnected namedBy delCheck deleted endCheck endTo enterRow enterCheck enterTo mayLeave finishRow finishCheck finished fireRow fireCheck fireTo active current endsAt leaving entering fired endedBy entered withQueued someConnection wouldLeave refusing serves blocks employs failsUnserved failsRefusing failsInUse portCheck pushbCheck pushed actionAt action stepCheck stepTo step waitCheck oneMore walk walkAnswer textText faultText tally countText instanceText connectionText instanceAt connectionAt instancesText connectionsText report nexts short read both course faultLine faultPlace afterFault noRoom stepPlace afterWalk inRoom ending judged over printing printed countOn countingCourse stepsSaid SixWhereShort
+unfolding member collect allBelow anyBelow noTables noProgram noAnswer start isServed entries inTable listOf queueOf put withQueue withServers withDone key digit numberFrom membersFrom list oneForm twoForm fourForm listForm listsForm digitsIn numberText membersBelow moreText listText maskText inTurn oneText twoText threeText fourText headed withType withTransition withPort programOf withInstruction answerOf withStep dueLine countLineIn initialLine tranLine behaviorLine group portLine doId doNumber doEnds doLine stepId stepNumber stepLine each upToLf lfs lineNumber lineStart tranAt behaviorAt portAt typeLines instructionAt sheet stepAt answer instructionAction moveAction actionCheck effect addCheck added down closed zeroed renewed isOf isUsePort isProvidePort conCheck connected sameConnection dconCheck disconnected namedBy delCheck deleted endCheck endTo enterRow enterCheck enterTo mayLeave finishRow finishCheck finished fireRow fireCheck fireTo active current endsAt leaving entering fired endedBy entered withQueued wouldLeave refusing serves blocks employs failsUnserved failsRefusing failsInUse portCheck pushbCheck pushed actionAt action stepCheckWith stepTo step waitCheck oneMore walk walkAnswer textText faultText tally countText instanceText connectionText instanceAt connectionLine linesFrom instancesText connectionsText reportWith report nexts short read both course faultLine faultPlace afterFault noRoom stepPlace afterWalk inRoom ending judged over printing printed countOn countingCourse stepsSaid SixWhereShort
 computed = record {
   marked = (refl, (refl, ((refl, refl), ((refl, refl), ((refl, refl), ((refl, refl), ((refl, refl), ((refl, refl), ((refl, refl), ((refl, refl), ((refl, refl), tt)))))))))));
   none = record { accepted-is = refl; refused-is = refl; digit-is = λ old. refl; prints = refl };

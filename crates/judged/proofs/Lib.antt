@@ -1,6 +1,7 @@
--- The marked cases (Cases), room for every report (Room), the four shams caught (Shams), no other outcome (Once).
+-- The marked cases (Cases), the same reports from a table and from a list (Listed), room for every report (Room), the four shams caught (Shams), no other outcome (Once).
 pub mod Cases
 pub mod Read
 pub mod Room
 pub mod Shams
 pub mod Once
+pub mod Listed

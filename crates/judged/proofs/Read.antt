@@ -16,7 +16,8 @@ use Rattle.reading.specs.Limits.{lengthOk}
 use Rattle.reading.specs.Lines.{Run, Lines, on, stop}
 use Rattle.reading.specs.Texts.{sheet, answer}
 use Rattle.reading.proofs.Rests.{StopsAt}
-use Rattle.reading.proofs.Lawful.{sheet-stops, answer-stops}
+use Rattle.reading.specs.Lawful.{Lawful, SheetsAreLawful}
+use Rattle.reading.proofs.Lawful.{sheet-stops, answer-stops, sheets-are-lawful}
 use Rattle.rules.specs.Walk.{walkAnswer}
 use Rattle.judged.specs.Course.{Course, faulty, reached, goOn, short, read, defaultDepth, both, course}
 
@@ -67,6 +68,13 @@ both-ends s a =
     ends-then _ (read-ends text.Sheet sheet s (sheet-stops s)) (λ x (r, e).
     ends-then _ (read-ends text.Answer answer a (answer-stops a)) (λ y (q, f).
     reaches (record { sheet-rest = r; answer-rest = q; sheet-is = e; answer-is = f })))))
+
+pub both-lawful : (s a : List ℕ) (x : Tables × Program × Answer) → both s a ≡ reached x → Lawful (x .0) (x .1)
+unfolding SheetsAreLawful
+both-lawful s a x e = told (rw e at (both-ends s a))
+  where
+    told : Ends (Said s a) (reached x) → Lawful (x .0) (x .1)
+    told (reaches h) = sheets-are-lawful s _ _ _ (h .sheet-is)
 
 course-ends : (s a : List ℕ) → Ends (BothRead s a) (course s a)
 unfolding course

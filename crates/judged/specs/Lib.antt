@@ -1,7 +1,9 @@
--- Document 01 as one function (Course, Judged), its marked cases (Cases), and what the board asks of it (Room, Shams, Once).
+-- Document 01 as one function (Course, Judged), its marked cases (Cases), what the board asks of it (Room, Shams, Once), and the
+-- judge with the old list of connections (Listed).
 pub mod Course
 pub mod Judged
 pub mod Cases
 pub mod Room
 pub mod Shams
 pub mod Once
+pub mod Listed

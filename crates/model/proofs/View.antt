@@ -2,7 +2,7 @@
 -- Assumes nothing.
 use mathlib.Core.Path.{_≡_, refl, sym, ap, ap₂, _∙_, subst}
 use mathlib.Core.Logic.{_⊎_, inl, inr, _≢_, by-cases}
-use mathlib.Core.Bool.{cond}
+use mathlib.Core.Bool.{true, false, cond}
 use mathlib.Core.List.{List, [], _∷_, _++_, map}
 use Prim.Native.Nat.{ℕ, zero, suc, _+_, _-_, _*_, _/_, _%_, _≤_, _<_}
 use native.Mathlib.Omega.{arith}
@@ -14,8 +14,8 @@ use borrow.Author.Tests.{eq-eqb, ne-eqb}
 use Rattle.model.specs.declared.Instance.{Instance}
 use Rattle.model.specs.declared.Connection.{Connection}
 use Rattle.model.specs.declared.Configuration.{Configuration}
-use Rattle.model.specs.Empty.{absent, noConnection, start}
-use Rattle.model.specs.View.{instance, connection, slot, listOf, put, withQueue, withConnections, withDone}
+use Rattle.model.specs.Empty.{absent, noServer, start}
+use Rattle.model.specs.View.{instance, slot, portNumber, serverNumber, server, isServed, connectionAt, listOf, put, withQueue, withServers, withDone}
 
 -- ---- past an array's end
 
@@ -29,7 +29,7 @@ past-end xs d e h = List·getD-eq-default xs d (rw e h)
 -- ---- an instance put
 
 abbrev withInstances : Configuration → List Instance → Configuration
-withInstances c vs = record { instances = vs; queue = c .queue; connections = c .connections; count = c .count; done = c .done }
+withInstances c vs = record { instances = vs; queue = c .queue; servers = c .servers; done = c .done }
 
 pub put-same : (c : Configuration) (i : ℕ) (w : Instance) → i < length (c .instances) → instance (put c i w) i ≡ w
 unfolding put
@@ -56,9 +56,9 @@ unfolding put
 length-put c i w = length-set (c .instances) i w
 
 pub put-rest : (c : Configuration) (i : ℕ) (w : Instance)
-    → (put c i w .queue ≡ c .queue) × (put c i w .connections ≡ c .connections) × (put c i w .count ≡ c .count) × (put c i w .done ≡ c .done)
+    → (put c i w .queue ≡ c .queue) × (put c i w .servers ≡ c .servers) × (put c i w .done ≡ c .done)
 unfolding put
-put-rest c i w = (refl, refl, refl, refl)
+put-rest c i w = (refl, refl, refl)
 
 -- ---- a queue slot set
 
@@ -93,31 +93,58 @@ module _ (c : Configuration) (i r b : ℕ) where
       by-cases (ℕ-discrete s r) (λ e. rw (eq-eqb s r e, e) (slot-same h)) (λ n. rw (ne-eqb s r n) (slot-beside s n))
 
 pub queue-rest : (c : Configuration) (q : List ℕ)
-    → (withQueue c q .instances ≡ c .instances) × (withQueue c q .connections ≡ c .connections) × (withQueue c q .count ≡ c .count) × (withQueue c q .done ≡ c .done)
+    → (withQueue c q .instances ≡ c .instances) × (withQueue c q .servers ≡ c .servers) × (withQueue c q .done ≡ c .done)
 unfolding withQueue
-queue-rest c q = (refl, refl, refl, refl)
+queue-rest c q = (refl, refl, refl)
 
--- ---- a connection set
+-- ---- a server set
 
-pub connection-same : (c : Configuration) (l n : ℕ) (k : Connection) → l < length (c .connections)
-    → connection (withConnections c (set (c .connections) l k) n) l ≡ k
-unfolding withConnections
-connection-same c l n k h = getD-set-same (c .connections) l k noConnection h
+-- the connection of k's slot is k where its server is k's, and a slot is its port: no use port has two
+pub slot-says : (x : List ℕ) (k : Connection) → k .useport < 16 → k .provideport < 16
+    → server x (portNumber (k .user) (k .useport)) ≡ serverNumber (k .provider) (k .provideport)
+    → connectionAt x (portNumber (k .user) (k .useport)) ≡ k
+slot-says x k u p e = fields _ _ _ _ (omega arith) (omega arith) (rw e (omega arith)) (rw e (omega arith))
+  where
+    fields : (a b d f : ℕ) → a ≡ k .user → b ≡ k .useport → d ≡ k .provider → f ≡ k .provideport
+        → _≡_ {A = Connection} (record { user = a; useport = b; provider = d; provideport = f }) k
+    fields a b d f g h i j = rw (g, h, i, j)
 
-pub connection-other : (c : Configuration) (l m n : ℕ) (k : Connection) → m ≢ l
-    → connection (withConnections c (set (c .connections) l k) n) m ≡ connection c m
-unfolding withConnections
-connection-other c l m n k d = getD-set-other (c .connections) l m k noConnection d
+pub slot-is : (x : List ℕ) (s : ℕ) (k : Connection) → connectionAt x s ≡ k → s ≡ portNumber (k .user) (k .useport)
+slot-is x s k e =
+    let a : s / 16 ≡ k .user = ap (λ (k : Connection). k .user) e in
+    let b : s % 16 ≡ k .useport = ap (λ (k : Connection). k .useport) e in
+    omega arith
 
-pub connections-rest : (c : Configuration) (ks : List Connection) (n : ℕ)
-    → (withConnections c ks n .instances ≡ c .instances) × (withConnections c ks n .queue ≡ c .queue) × (withConnections c ks n .done ≡ c .done)
-unfolding withConnections
-connections-rest c ks n = (refl, refl, refl)
+-- of a table y that is x but at the slot a
+pub record Beside (x y : List ℕ) (a : ℕ) : Type 0 where
+  pub served : (s : ℕ) → s ≢ a → isServed x s ≡ isServed y s
+  pub says : (s : ℕ) → s ≢ a → connectionAt x s ≡ connectionAt y s
+
+pub set-beside : (x : List ℕ) (a v : ℕ) → Beside x (set x a v) a
+unfolding isServed
+set-beside x a v =
+    record {
+      served = λ s n. rw (getD-set-other x a s v noServer n);
+      says = λ s n. rw (getD-set-other x a s v noServer n);
+    }
+
+pub set-served : (x : List ℕ) (a v : ℕ) → a < length x → isServed (set x a (suc v)) a ≡ true
+unfolding isServed
+set-served x a v h = rw (getD-set-same x a (suc v) noServer h, ne-eqb (suc v) noServer (λ e. omega arith)) refl
+
+pub set-free : (x : List ℕ) (a : ℕ) → a < length x → isServed (set x a noServer) a ≡ false
+unfolding isServed
+set-free x a h = rw (getD-set-same x a noServer noServer h) refl
+
+pub servers-rest : (c : Configuration) (x : List ℕ)
+    → (withServers c x .instances ≡ c .instances) × (withServers c x .queue ≡ c .queue) × (withServers c x .done ≡ c .done)
+unfolding withServers
+servers-rest c x = (refl, refl, refl)
 
 pub done-rest : (c : Configuration) (n : ℕ)
-    → (withDone c n .instances ≡ c .instances) × (withDone c n .queue ≡ c .queue) × (withDone c n .connections ≡ c .connections) × (withDone c n .count ≡ c .count)
+    → (withDone c n .instances ≡ c .instances) × (withDone c n .queue ≡ c .queue) × (withDone c n .servers ≡ c .servers)
 unfolding withDone
-done-rest c n = (refl, refl, refl, refl)
+done-rest c n = (refl, refl, refl)
 
 -- ---- the start: nothing anywhere
 
@@ -134,18 +161,18 @@ pub start-slot : (i r : ℕ) → slot start i r ≡ 0
 unfolding start
 start-slot i r = all-alike 256 (i * 8 + r) 0
 
-pub start-connection : (l : ℕ) → connection start l ≡ noConnection
-unfolding start
-start-connection l = all-alike 64 l noConnection
+pub start-unserved : (s : ℕ) → isServed (start .servers) s ≡ false
+unfolding start isServed
+start-unserved s = rw (all-alike 512 s noServer) refl
 
-pub start-lengths : (length (start .instances) ≡ 32) × (length (start .queue) ≡ 256) × (length (start .connections) ≡ 64)
+pub start-lengths : (length (start .instances) ≡ 32) × (length (start .queue) ≡ 256) × (length (start .servers) ≡ 512)
 unfolding start
-start-lengths = (length-replicate 32 absent, length-replicate {A = ℕ} 256 0, length-replicate 64 noConnection)
+start-lengths = (length-replicate 32 absent, length-replicate {A = ℕ} 256 0, length-replicate {A = ℕ} 512 0)
 
 -- ---- configurations with the same views are the same
 
-abbrev made : List Instance → List ℕ → List Connection → ℕ → ℕ → Configuration
-made vs q ks n m = record { instances = vs; queue = q; connections = ks; count = n; done = m }
+abbrev made : List Instance → List ℕ → List ℕ → ℕ → Configuration
+made vs q x m = record { instances = vs; queue = q; servers = x; done = m }
 
 module _ (c d : Configuration) where
   pub same-instances : length (c .instances) ≡ 32 → length (d .instances) ≡ 32 → ((i : ℕ) → i < 32 → instance c i ≡ instance d i)
@@ -160,12 +187,12 @@ module _ (c d : Configuration) where
           subst (λ (m : ℕ). getD (c .queue) m 0 ≡ getD (d .queue) m 0) (let e : n / 8 * 8 + n % 8 ≡ n = omega arith in e)
           (f (n / 8) (n % 8) (omega arith) (omega arith))
 
-  pub same-fields : c .instances ≡ d .instances → c .queue ≡ d .queue → c .connections ≡ d .connections → c .count ≡ d .count → c .done ≡ d .done
+  pub same-fields : c .instances ≡ d .instances → c .queue ≡ d .queue → c .servers ≡ d .servers → c .done ≡ d .done
       → c ≡ d
-  same-fields a b e f g = all
+  same-fields a b e f = all
     where
-      all : made (c .instances) (c .queue) (c .connections) (c .count) (c .done) ≡ made (d .instances) (d .queue) (d .connections) (d .count) (d .done)
-      all = rw (a, b, e, f, g)
+      all : made (c .instances) (c .queue) (c .servers) (c .done) ≡ made (d .instances) (d .queue) (d .servers) (d .done)
+      all = rw (a, b, e, f)
 
 -- ---- f 0, f 1, .., n of them
 

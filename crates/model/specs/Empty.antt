@@ -24,6 +24,10 @@ noStep = record { verb = 0; id = 0; number = 0 }
 abbrev pub absent : Instance
 absent = record { present = false; kind = 0; marked = 0; running = 0; ended = 0; queued = 0 }
 
+-- the mark for a use port that nobody serves
+abbrev pub noServer : ℕ
+noServer = 0
+
 abbrev pub noConnection : Connection
 noConnection = record { user = 0; useport = 0; provider = 0; provideport = 0 }
 
@@ -49,4 +53,4 @@ mostConnections = 64
 
 -- where every walk starts
 unfoldable pub start : Configuration
-start = record { instances = replicate 32 absent; queue = replicate 256 0; connections = replicate mostConnections noConnection; count = 0; done = 0 }
+start = record { instances = replicate 32 absent; queue = replicate 256 0; servers = replicate 512 noServer; done = 0 }

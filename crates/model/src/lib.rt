@@ -81,12 +81,12 @@ pub struct Connection {
     pub provideport: u8,
 }
 
-// Eight queue slots for each instance, the head first; `count` connections; `done` is how many instructions are done.
+// Eight queue slots for each instance, the head first; `done` is how many instructions are done. `servers` says who serves each use port,
+// 16 places for each instance: 0 for nobody, else one more than 16 times the provider and its provide port.
 pub struct Configuration {
     pub instances: [Instance; 32],
     pub queue: [u8; 256],
-    pub connections: [Connection; 64],
-    pub count: u8,
+    pub servers: [u16; 512],
     pub done: usize,
 }
 

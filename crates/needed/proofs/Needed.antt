@@ -8,7 +8,7 @@ use native.Mathlib.Omega.{arith}
 use lib.Dec.{eqb, ltb}
 use lib.ListN.{getD}
 use borrow.Author.Tests.{ltb-true, not-true, eq-eqb}
-use Rattle.sets.proofs.Laws.{any-none}
+use Rattle.rules.proofs.Connections.{joined-none}
 use Rattle.forms.proofs.Tests.{by-test, and-left, and-right}
 use Rattle.model.specs.declared.Tables.{Tables}
 use Rattle.model.specs.declared.Program.{Program}
@@ -20,7 +20,7 @@ use Rattle.model.specs.declared.Walked.{Walked}
 use Rattle.sets.specs.Mask.{member, collect}
 use Rattle.sets.specs.Test.{allBelow, anyBelow, tally}
 use Rattle.model.specs.Empty.{noTables, noProgram, noAnswer, start}
-use Rattle.model.specs.View.{listOf, queueOf, put, withQueue, withConnections, withDone}
+use Rattle.model.specs.View.{isServed, listOf, queueOf, put, withQueue, withServers, withDone}
 use Rattle.forms.specs.Reader.{byte}
 use Rattle.forms.specs.Read.{key, digit, numberFrom, membersFrom, list, oneForm, twoForm, fourForm, listForm, listsForm}
 use Rattle.forms.specs.Write.{digitsIn, numberText, membersBelow, moreText, listText, maskText, inTurn, oneText}
@@ -37,12 +37,13 @@ use Rattle.rules.specs.Enter.{enterRow, enterCheckBy, enterCheck, enterTo}
 use Rattle.rules.specs.Finish.{mayLeave, finishRow, finishCheck, finished}
 use Rattle.rules.specs.Fire.{fireRow, fireCheckBy, fireCheck, fireTo}
 use Rattle.rules.specs.Instance.{active, current, endsAt, leaving, entering, fired, endedBy, entered, withQueued}
-use Rattle.rules.specs.Ports.{someConnection, wouldLeave, refusing, serves, blocks, employs, failsUnserved, failsRefusing, failsInUse, PortCheck, portCheck}
+use Rattle.rules.specs.Standing.{Standing, entries, inTable, standing, someConnection}
+use Rattle.rules.specs.Ports.{wouldLeave, refusing, serves, blocks, employs, failsUnserved, failsRefusing, failsInUse, PortCheck, portCheck}
 use Rattle.rules.specs.PushB.{pushbCheck, pushed}
-use Rattle.rules.specs.Step.{actionAt, action, numberBy, stepCheck, stepTo, step}
+use Rattle.rules.specs.Step.{actionAt, action, numberBy, stepCheckWith, stepTo, step}
 use Rattle.rules.specs.Wait.{waitCheck}
 use Rattle.rules.specs.Walk.{oneMore, walkBy, walk, walkAnswer}
-use Rattle.report.specs.Report.{countText, instanceText, instanceAt, connectionAt, instancesText, connectionsText, report}
+use Rattle.report.specs.Report.{countText, instanceText, instanceAt, connectionLine, linesFrom, instancesText, connectionsText, reportWith, report}
 use Rattle.judged.specs.Cases.{nexts}
 use Rattle.judged.specs.Course.{short, read, both, course}
 use Rattle.judged.specs.Judged.{afterWalk, inRoom, ending, judged, printing, printed}
@@ -59,17 +60,17 @@ use Rattle.needed.specs.Needed.{Variant, portCheckBy, variantStep, varia
 
 -- ---- with the rules' own notions
 
-port-check-as-ruled : (t : Tables) (c : Configuration) (i : ℕ) (v w : Instance) → portCheckBy asRuled t c i v w ≡ portCheck t c i v w
+port-check-as-ruled : (t : Tables) (y : Standing) (c : Configuration) (i : ℕ) (v w : Instance) → portCheckBy asRuled t y c i v w ≡ portCheck t y c i v w
 unfolding portCheckBy portCheck failsUnserved failsRefusing failsInUse serves blocks employs
-port-check-as-ruled t c i v w = refl
+port-check-as-ruled t y c i v w = refl
 
 -- so the two step and walk alike
 step-as-ruled : (default : ℕ) (t : Tables) (p : Program) → variantStep asRuled default t p ≡ step default t p
-unfolding step stepCheck actionCheck fireCheck enterCheck
-step-as-ruled default t p = ap by (λ i t c j v w. port-check-as-ruled t c j v w i)
+unfolding step stepCheckWith actionCheck fireCheck enterCheck
+step-as-ruled default t p = ap by (λ i t y c j v w. port-check-as-ruled t y c j v w i)
   where
     by : PortCheck → Configuration → Step → Stepped
-    by x c s = settle (numberBy (checkBy (fireCheckBy x t c) (enterCheckBy x t c) default t c) p c s) c (stepTo t p c s)
+    by x c s = settle (numberBy (checkBy (fireCheckBy x t (standing c) c) (enterCheckBy x t (standing c) c) default t (standing c) c) p c s) c (stepTo t p c s)
 
 walk-as-ruled : (default : ℕ) (t : Tables) (p : Program) (c : Configuration) (ss : List Step) → variantWalk asRuled default t p c ss ≡ walk default t p c ss
 unfolding walk
@@ -87,7 +88,7 @@ record Leaves (x : Variant) (a : List ℕ) : Type 0 where
   allows : walkedBy x P+ a .refused ≡ 0
   present : instance (walkedBy x P+ a .configuration) 1 .present ≡ true
   port : ltb 0 (portsOf (sheetTables P+) (instance (walkedBy x P+ a .configuration) 1)) ≡ true
-  fails : failsUnserved (sheetTables P+) (walkedBy x P+ a .configuration) 1 (instance (walkedBy x P+ a .configuration) 1) 0 ≡ true
+  fails : failsUnserved (sheetTables P+) (standing (walkedBy x P+ a .configuration)) (walkedBy x P+ a .configuration) 1 (instance (walkedBy x P+ a .configuration) 1) 0 ≡ true
 
 -- so many times `next` on the sheet addWait are allowed, carry this out, and print `accepted=` and this digit
 record Waits (n : ℕ) (did : List Action) (digit : ℕ) : Type 0 where
@@ -103,7 +104,7 @@ record Computed : Type 0 where
   tokens : TokensAloneIsNeeded
 
 computed : Computed
-unfolding member collect allBelow anyBelow noTables noProgram noAnswer start listOf queueOf put withQueue withConnections withDone key digit numberFrom membersFrom list oneForm twoForm fourForm listForm listsForm digitsIn numberText membersBelow moreText listText maskText inTurn oneText headed withType withTransition withPort programOf withInstruction answerOf withStep dueLine countLineIn initialLine tranLine behaviorLine group portLine doId doNumber doEnds doLine stepId stepNumber stepLine each tranAt behaviorAt portAt typeLines instructionAt sheet stepAt answer instructionAction moveAction actionCheck effect addCheck added down closed zeroed renewed isOf isUsePort isProvidePort conCheck connected endCheck endTo enterRow enterTo mayLeave finishRow finishCheck finished fireRow fireTo active current endsAt leaving entering fired endedBy entered withQueued someConnection wouldLeave refusing serves blocks employs failsUnserved failsRefusing failsInUse portCheck pushbCheck pushed actionAt action stepCheck stepTo step waitCheck oneMore walk walkAnswer tally countText instanceText instanceAt connectionAt instancesText connectionsText report nexts short read both course afterWalk inRoom ending judged printing printed deeds between portCheckBy sheetTables sheetProgram answerSteps TokensAloneIsNeeded
+unfolding member collect allBelow anyBelow noTables noProgram noAnswer start isServed entries inTable listOf queueOf put withQueue withServers withDone key digit numberFrom membersFrom list oneForm twoForm fourForm listForm listsForm digitsIn numberText membersBelow moreText listText maskText inTurn oneText headed withType withTransition withPort programOf withInstruction answerOf withStep dueLine countLineIn initialLine tranLine behaviorLine group portLine doId doNumber doEnds doLine stepId stepNumber stepLine each tranAt behaviorAt portAt typeLines instructionAt sheet stepAt answer instructionAction moveAction actionCheck effect addCheck added down closed zeroed renewed isOf isUsePort isProvidePort conCheck connected endCheck endTo enterRow enterTo mayLeave finishRow finishCheck finished fireRow fireTo active current endsAt leaving entering fired endedBy entered withQueued wouldLeave refusing serves blocks employs failsUnserved failsRefusing failsInUse portCheck pushbCheck pushed actionAt action stepCheckWith stepTo step waitCheck oneMore walk walkAnswer tally countText instanceText instanceAt connectionLine linesFrom instancesText connectionsText reportWith report nexts short read both course afterWalk inRoom ending judged printing printed deeds between portCheckBy sheetTables sheetProgram answerSteps TokensAloneIsNeeded
 computed = record {
   in-use = record { ruled = refl; allows = refl; present = refl; port = refl; fails = refl };
   ended = record { ruled = refl; allows = refl; present = refl; port = refl; fails = refl };
@@ -115,15 +116,15 @@ computed = record {
 -- ---- the demands that fail
 
 -- a use port that fails 34 as things stand
-unserved-not-safe : (t : Tables) (c : Configuration) (i q : ℕ) → instance c i .present ≡ true → q < portsOf t (instance c i) → failsUnserved t c i (instance c i) q ≡ true → ¬ Safe t c
-unfolding Safe failsUnserved someConnection serves
+unserved-not-safe : (t : Tables) (c : Configuration) (i q : ℕ) → instance c i .present ≡ true → q < portsOf t (instance c i) → failsUnserved t (standing c) c i (instance c i) q ≡ true → ¬ Safe t c
+unfolding Safe failsUnserved serves
 unserved-not-safe t c i q here port fails safe =
     let uses = isUse t (instance c i .kind) q in
     let runs = active t (instance c i) q in
     let idle = not (someConnection c (serves t c i q)) in
     let rest = and-right uses (runs && idle) fails in
     let s = safe i q here port (and-left uses (runs && idle) fails) (and-left runs idle rest) in
-    let served = any-none (c .count) (λ l. serves t c i q (connection c l)) (not-true _ (and-right runs idle rest)) (s .at) (s .stands) in
+    let served = joined-none c (serves t c i q) (connection c (s .at)) (not-true _ (and-right runs idle rest)) (s .at, s .within, s .stands, refl) in
     true≢false (rw (s .user, s .useport, s .provider, eq-eqb i i refl, eq-eqb q q refl) at served)
 
 left-unsafe : {x : Variant} {a : List ℕ} → Leaves x a → Unsafe x P+ a

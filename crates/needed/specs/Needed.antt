@@ -19,7 +19,8 @@ use Rattle.model.specs.Empty.{start}
 use Rattle.model.specs.View.{isUse, groupPlaces, groupTransitions, instance}
 use Rattle.rules.specs.Refusal.{_⇒_∣_, allowed, unserved, providerRefusing, serviceInUse, settle}
 use Rattle.rules.specs.Instance.{active, portsOf}
-use Rattle.rules.specs.Ports.{someConnection, behavior, wouldLeave, refusing, PortCheck, portCheck}
+use Rattle.rules.specs.Standing.{Standing, standing, someConnection}
+use Rattle.rules.specs.Ports.{behavior, wouldLeave, refusing, PortCheck, portCheck}
 use Rattle.rules.specs.Fire.{afterFire, fireCheckBy}
 use Rattle.rules.specs.Enter.{enterCheckBy}
 use Rattle.rules.specs.Action.{Action, add, del, pushb, con, dcon, wait, fire, end, enter, finish, checkBy}
@@ -41,27 +42,28 @@ pub record Variant : Type 0 where
   pub third : Bool
 
 -- some connection of the use port q of i leads to a provide port that passes the test; of the provide port q of i, to a use port that does
-abbrev pub someProvider : Configuration → ℕ → ℕ → (ℕ → ℕ → Bool) → Bool
-someProvider c i q test = someConnection c (λ k. eqb (k .user) i && (eqb (k .useport) q && test (k .provider) (k .provideport)))
+abbrev pub someProvider : Standing → ℕ → ℕ → (ℕ → ℕ → Bool) → Bool
+someProvider y i q test = y .some (λ k. eqb (k .user) i && (eqb (k .useport) q && test (k .provider) (k .provideport)))
 
-abbrev pub someUser : Configuration → ℕ → ℕ → (ℕ → ℕ → Bool) → Bool
-someUser c i q test = someConnection c (λ k. eqb (k .provider) i && (eqb (k .provideport) q && test (k .user) (k .useport)))
+abbrev pub someUser : Standing → ℕ → ℕ → (ℕ → ℕ → Bool) → Bool
+someUser y i q test = y .some (λ k. eqb (k .provider) i && (eqb (k .provideport) q && test (k .user) (k .useport)))
 
 -- `portCheck`, with the variant in the place of its own notions
 unfoldable pub portCheckBy : Variant → PortCheck
-portCheckBy x t c i v w =
+portCheckBy x t y c i v w =
     let uses : ℕ → Bool = isUse t (w .kind) in
     let before : ℕ → Bool = x .active t v in
     let after : ℕ → Bool = x .active t w in
     let active : ℕ → ℕ → Bool = λ j. x .active t (instance c j) in
-    anyBelow (portsOf t v) (λ q. uses q && (after q && not (someProvider c i q active))) ⇒ unserved
-    ∣ anyBelow (portsOf t v) (λ q. uses q && (after q && (not (before q) && someProvider c i q (x .refusing t c)))) ⇒ providerRefusing
-    ∣ x .third && anyBelow (portsOf t v) (λ q. not (uses q) && (before q && (not (after q) && someUser c i q active))) ⇒ serviceInUse
+    anyBelow (portsOf t v) (λ q. uses q && (after q && not (someProvider y i q active))) ⇒ unserved
+    ∣ anyBelow (portsOf t v) (λ q. uses q && (after q && (not (before q) && someProvider y i q (x .refusing t c)))) ⇒ providerRefusing
+    ∣ x .third && anyBelow (portsOf t v) (λ q. not (uses q) && (before q && (not (after q) && someUser y i q active))) ⇒ serviceInUse
     ∣ allowed
 
 -- the rules' own walk with that check in the place of 34, 35 and 36
 abbrev pub variantCheck : Variant → ℕ → Tables → Configuration → Action → ℕ
-variantCheck x default t c a = checkBy (fireCheckBy (portCheckBy x) t c) (enterCheckBy (portCheckBy x) t c) default t c a
+variantCheck x default t c a =
+    let y : Standing = standing c in checkBy (fireCheckBy (portCheckBy x) t y c) (enterCheckBy (portCheckBy x) t y c) default t y c a
 
 abbrev pub variantStep : Variant → ℕ → Tables → Program → Configuration → Step → Stepped
 variantStep x default t p c s = settle (numberBy (variantCheck x default t c) p c s) c (stepTo t p c s)
@@ -76,7 +78,7 @@ asRuled = record { active = active; refusing = λ t c j. refusing t (instance c 
 -- with them the variant is the rule, so a variant differs from the rules in its own notion alone
 unfoldable pub AsRuledIsTheRule : Type 0
 AsRuledIsTheRule =
-    ((t : Tables) (c : Configuration) (i : ℕ) (v w : Instance) → portCheckBy asRuled t c i v w ≡ portCheck t c i v w)
+    ((t : Tables) (y : Standing) (c : Configuration) (i : ℕ) (v w : Instance) → portCheckBy asRuled t y c i v w ≡ portCheck t y c i v w)
     × ((default : ℕ) (t : Tables) (p : Program) (c : Configuration) (ss : List Step) → variantWalk asRuled default t p c ss ≡ walk default t p c ss)
 
 -- a sheet and an answer walked by a variant
@@ -153,7 +155,7 @@ refusingIfAllowed = record {
   active = active;
   refusing = λ t c j q.
       active t (instance c j) q
-      && anyBelow 16 (λ p. wouldLeave t (instance c j) (behavior t c j) q p && eqb (portCheck t c j (instance c j) (afterFire t c j p)) allowed);
+      && anyBelow 16 (λ p. wouldLeave t (instance c j) (behavior t c j) q p && eqb (portCheck t (standing c) c j (instance c j) (afterFire t c j p)) allowed);
   third = true;
 }
 

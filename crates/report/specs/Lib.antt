@@ -1,3 +1,4 @@
 -- Section 'The report and its program' of 01.
 pub mod Report
 pub mod Faults
+pub mod Listed

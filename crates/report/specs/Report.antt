@@ -1,7 +1,7 @@
 -- The report, line by line, as bytes.
-use Prim.Native.Nat.{ℕ, zero, suc}
-use mathlib.Core.List.{List, [], _++_}
-use mathlib.Core.Bool.{true, false, _&&_}
+use Prim.Native.Nat.{ℕ, suc}
+use mathlib.Core.List.{List, [], _∷_, _++_}
+use mathlib.Core.Bool.{not}
 use lib.Dec.{eqb}
 use Rattle.sets.specs.Test.{tally}
 use Rattle.forms.specs.Reader.{bytes}
@@ -10,7 +10,9 @@ use Rattle.model.specs.declared.Instance.{Instance}
 use Rattle.model.specs.declared.Connection.{Connection}
 use Rattle.model.specs.declared.Configuration.{Configuration}
 use Rattle.model.specs.declared.Walked.{Walked}
-use Rattle.model.specs.View.{instance, connection, queueOf}
+use Rattle.model.specs.Empty.{noServer}
+use Rattle.model.specs.View.{instance, connectionOf, queueOf}
+use Rattle.rules.specs.Standing.{standing}
 
 -- key=number
 unfoldable pub countText : List ℕ → ℕ → List ℕ
@@ -30,26 +32,30 @@ connectionText k = bytes "connection=" ++ fourText (k .user) (k .useport) (k .pr
 unfoldable pub instanceAt : Configuration → ℕ → List ℕ
 instanceAt c i = onlyIf (instance c i .present) (instanceText i (instance c i) (queueOf c i))
 
--- among the first n connections: the line of the one with the user u and its port q, nothing where there is none
-unfoldable pub connectionAt : Configuration → ℕ → ℕ → ℕ → List ℕ
-connectionAt c zero u q = []
-connectionAt c (suc n) u q =
-    elim (eqb (connection c n .user) u && eqb (connection c n .useport) q) [
-      | true ↦ connectionText (connection c n)
-      | false ↦ connectionAt c n u q
-    ]
+-- the line of the use port of number s with the server v, nothing where that is none
+unfoldable pub connectionLine : ℕ → ℕ → List ℕ
+connectionLine s v = onlyIf (not (eqb v noServer)) (connectionText (connectionOf s v))
+
+-- the lines of a table whose first use port has the number s
+unfoldable pub linesFrom : ℕ → List ℕ → List ℕ
+linesFrom s [] = []
+linesFrom s (v ∷ x) = connectionLine s v ++ linesFrom (suc s) x
 
 -- "per instance by ascending id"; "per connection by user then port"
 unfoldable pub instancesText : Configuration → List ℕ
 instancesText c = inTurn (instanceAt c) 32
 
 unfoldable pub connectionsText : Configuration → List ℕ
-connectionsText c = inTurn (λ u. inTurn (connectionAt c (c .count) u) 16) 32
+connectionsText c = linesFrom 0 (c .servers)
 
--- "`accepted=` (steps allowed), `refused=` (0 or the number), `next=` (instructions done), `instances=`, .. `connections=`, .."
-unfoldable pub report : Walked → List ℕ
-report w =
+-- "`accepted=` (steps allowed), `refused=` (0 or the number), `next=` (instructions done), `instances=`, .. `connections=`, ..": there are n
+-- connections, and their lines are ls
+unfoldable pub reportWith : Walked → ℕ → List ℕ → List ℕ
+reportWith w n ls =
     countText (bytes "accepted=") (w .accepted) ++ countText (bytes "refused=") (w .refused)
     ++ countText (bytes "next=") (w .configuration .done)
     ++ countText (bytes "instances=") (tally 32 (λ i. instance (w .configuration) i .present)) ++ instancesText (w .configuration)
-    ++ countText (bytes "connections=") (w .configuration .count) ++ connectionsText (w .configuration)
+    ++ countText (bytes "connections=") n ++ ls
+
+unfoldable pub report : Walked → List ℕ
+report w = reportWith w (standing (w .configuration) .count) (connectionsText (w .configuration))

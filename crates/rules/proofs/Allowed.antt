@@ -20,7 +20,8 @@ use Rattle.model.specs.Empty.{absent}
 use Rattle.model.specs.View.{typeOf, isUse, instance}
 use Rattle.rules.specs.Refusal.{_⇒_∣_, allowed, idAbsent, queueEmpty, noTransition, notReady, heldOrMarked, orNumber}
 use Rattle.rules.specs.Instance.{held, active, portsOf}
-use Rattle.rules.specs.Ports.{someConnection, serves, employs, failsUnserved, failsRefusing, failsInUse, portCheck}
+use Rattle.rules.specs.Standing.{standing, someConnection}
+use Rattle.rules.specs.Ports.{serves, employs, failsUnserved, failsRefusing, failsInUse, portCheck}
 use Rattle.rules.specs.Add.{addCheck}
 use Rattle.rules.specs.Del.{namedBy, delCheck}
 use Rattle.rules.specs.PushB.{depthOf, pushbCheck}
@@ -31,6 +32,7 @@ use Rattle.rules.specs.End.{endCheck}
 use Rattle.rules.specs.Enter.{enterRow, enterCheck, enterers, afterEnter}
 use Rattle.rules.specs.Finish.{finishRow, finishCheck}
 use Rattle.rules.specs.Action.{Action, add, del, pushb, con, dcon, wait, fire, end, enter, finish, actionCheck}
+use Rattle.rules.specs.Step.{checkAt}
 use Rattle.rules.proofs.Local.{change, touches, changes, owner, ownerOf}
 
 -- ---- a row
@@ -62,7 +64,7 @@ pub record DelFacts (c : Configuration) (i : ℕ) : Type 0 where
   pub unnamed : someConnection c (namedBy i) ≡ false
   pub empty : instance c i .queued ≡ 0
 
-pub del-facts : (c : Configuration) (i : ℕ) → delCheck c i ≡ 0 → DelFacts c i
+pub del-facts : (c : Configuration) (i : ℕ) → delCheck (standing c) c i ≡ 0 → DelFacts c i
 unfolding delCheck
 del-facts c i e =
     let (present, e₁) = meets (instance c i .present) _ e in
@@ -90,9 +92,9 @@ pub record ConFacts (t : Tables) (c : Configuration) (k : Connection) : Type 0 w
   pub provides : isProvidePort t c (k .provider) (k .provideport) ≡ true
   pub apart : k .user ≢ k .provider
   pub free : someConnection c (isOf (k .user) (k .useport)) ≡ false
-  pub few : c .count < 64
+  pub few : standing c .count < 64
 
-pub con-facts : (t : Tables) (c : Configuration) (k : Connection) → conCheck t c k ≡ 0 → ConFacts t c k
+pub con-facts : (t : Tables) (c : Configuration) (k : Connection) → conCheck t (standing c) c k ≡ 0 → ConFacts t c k
 unfolding conCheck
 con-facts t c k e =
     let (user, e₁) = meets (instance c (k .user) .present) _ e in
@@ -101,7 +103,7 @@ con-facts t c k e =
     let (provides, e₄) = meets (isProvidePort t c (k .provider) (k .provideport)) _ e₃ in
     let (apart, e₅) = passes (eqb (k .user) (k .provider)) _ e₄ in
     let (free, e₆) = passes (someConnection c (isOf (k .user) (k .useport))) _ e₅ in
-    let (few, _) = meets (ltb (c .count) 64) _ e₆ in
+    let (few, _) = meets (ltb (standing c .count) 64) _ e₆ in
     record {
       user = user;
       provider = provider;
@@ -116,7 +118,7 @@ pub record DconFacts (t : Tables) (c : Configuration) (k : Connection) : Type 0 
   pub stands : someConnection c (sameConnection k) ≡ true
   pub idle : active t (instance c (k .user)) (k .useport) ≡ false
 
-pub dcon-facts : (t : Tables) (c : Configuration) (k : Connection) → dconCheck t c k ≡ 0 → DconFacts t c k
+pub dcon-facts : (t : Tables) (c : Configuration) (k : Connection) → dconCheck t (standing c) c k ≡ 0 → DconFacts t c k
 unfolding dconCheck
 dcon-facts t c k e =
     let (stands, e₁) = meets (someConnection c (sameConnection k)) _ e in
@@ -129,7 +131,7 @@ pub record MoveFacts (t : Tables) (c : Configuration) (i xs : ℕ) (ready busy :
   pub some : eqb xs 0 ≡ false
   pub ready-is : ready ≡ true
   pub free : busy ≡ false
-  pub ports : portCheck t c i (instance c i) w ≡ 0
+  pub ports : portCheck t (standing c) c i (instance c i) w ≡ 0
 
 moveRow : Instance → ℕ → Bool → Bool → ℕ
 moveRow v xs ready busy =
@@ -141,10 +143,10 @@ moveRow v xs ready busy =
     ∣ allowed
 
 move-facts : (t : Tables) (c : Configuration) (i xs : ℕ) (ready busy : Bool) (w : Instance)
-    → orNumber (moveRow (instance c i) xs ready busy) (portCheck t c i (instance c i) w) ≡ 0 → MoveFacts t c i xs ready busy w
+    → orNumber (moveRow (instance c i) xs ready busy) (portCheck t (standing c) c i (instance c i) w) ≡ 0 → MoveFacts t c i xs ready busy w
 unfolding moveRow
 move-facts t c i xs ready busy w e =
-    let (row, ports) = or-else (moveRow (instance c i) xs ready busy) (portCheck t c i (instance c i) w) e in
+    let (row, ports) = or-else (moveRow (instance c i) xs ready busy) (portCheck t (standing c) c i (instance c i) w) e in
     let (present, e₁) = meets (instance c i .present) _ row in
     let (queued, e₂) = passes (eqb (instance c i .queued) 0) _ e₁ in
     let (some, e₃) = passes (eqb xs 0) _ e₂ in
@@ -156,7 +158,7 @@ abbrev pub FireFacts : Tables → Configuration → ℕ → ℕ → Type 0
 FireFacts t c i p =
     MoveFacts t c i (leavers t c i p) (member p (instance c i .marked)) (overlaps (leavers t c i p) (held (instance c i))) (afterFire t c i p)
 
-pub fire-facts : (t : Tables) (c : Configuration) (i p : ℕ) → fireCheck t c i p ≡ 0 → FireFacts t c i p
+pub fire-facts : (t : Tables) (c : Configuration) (i p : ℕ) → fireCheck t (standing c) c i p ≡ 0 → FireFacts t c i p
 unfolding fireCheck fireRow moveRow
 fire-facts t c i p = move-facts t c i (leavers t c i p) _ _ (afterFire t c i p)
 
@@ -164,7 +166,7 @@ abbrev pub EnterFacts : Tables → Configuration → ℕ → ℕ → Type 0
 EnterFacts t c i p =
     MoveFacts t c i (enterers t c i p) (within (enterers t c i p) (instance c i .ended)) (member p (instance c i .marked)) (afterEnter t c i p)
 
-pub enter-facts : (t : Tables) (c : Configuration) (i p : ℕ) → enterCheck t c i p ≡ 0 → EnterFacts t c i p
+pub enter-facts : (t : Tables) (c : Configuration) (i p : ℕ) → enterCheck t (standing c) c i p ≡ 0 → EnterFacts t c i p
 unfolding enterCheck enterRow moveRow
 enter-facts t c i p = move-facts t c i (enterers t c i p) _ _ (afterEnter t c i p)
 
@@ -192,27 +194,27 @@ finish-facts t c i e =
 
 -- ---- the port checks
 
-module _ (t : Tables) (c : Configuration) (i : ℕ) (v w : Instance) (ok : portCheck t c i v w ≡ 0) (q : ℕ) (h : q < portsOf t v) where
+module _ (t : Tables) (c : Configuration) (i : ℕ) (v w : Instance) (ok : portCheck t (standing c) c i v w ≡ 0) (q : ℕ) (h : q < portsOf t v) where
   -- 34: a use port active after is served
   pub served : isUse t (w .kind) q ≡ true → active t w q ≡ true → someConnection c (serves t c i q) ≡ true
   unfolding portCheck failsUnserved
   served u a =
-      let (none, _) = passes (anyBelow (portsOf t v) (failsUnserved t c i w)) _ ok in
-      not-false (someConnection c (serves t c i q)) (rw (u, a) at (any-none (portsOf t v) (failsUnserved t c i w) none q h))
+      let (none, _) = passes (anyBelow (portsOf t v) (failsUnserved t (standing c) c i w)) _ ok in
+      not-false (someConnection c (serves t c i q)) (rw (u, a) at (any-none (portsOf t v) (failsUnserved t (standing c) c i w) none q h))
 
   -- 36: no active use port is connected to a provide port that falls inactive
   pub unused : isUse t (w .kind) q ≡ false → active t v q ≡ true → active t w q ≡ false → someConnection c (employs t c i q) ≡ false
   unfolding portCheck failsInUse
   unused u a b =
-      let (_, e₁) = passes (anyBelow (portsOf t v) (failsUnserved t c i w)) _ ok in
-      let (_, e₂) = passes (anyBelow (portsOf t v) (failsRefusing t c i v w)) _ e₁ in
-      let (none, _) = passes (anyBelow (portsOf t v) (failsInUse t c i v w)) _ e₂ in
-      rw (u, a, b) at (any-none (portsOf t v) (failsInUse t c i v w) none q h)
+      let (_, e₁) = passes (anyBelow (portsOf t v) (failsUnserved t (standing c) c i w)) _ ok in
+      let (_, e₂) = passes (anyBelow (portsOf t v) (failsRefusing t (standing c) c i v w)) _ e₁ in
+      let (none, _) = passes (anyBelow (portsOf t v) (failsInUse t (standing c) c i v w)) _ e₂ in
+      rw (u, a, b) at (any-none (portsOf t v) (failsInUse t (standing c) c i v w) none q h)
 
 -- ---- who is present
 
 -- an allowed action that changes an instance's part adds the instance, or the instance is present
-pub owner-known : (default : ℕ) (t : Tables) (c : Configuration) (a : Action) → actionCheck default t c a ≡ 0 → changes a (ownerOf a) ≡ true
+pub owner-known : (default : ℕ) (t : Tables) (c : Configuration) (a : Action) → checkAt default t c a ≡ 0 → changes a (ownerOf a) ≡ true
     → ((i : ℕ) × (k : ℕ) × (a ≡ add i k)) ⊎ (instance c (ownerOf a) .present ≡ true)
 unfolding actionCheck change touches owner
 owner-known default t c (add i k) e q = inl (i, k, refl)

@@ -7,4 +7,8 @@ pub mod Allowed
 pub mod Walks
 pub mod Numbers
 pub mod Connections
+pub mod InUse
 pub mod Proper
+pub mod Chains
+pub mod Same
+pub mod Listed

@@ -16,7 +16,7 @@ use Rattle.model.specs.declared.Instance.{Instance}
 use Rattle.model.specs.declared.Connection.{Connection}
 use Rattle.model.specs.declared.Configuration.{Configuration}
 use Rattle.model.specs.Empty.{absent}
-use Rattle.model.specs.View.{instance, slot, queueHead, put, withQueue, withConnections}
+use Rattle.model.specs.View.{instance, slot, queueHead, put, withQueue, withServers}
 use Rattle.model.proofs.View.{put-same, put-other, apart, outside, slot-set}
 use Rattle.rules.specs.Closing.{closed, zeroed, renewed}
 use Rattle.rules.specs.Instance.{current, leaving, entering, fired, endedBy, entered, withQueued}
@@ -118,16 +118,16 @@ Room c a = Roomy c (change a)
 
 -- ---- the table read: the connections
 
-pub record Wires : Type 0 where
-  pub list : List Connection
-  pub count : ℕ
+-- the table of servers
+abbrev pub Wires : Type 0
+Wires = List ℕ
 
 abbrev pub wires : Configuration → Wires
-wires c = record { list = c .connections; count = c .count }
+wires c = c .servers
 
 -- a configuration of nothing but connections
 abbrev bare : Wires → Configuration
-bare x = record { instances = []; queue = []; connections = x .list; count = x .count; done = 0 }
+bare x = record { instances = []; queue = []; servers = x; done = 0 }
 
 unfoldable pub rewired : Wiring → Wires → Wires
 rewired kept x = x
@@ -149,10 +149,10 @@ turned shifted q i n = closed 0 q (i * 8) (i * 8 + n)
 
 unfoldable changed : Tables → Configuration → Change → Configuration
 changed t c (part i u f) = put (withQueue c (turned u (c .queue) i (instance c i .queued))) i (f t (instance c i) (queueHead c i))
-changed t c (wiring w) = withConnections c (rewired w (wires c) .list) (rewired w (wires c) .count)
+changed t c (wiring w) = withServers c (rewired w (wires c))
 
 effect-is : (t : Tables) (c : Configuration) (a : Action) → effect t c a ≡ changed t c (change a)
-unfolding effect change changed turned rewired added deleted renewed pushed connected disconnected fireTo endTo enterTo finished put withQueue withConnections
+unfolding effect change changed turned rewired added deleted renewed pushed connected disconnected fireTo endTo enterTo finished put withQueue withServers
 effect-is t c (add i k) = refl
 effect-is t c (del i) = refl
 effect-is t c (pushb i b) = refl
@@ -252,7 +252,7 @@ pub record Rest (c : Configuration) (x : Change) (d : Configuration) : Type 0 wh
 
 module _ (t : Tables) (c : Configuration) (a : Action) where
   pub rest-after : Rest c (change a) (effect t c a)
-  unfolding changed wiringOf rewired put withQueue withConnections
+  unfolding changed wiringOf rewired put withQueue withServers
   rest-after = subst⁻¹ (Rest c (change a)) (effect-is t c a) (go (change a))
     where
       go : (x : Change) → Rest c x (changed t c x)
@@ -270,7 +270,7 @@ module _ (t : Tables) (c : Configuration) (a : Action) where
       go (wiring w) e = absurd (false≢true e)
 
   pub instance-other : (j : ℕ) → changes a j ≡ false → instance (effect t c a) j ≡ instance c j
-  unfolding changed touches withQueue withConnections
+  unfolding changed touches withQueue withServers
   instance-other j e = ap (λ (d : Configuration). instance d j) (effect-is t c a) ∙ go (change a) e
     where
       go : (x : Change) → touches x j ≡ false → instance (changed t c x) j ≡ instance c j
@@ -289,7 +289,7 @@ module _ (t : Tables) (c : Configuration) (a : Action) where
         go (wiring w) x e = absurd (false≢true e)
 
     pub slot-other : (j : ℕ) → changes a j ≡ false → (r : ℕ) → r < 8 → slot (effect t c a) j r ≡ slot c j r
-    unfolding changed touches Roomy put withQueue withConnections
+    unfolding changed touches Roomy put withQueue withServers
     slot-other j e r h = ap (λ (d : Configuration). slot d j r) (effect-is t c a) ∙ go (change a) room e
       where
         go : (x : Change) → Roomy c x → touches x j ≡ false → slot (changed t c x) j r ≡ slot c j r

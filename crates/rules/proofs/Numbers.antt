@@ -14,6 +14,7 @@ use Rattle.model.specs.declared.Step.{Step}
 use Rattle.model.specs.declared.Configuration.{Configuration}
 use Rattle.model.specs.declared.Walked.{Walked}
 use Rattle.rules.specs.Refusal.{_⇒_∣_, noInstructionLeft, orNumber}
+use Rattle.rules.specs.Standing.{Standing, standing}
 use Rattle.rules.specs.Ports.{portCheck}
 use Rattle.rules.specs.Add.{addCheck}
 use Rattle.rules.specs.Del.{delCheck}
@@ -26,7 +27,7 @@ use Rattle.rules.specs.End.{endCheck}
 use Rattle.rules.specs.Enter.{enterRow, enterCheck}
 use Rattle.rules.specs.Finish.{finishRow, finishCheck}
 use Rattle.rules.specs.Action.{Action, add, del, pushb, con, dcon, wait, fire, end, enter, finish, actionCheck}
-use Rattle.rules.specs.Step.{isNext, action, stepCheck, stepTo}
+use Rattle.rules.specs.Step.{isNext, action, stepCheckWith, stepCheck, stepTo}
 use Rattle.rules.specs.Walk.{oneMore, walk}
 use Rattle.rules.proofs.Walks.{walk-cases}
 
@@ -50,22 +51,22 @@ or-else a b f g = go (eqb a 0)
 
 ruleset rows = (row, or-else, none)
 
-check-numbered : (default : ℕ) (t : Tables) (c : Configuration) (a : Action) → Numbered (actionCheck default t c a)
+check-numbered : (default : ℕ) (t : Tables) (y : Standing) (c : Configuration) (a : Action) → Numbered (actionCheck default t y c a)
 unfolding actionCheck addCheck delCheck pushbCheck conCheck dconCheck waitCheck fireCheck fireRow endCheck enterCheck enterRow finishCheck finishRow portCheck
-check-numbered default t c (add i k) = search rows
-check-numbered default t c (del i) = search rows
-check-numbered default t c (pushb i b) = search rows
-check-numbered default t c (con k) = search rows depth 8
-check-numbered default t c (dcon k) = search rows
-check-numbered default t c (wait i) = search rows
-check-numbered default t c (fire i p) = search rows depth 8
-check-numbered default t c (end i x) = search rows
-check-numbered default t c (enter i p) = search rows depth 8
-check-numbered default t c (finish i) = search rows
+check-numbered default t y c (add i k) = search rows
+check-numbered default t y c (del i) = search rows
+check-numbered default t y c (pushb i b) = search rows
+check-numbered default t y c (con k) = search rows depth 8
+check-numbered default t y c (dcon k) = search rows
+check-numbered default t y c (wait i) = search rows
+check-numbered default t y c (fire i p) = search rows depth 8
+check-numbered default t y c (end i x) = search rows
+check-numbered default t y c (enter i p) = search rows depth 8
+check-numbered default t y c (finish i) = search rows
 
 pub step-numbered : (default : ℕ) (t : Tables) (p : Program) (c : Configuration) (s : Step) → Numbered (stepCheck default t p c s)
-unfolding stepCheck
-step-numbered default t p c s = row (isNext s && leb (p .count) (c .done)) noInstructionLeft _ tt tt (check-numbered default t c (action p c s))
+unfolding stepCheckWith
+step-numbered default t p c s = row (isNext s && leb (p .count) (c .done)) noInstructionLeft _ tt tt (check-numbered default t (standing c) c (action p c s))
 
 -- a walk over n steps
 pub record WalkNumbers (n : ℕ) (w : Walked) : Type 0 where

@@ -10,30 +10,32 @@ use native.Mathlib.Decide.{ℕ-discrete}
 use lib.Dec.{eqb}
 use borrow.Author.Tests.{eqb-true, eq-eqb, ne-eqb, lt-ltb}
 use Rattle.sets.specs.Mask.{member, collect, only, overlaps}
+use Rattle.sets.proofs.Tally.{tally-none}
 use Rattle.sets.proofs.Laws.{any-some, has-any, collect-lt, member-only, member-with, member-without, member-joined, overlaps-none}
 use Rattle.forms.proofs.Tests.{by-test}
 use Rattle.model.specs.declared.Tables.{Tables}
 use Rattle.model.specs.declared.Program.{Program}
 use Rattle.model.specs.declared.Step.{Step}
 use Rattle.model.specs.declared.Instance.{Instance}
+use Rattle.model.specs.declared.Connection.{Connection}
 use Rattle.model.specs.declared.Configuration.{Configuration}
 use Rattle.model.specs.Empty.{start}
-use Rattle.model.specs.View.{typeOf, destination, instance, connection, slot, queueHead, withDone}
-use Rattle.model.proofs.View.{start-instance, start-lengths}
+use Rattle.model.specs.View.{typeOf, destination, instance, isServed, connection, slot, queueHead, withDone}
+use Rattle.model.proofs.View.{start-instance, start-lengths, start-unserved}
 use Rattle.rules.specs.Instance.{held, current, endsAt, leaving, entering, fired, endedBy, entered, withQueued}
 use Rattle.rules.specs.Add.{fresh}
 use Rattle.rules.specs.PushB.{depthOf}
 use Rattle.rules.specs.Action.{Action, add, del, pushb, con, dcon, wait, fire, end, enter, finish, moveAction, actionCheck, effect}
-use Rattle.rules.specs.Step.{isNext, actionAt, action, stepCheck, stepTo}
+use Rattle.rules.specs.Step.{isNext, actionAt, action, checkAt, stepCheck, stepTo}
 use Rattle.rules.specs.Walk.{walk}
-use Rattle.rules.specs.Proper.{ProperInstance, Proper, WalksAreProper}
+use Rattle.rules.specs.Proper.{ProperInstance, Joins, Proper, WalksAreProper}
 use Rattle.rules.proofs.Masks.{in-collect, none-in-zero, neither, in-without, in-joined, in-with}
 use Rattle.rules.proofs.Actions.{not-add, move-no-add}
 use Rattle.rules.proofs.Tables.{Facts, facts}
 use Rattle.rules.proofs.Local.{shifted, appended, Change, part, wiring, change, touches, changes, owner, ownerOf, at-owner, self, ownInstance, turn, turnedSlot, ownSlot, Fits, Roomy, Room, instance-own, instance-other, slot-own, slot-other, rest-after}
 use Rattle.rules.proofs.Allowed.{pushb-facts, fire-facts, enter-facts, end-facts, finish-facts, owner-known, present-in}
 use Rattle.rules.proofs.Walks.{walk-keeps, number-facts, after-cases}
-use Rattle.rules.proofs.Connections.{joins-alike, wired-after}
+use Rattle.rules.proofs.Connections.{count-is, Small, joins-alike, wired-after}
 
 -- an `add` has an id below 32 and a type that exists
 abbrev pub Lawfully : Tables → Action → Type 0
@@ -153,7 +155,17 @@ module _ (default : ℕ) (t : Tables) (p : Program) (law : Facts default t p) wh
 
   -- ---- every instance's part after an action
   module _ (c : Configuration) (now : Proper default t p c) where
-    own-fits : (a : Action) → actionCheck default t c a ≡ 0 → Fits (turn (change a)) (instance c (ownerOf a) .queued)
+    -- the ends of a connection are within the limits
+    pub joins-small : (k : Connection) → Joins t c k → Small k
+    joins-small k j =
+        record {
+          user = rw (← now .instances-length) (present-in c (k .user) (j .user));
+          useport = omega (arith, j .useport, law .types (instance c (k .user) .kind) (now .each (k .user) (j .user) .kind) .ports);
+          provider = rw (← now .instances-length) (present-in c (k .provider) (j .provider));
+          provideport = omega (arith, j .provideport, law .types (instance c (k .provider) .kind) (now .each (k .provider) (j .provider) .kind) .ports);
+        }
+
+    own-fits : (a : Action) → checkAt default t c a ≡ 0 → Fits (turn (change a)) (instance c (ownerOf a) .queued)
     unfolding actionCheck change turn owner Fits
     own-fits (pushb i b) e = let x = pushb-facts default t c i b e .short in let y = law .depth in omega arith
     own-fits (finish i) e =
@@ -170,7 +182,7 @@ module _ (default : ℕ) (t : Tables) (p : Program) (law : Facts default t p) wh
     own-fits (end i x) e = tt
     own-fits (enter i q) e = tt
 
-    own-proper : (a : Action) → Lawfully t a → actionCheck default t c a ≡ 0 → changes a (ownerOf a) ≡ true
+    own-proper : (a : Action) → Lawfully t a → checkAt default t c a ≡ 0 → changes a (ownerOf a) ≡ true
         → ownInstance t (instance c (ownerOf a)) (queueHead c (ownerOf a)) a .present ≡ true
         → ProperInstance default t (ownInstance t (instance c (ownerOf a)) (queueHead c (ownerOf a)) a) (ownSlot (instance c (ownerOf a) .queued) (slot c (ownerOf a)) a)
     unfolding actionCheck change touches owner self turn turnedSlot
@@ -188,7 +200,7 @@ module _ (default : ℕ) (t : Tables) (p : Program) (law : Facts default t p) wh
         let f = enter-facts t c i x e in enter-proper (instance c i) (slot c i) (now .each i (f .present)) x (f .queued) (f .some)
     own-proper (finish i) new e q h = let f = finish-facts t c i e in finish-proper (instance c i) (slot c i) (now .each i (f .present))
 
-    module _ (a : Action) (new : Lawfully t a) (ok : actionCheck default t c a ≡ 0) where
+    module _ (a : Action) (new : Lawfully t a) (ok : checkAt default t c a ≡ 0) where
       owner-in : changes a (ownerOf a) ≡ true → ownerOf a < 32
       unfolding change owner
       owner-in q =
@@ -220,7 +232,7 @@ module _ (default : ℕ) (t : Tables) (p : Program) (law : Facts default t p) wh
 
       pub action-proper : Proper default t p (effect t c a)
       action-proper =
-          let wired = wired-after default t c (record { formed = now .connections; few = now .few; full = now .connections-length }) a ok in
+          let wired = wired-after default t c (record { formed = now .connections; few = now .few; full = now .servers-length }) joins-small a ok in
           let rest = rest-after t c a in
           record {
             each = each-proper;
@@ -229,7 +241,7 @@ module _ (default : ℕ) (t : Tables) (p : Program) (law : Facts default t p) wh
             done = rw (rest .done) (now .done);
             instances-length = rest .instances ∙ now .instances-length;
             queue-length = rest .queue ∙ now .queue-length;
-            connections-length = wired .full;
+            servers-length = wired .full;
           }
 
 -- ---- steps and walks
@@ -239,29 +251,29 @@ unfolding withDone
 with-done default t p c n h now =
     record {
       each = now .each;
-      connections = record {
-        joins = λ l g. joins-alike t c (withDone c n) (connection c l) (refl, refl) (refl, refl) (now .connections .joins l g);
-        once = now .connections .once;
-      };
+      connections = λ s h g. joins-alike t c (withDone c n) (connection c s) (refl, refl) (refl, refl) (now .connections s h g);
       few = now .few;
       done = h;
       instances-length = now .instances-length;
       queue-length = now .queue-length;
-      connections-length = now .connections-length;
+      servers-length = now .servers-length;
     }
 
-pub start-proper : (default : ℕ) (t : Tables) (p : Program) → Proper default t p start
+start-done : (p : Program) → start .done ≤ p .count
 unfolding start
+start-done p = omega arith
+
+pub start-proper : (default : ℕ) (t : Tables) (p : Program) → Proper default t p start
 start-proper default t p =
-    let (instances, queue, connections) = start-lengths in
+    let (instances, queue, servers) = start-lengths in
     record {
       each = λ i h. absurd (false≢true (sym (ap (λ (v : Instance). v .present) (start-instance i)) ∙ h));
-      connections = record { joins = λ l h. absurd (omega arith); once = λ l m h. absurd (omega arith) };
-      few = omega arith;
-      done = omega arith;
+      connections = λ s h on. absurd (false≢true (sym (start-unserved s) ∙ on));
+      few = omega (arith, count-is (start .servers) servers, tally-none 512 (isServed (start .servers)) start-unserved);
+      done = start-done p;
       instances-length = instances;
       queue-length = queue;
-      connections-length = connections;
+      servers-length = servers;
     }
 
 module _ (default : ℕ) (t : Tables) (p : Program) (law : Facts default t p) where

@@ -17,8 +17,8 @@ use Rattle.model.specs.declared.Stepped.{Stepped}
 use Rattle.model.specs.declared.Walked.{Walked}
 use Rattle.model.specs.View.{withDone}
 use Rattle.forms.proofs.Tests.{by-test}
-use Rattle.rules.specs.Action.{actionCheck, effect}
-use Rattle.rules.specs.Step.{isNext, action, stepCheck, stepTo, step}
+use Rattle.rules.specs.Action.{effect}
+use Rattle.rules.specs.Step.{isNext, action, stepCheckWith, checkAt, stepCheck, stepTo, step}
 use Rattle.rules.specs.Walk.{oneMore, walk}
 use Rattle.rules.specs.Refused.{RefusedChangesNothing, WalkIsItsAcceptedPart}
 use Rattle.rules.proofs.Local.{rest-after}
@@ -87,8 +87,8 @@ module _ (default : ℕ) (t : Tables) (p : Program) where
       (λ n. refl)
 
   -- the number of a step is that of its action, and `next` has an instruction left
-  pub number-facts : (c : Configuration) (s : Step) → stepCheck default t p c s ≡ 0 → (actionCheck default t c (action p c s) ≡ 0) × (isNext s ≡ true → c .done < p .count)
-  unfolding stepCheck
+  pub number-facts : (c : Configuration) (s : Step) → stepCheck default t p c s ≡ 0 → (checkAt default t c (action p c s) ≡ 0) × (isNext s ≡ true → c .done < p .count)
+  unfolding stepCheckWith
   number-facts c s e =
       let (left, rest) = passes (isNext s && leb (p .count) (c .done)) _ e in
       (rest, λ n. leb-false (p .count) (c .done) (rw n at left))

@@ -8,6 +8,7 @@ use Rattle.model.specs.declared.Step.{Step}
 use Rattle.model.specs.declared.Connection.{Connection}
 use Rattle.model.specs.declared.Configuration.{Configuration}
 use Rattle.model.specs.Verb.{addVerb, delVerb, pushbVerb, conVerb, dconVerb, fireVerb, endVerb, enterVerb}
+use Rattle.rules.specs.Standing.{Standing}
 use Rattle.rules.specs.Add.{addCheck, added}
 use Rattle.rules.specs.Del.{delCheck, deleted}
 use Rattle.rules.specs.PushB.{pushbCheck, pushed}
@@ -53,21 +54,21 @@ moveAction s =
     (cond (eqb (s .verb) enterVerb) (enter (s .id) (s .number))
     (finish (s .id))))
 
--- the number of an action; those of `fire` and `enter`, which ask the ports, are given
-abbrev pub checkBy : (ℕ → ℕ → ℕ) → (ℕ → ℕ → ℕ) → ℕ → Tables → Configuration → Action → ℕ
-checkBy fires enters default t c (add i k) = addCheck c i
-checkBy fires enters default t c (del i) = delCheck c i
-checkBy fires enters default t c (pushb i b) = pushbCheck default t c i b
-checkBy fires enters default t c (con k) = conCheck t c k
-checkBy fires enters default t c (dcon k) = dconCheck t c k
-checkBy fires enters default t c (wait i) = waitCheck c i
-checkBy fires enters default t c (fire i p) = fires i p
-checkBy fires enters default t c (end i x) = endCheck c i x
-checkBy fires enters default t c (enter i p) = enters i p
-checkBy fires enters default t c (finish i) = finishCheck t c i
+-- its number at c, where the connections x stand; those of `fire` and `enter`, which ask the ports, are given
+abbrev pub checkBy : (ℕ → ℕ → ℕ) → (ℕ → ℕ → ℕ) → ℕ → Tables → Standing → Configuration → Action → ℕ
+checkBy fires enters default t x c (add i k) = addCheck c i
+checkBy fires enters default t x c (del i) = delCheck x c i
+checkBy fires enters default t x c (pushb i b) = pushbCheck default t c i b
+checkBy fires enters default t x c (con k) = conCheck t x c k
+checkBy fires enters default t x c (dcon k) = dconCheck t x c k
+checkBy fires enters default t x c (wait i) = waitCheck c i
+checkBy fires enters default t x c (fire i p) = fires i p
+checkBy fires enters default t x c (end i y) = endCheck c i y
+checkBy fires enters default t x c (enter i p) = enters i p
+checkBy fires enters default t x c (finish i) = finishCheck t c i
 
-unfoldable pub actionCheck : ℕ → Tables → Configuration → Action → ℕ
-actionCheck default t c a = checkBy (fireCheck t c) (enterCheck t c) default t c a
+unfoldable pub actionCheck : ℕ → Tables → Standing → Configuration → Action → ℕ
+actionCheck default t x c a = checkBy (fireCheck t x c) (enterCheck t x c) default t x c a
 
 unfoldable pub effect : Tables → Configuration → Action → Configuration
 effect t c (add i k) = added t c i k

@@ -8,16 +8,16 @@ use Rattle.model.specs.Empty.{absent}
 use Rattle.model.specs.View.{instance}
 use Rattle.rules.specs.Refusal.{_⇒_∣_, allowed, idAbsent, stillConnected, queueNotEmpty}
 use Rattle.rules.specs.Closing.{renewed}
-use Rattle.rules.specs.Ports.{someConnection}
+use Rattle.rules.specs.Standing.{Standing}
 
 -- the connection names i
 unfoldable pub namedBy : ℕ → Connection → Bool
 namedBy i k = eqb (k .user) i || eqb (k .provider) i
 
-unfoldable pub delCheck : Configuration → ℕ → ℕ
-delCheck c i =
+unfoldable pub delCheck : Standing → Configuration → ℕ → ℕ
+delCheck x c i =
     not (instance c i .present) ⇒ idAbsent
-    ∣ someConnection c (namedBy i) ⇒ stillConnected
+    ∣ x .some (namedBy i) ⇒ stillConnected
     ∣ not (eqb (instance c i .queued) 0) ⇒ queueNotEmpty
     ∣ allowed
 

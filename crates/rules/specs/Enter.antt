@@ -10,6 +10,7 @@ use Rattle.model.specs.declared.Configuration.{Configuration}
 use Rattle.model.specs.View.{instance, put}
 use Rattle.rules.specs.Refusal.{_⇒_∣_, allowed, idAbsent, queueEmpty, noTransition, notReady, heldOrMarked, orNumber}
 use Rattle.rules.specs.Instance.{entering, entered}
+use Rattle.rules.specs.Standing.{Standing}
 use Rattle.rules.specs.Ports.{behavior, PortCheck, portCheck}
 
 -- xs is what leads to p
@@ -29,11 +30,11 @@ abbrev pub afterEnter : Tables → Configuration → ℕ → ℕ → Instance
 afterEnter t c i p = entered (instance c i) p (enterers t c i p)
 
 -- the row, and then a check of the ports
-abbrev pub enterCheckBy : PortCheck → Tables → Configuration → ℕ → ℕ → ℕ
-enterCheckBy ports t c i p = orNumber (enterRow (instance c i) p (enterers t c i p)) (ports t c i (instance c i) (afterEnter t c i p))
+abbrev pub enterCheckBy : PortCheck → Tables → Standing → Configuration → ℕ → ℕ → ℕ
+enterCheckBy ports t x c i p = orNumber (enterRow (instance c i) p (enterers t c i p)) (ports t x c i (instance c i) (afterEnter t c i p))
 
-unfoldable pub enterCheck : Tables → Configuration → ℕ → ℕ → ℕ
-enterCheck t c i p = enterCheckBy portCheck t c i p
+unfoldable pub enterCheck : Tables → Standing → Configuration → ℕ → ℕ → ℕ
+enterCheck t x c i p = enterCheckBy portCheck t x c i p
 
 unfoldable pub enterTo : Tables → Configuration → ℕ → ℕ → Configuration
 enterTo t c i p = put c i (afterEnter t c i p)

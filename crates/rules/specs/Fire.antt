@@ -10,6 +10,7 @@ use Rattle.model.specs.declared.Configuration.{Configuration}
 use Rattle.model.specs.View.{instance, put}
 use Rattle.rules.specs.Refusal.{_⇒_∣_, allowed, idAbsent, queueEmpty, noTransition, notReady, heldOrMarked, orNumber}
 use Rattle.rules.specs.Instance.{held, leaving, fired}
+use Rattle.rules.specs.Standing.{Standing}
 use Rattle.rules.specs.Ports.{behavior, PortCheck, portCheck}
 
 -- xs is what leaves p
@@ -29,11 +30,11 @@ abbrev pub afterFire : Tables → Configuration → ℕ → ℕ → Instance
 afterFire t c i p = fired (instance c i) p (leavers t c i p)
 
 -- the row, and then a check of the ports
-abbrev pub fireCheckBy : PortCheck → Tables → Configuration → ℕ → ℕ → ℕ
-fireCheckBy ports t c i p = orNumber (fireRow (instance c i) p (leavers t c i p)) (ports t c i (instance c i) (afterFire t c i p))
+abbrev pub fireCheckBy : PortCheck → Tables → Standing → Configuration → ℕ → ℕ → ℕ
+fireCheckBy ports t x c i p = orNumber (fireRow (instance c i) p (leavers t c i p)) (ports t x c i (instance c i) (afterFire t c i p))
 
-unfoldable pub fireCheck : Tables → Configuration → ℕ → ℕ → ℕ
-fireCheck t c i p = fireCheckBy portCheck t c i p
+unfoldable pub fireCheck : Tables → Standing → Configuration → ℕ → ℕ → ℕ
+fireCheck t x c i p = fireCheckBy portCheck t x c i p
 
 unfoldable pub fireTo : Tables → Configuration → ℕ → ℕ → Configuration
 fireTo t c i p = put c i (afterFire t c i p)

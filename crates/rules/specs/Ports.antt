@@ -1,20 +1,18 @@
--- Connections and the three checks of ports, 34, 35 and 36, where instance i goes from v to w.
+-- The three checks of ports, 34, 35 and 36, where instance i goes from v to w and the connections x stand.
 use mathlib.Core.Bool.{Bool, not, _&&_}
-use Prim.Native.Nat.{ℕ}
+use Prim.Native.Nat.{ℕ, _<_}
+use mathlib.Core.Path.{_≡_}
 use lib.Dec.{eqb}
 use Rattle.sets.specs.Test.{anyBelow}
-use Rattle.sets.specs.Mask.{member, overlaps}
+use Rattle.sets.specs.Mask.{member, collect, overlaps}
 use Rattle.model.specs.declared.Tables.{Tables}
 use Rattle.model.specs.declared.Instance.{Instance}
 use Rattle.model.specs.declared.Connection.{Connection}
 use Rattle.model.specs.declared.Configuration.{Configuration}
-use Rattle.model.specs.View.{isUse, instance, connection, queueHead}
+use Rattle.model.specs.View.{isUse, instance, queueHead}
 use Rattle.rules.specs.Refusal.{_⇒_∣_, allowed, unserved, providerRefusing, serviceInUse}
+use Rattle.rules.specs.Standing.{Standing}
 use Rattle.rules.specs.Instance.{held, active, portsOf, current, leaving, fired}
-
--- some connection passes the test
-unfoldable pub someConnection : Configuration → (Connection → Bool) → Bool
-someConnection c test = anyBelow (c .count) (λ l. test (connection c l))
 
 -- the current behavior of instance i
 abbrev pub behavior : Tables → Configuration → ℕ → ℕ
@@ -43,25 +41,36 @@ unfoldable pub employs : Tables → Configuration → ℕ → ℕ → Connection
 employs t c i q k = eqb (k .provider) i && (eqb (k .provideport) q && active t (instance c (k .user)) (k .useport))
 
 -- "Each use port active after must be connected to an active provide port"
-unfoldable pub failsUnserved : Tables → Configuration → ℕ → Instance → ℕ → Bool
-failsUnserved t c i w q = isUse t (w .kind) q && (active t w q && not (someConnection c (serves t c i q)))
+unfoldable pub failsUnserved : Tables → Standing → Configuration → ℕ → Instance → ℕ → Bool
+failsUnserved t x c i w q = isUse t (w .kind) q && (active t w q && not (x .some (serves t c i q)))
 
 -- "If it was inactive before, that provide port must not be refusing"
-unfoldable pub failsRefusing : Tables → Configuration → ℕ → Instance → Instance → ℕ → Bool
-failsRefusing t c i v w q = isUse t (w .kind) q && (active t w q && (not (active t v q) && someConnection c (blocks t c i q)))
+unfoldable pub failsRefusing : Tables → Standing → Configuration → ℕ → Instance → Instance → ℕ → Bool
+failsRefusing t x c i v w q = isUse t (w .kind) q && (active t w q && (not (active t v q) && x .some (blocks t c i q)))
 
 -- "Each provide port active before and inactive after must have no active use port connected"
-unfoldable pub failsInUse : Tables → Configuration → ℕ → Instance → Instance → ℕ → Bool
-failsInUse t c i v w q = not (isUse t (w .kind) q) && (active t v q && (not (active t w q) && someConnection c (employs t c i q)))
+unfoldable pub failsInUse : Tables → Standing → Configuration → ℕ → Instance → Instance → ℕ → Bool
+failsInUse t x c i v w q = not (isUse t (w .kind) q) && (active t v q && (not (active t w q) && x .some (employs t c i q)))
+
+-- the provide ports of i that have an active use port connected
+unfoldable pub inUse : Tables → Standing → Configuration → ℕ → ℕ
+inUse t x c i = collect 32 (λ q. x .some (employs t c i q))
 
 -- what a check of the ports looks at
 abbrev pub PortCheck : Type 0
-PortCheck = Tables → Configuration → ℕ → Instance → Instance → ℕ
+PortCheck = Tables → Standing → Configuration → ℕ → Instance → Instance → ℕ
 
 -- "Only the moving instance's own ports are tested"; "Checks 34, 35 and 36 each run over all ports before the next"
 unfoldable pub portCheck : PortCheck
-portCheck t c i v w =
-    anyBelow (portsOf t v) (failsUnserved t c i w) ⇒ unserved
-    ∣ anyBelow (portsOf t v) (failsRefusing t c i v w) ⇒ providerRefusing
-    ∣ anyBelow (portsOf t v) (failsInUse t c i v w) ⇒ serviceInUse
+portCheck t x c i v w =
+    anyBelow (portsOf t v) (failsUnserved t x c i w) ⇒ unserved
+    ∣ anyBelow (portsOf t v) (failsRefusing t x c i v w) ⇒ providerRefusing
+    ∣ anyBelow (portsOf t v) (failsInUse t x c i v w) ⇒ serviceInUse
     ∣ allowed
+
+-- 36 by the set of the ports in use: one set serves all ports
+unfoldable pub InUseByTheSet : Type 0
+InUseByTheSet =
+    (t : Tables) (x : Standing) (c : Configuration) (i : ℕ) (v w : Instance) (q : ℕ)
+    → q < 32
+    → failsInUse t x c i v w q ≡ (not (isUse t (w .kind) q) && (active t v q && (not (active t w q) && member q (inUse t x c i))))

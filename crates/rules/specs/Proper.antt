@@ -1,5 +1,6 @@
 -- What every point of a walk on lawful tables keeps: numbers within the type, running and ended apart, the queue within the depth, at most
--- 64 connections, each between the right ports of two present instances.
+-- 64 connections, each between the right ports of two present instances. That a use port has one at most is a law of the table: a slot is
+-- its port.
 use mathlib.Core.Path.{_≡_}
 use mathlib.Core.Logic.{_≢_}
 use mathlib.Core.Bool.{true, false}
@@ -14,8 +15,9 @@ use Rattle.model.specs.declared.Instance.{Instance}
 use Rattle.model.specs.declared.Connection.{Connection}
 use Rattle.model.specs.declared.Configuration.{Configuration}
 use Rattle.model.specs.Empty.{start, mostConnections}
-use Rattle.model.specs.View.{typeOf, isUse, instance, connection, slot}
+use Rattle.model.specs.View.{typeOf, isUse, instance, slot, portNumber, server, isServed, connectionAt, connection}
 use Rattle.reading.specs.Lawful.{Lawful}
+use Rattle.rules.specs.Standing.{standing}
 use Rattle.rules.specs.Instance.{portsOf}
 use Rattle.rules.specs.PushB.{depthOf}
 use Rattle.rules.specs.Walk.{walk}
@@ -40,19 +42,27 @@ pub record Joins (t : Tables) (c : Configuration) (k : Connection) : Type 0 wher
   pub provideport : k .provideport < portsOf t (instance c (k .provider))
   pub provides : isUse t (instance c (k .provider) .kind) (k .provideport) ≡ false
 
--- each connection joins, and a use port has one at most
-pub record WellFormed (t : Tables) (c : Configuration) : Type 0 where
-  pub joins : (l : ℕ) → l < c .count → Joins t c (connection c l)
-  pub once : (l m : ℕ) → l < c .count → m < c .count → connection c l .user ≡ connection c m .user → connection c l .useport ≡ connection c m .useport → l ≡ m
+-- each connection joins
+abbrev pub WellFormed : Tables → Configuration → Type 0
+WellFormed t c = (s : ℕ) → s < 512 → isServed (c .servers) s ≡ true → Joins t c (connection c s)
+
+-- a use port has one connection at most, in any table
+unfoldable pub SlotIsItsPort : Type 0
+SlotIsItsPort = (x : List ℕ) (s : ℕ) → s ≡ portNumber (connectionAt x s .user) (connectionAt x s .useport)
+
+-- a server's number is at most 512, so that it fits what holds it
+unfoldable pub EntriesAreSmall : Type 0
+EntriesAreSmall =
+    (t : Tables) (c : Configuration) → length (c .instances) ≡ 32 → length (c .servers) ≡ 512 → WellFormed t c → (s : ℕ) → server (c .servers) s ≤ 512
 
 pub record Proper (default : ℕ) (t : Tables) (p : Program) (c : Configuration) : Type 0 where
   pub each : (i : ℕ) → instance c i .present ≡ true → ProperInstance default t (instance c i) (slot c i)
   pub connections : WellFormed t c
-  pub few : c .count ≤ mostConnections
+  pub few : standing c .count ≤ mostConnections
   pub done : c .done ≤ p .count
   pub instances-length : length (c .instances) ≡ 32
   pub queue-length : length (c .queue) ≡ 256
-  pub connections-length : length (c .connections) ≡ mostConnections
+  pub servers-length : length (c .servers) ≡ 512
 
 -- a prefix of an answer is an answer, so this speaks of each accepted point
 unfoldable pub WalksAreProper : Type 0

@@ -12,6 +12,7 @@ use Rattle.model.specs.Empty.{noInstruction}
 use Rattle.model.specs.View.{withDone}
 use Rattle.model.specs.Verb.{nextVerb}
 use Rattle.rules.specs.Refusal.{noInstructionLeft, settle}
+use Rattle.rules.specs.Standing.{Standing, standing}
 use Rattle.rules.specs.Action.{Action, instructionAction, moveAction, actionCheck, effect}
 
 abbrev pub isNext : Step → Bool
@@ -29,8 +30,16 @@ action p c s = cond (isNext s) (actionAt p (c .done)) (moveAction s)
 abbrev pub numberBy : (Action → ℕ) → Program → Configuration → Step → ℕ
 numberBy checks p c s = cond (isNext s && leb (p .count) (c .done)) noInstructionLeft (checks (action p c s))
 
-unfoldable pub stepCheck : ℕ → Tables → Program → Configuration → Step → ℕ
-stepCheck default t p c s = numberBy (actionCheck default t c) p c s
+-- at c, where the connections x stand
+unfoldable pub stepCheckWith : ℕ → Tables → Program → Standing → Configuration → Step → ℕ
+stepCheckWith default t p x c s = numberBy (actionCheck default t x c) p c s
+
+-- with the connections of the table
+abbrev pub checkAt : ℕ → Tables → Configuration → Action → ℕ
+checkAt default t c a = actionCheck default t (standing c) c a
+
+abbrev pub stepCheck : ℕ → Tables → Program → Configuration → Step → ℕ
+stepCheck default t p c s = stepCheckWith default t p (standing c) c s
 
 unfoldable pub stepTo : Tables → Program → Configuration → Step → Configuration
 stepTo t p c s = cond (isNext s) (withDone (effect t c (action p c s)) (suc (c .done))) (effect t c (action p c s))
