@@ -2,7 +2,7 @@
 -- Assumes nothing.
 use mathlib.Core.Path.{_≡_, refl, ap, ap₂, _∙_}
 use mathlib.Core.Logic.{_≢_, ⊎-elim}
-use mathlib.Core.Bool.{Bool, true, false}
+use mathlib.Core.Bool.{Bool, true, false, not}
 use Prim.Native.Nat.{ℕ, zero, suc, _+_, _≤_, _<_}
 use native.Mathlib.Nat.{le-step}
 use native.Mathlib.Omega.{arith}
@@ -43,3 +43,14 @@ tally-one (suc n) a p q h off on same =
     (λ e. rw (← e, off, on, tally-same a p q (λ i l. same i (λ f. omega arith))) (omega arith))
     (λ l. rw (tally-one n a p q l off on same, same n (λ f. omega arith)) (omega arith))
     (below-cases h)
+
+-- those that pass and those that don't
+pub tally-both : (n : ℕ) (p : ℕ → Bool) → tally n p + tally n (λ i. not (p i)) ≡ n
+unfolding tally
+tally-both zero p = refl
+tally-both (suc n) p = go (p n) (tally-both n p)
+  where
+    go : (b : Bool) → tally n p + tally n (λ i. not (p i)) ≡ n
+        → (tally n p + elim b [ true ↦ 1 | false ↦ 0 ]) + (tally n (λ i. not (p i)) + elim (not b) [ true ↦ 1 | false ↦ 0 ]) ≡ suc n
+    go true e = omega (arith, e)
+    go false e = omega (arith, e)

@@ -1,4 +1,4 @@
--- A row of the state put is one instance, one queue slot or one connection, and words that are all 0 are the start.
+-- A row of the state put is one instance, one queue slot or one server, and words that are all 0 are the start.
 -- Assumes nothing.
 use mathlib.Core.Path.{_≡_, refl, sym, ap, _∙_}
 use mathlib.Core.Logic.{_⊎_, inl, inr, _≢_, by-cases}
@@ -14,15 +14,14 @@ use borrow.Author.Tests.{eq-eqb, ne-eqb}
 use Rattle.sets.specs.Mask.{member, with, without, only}
 use Rattle.sets.proofs.Laws.{member-past, member-with, member-without, member-only}
 use Rattle.model.specs.declared.Instance.{Instance}
-use Rattle.model.specs.declared.Connection.{Connection}
 use Rattle.model.specs.declared.Configuration.{Configuration}
-use Rattle.model.specs.Empty.{absent, noConnection, start}
-use Rattle.model.specs.View.{instance, connection, listOf, put, withQueue, withConnections, withDone}
+use Rattle.model.specs.Empty.{absent, start}
+use Rattle.model.specs.View.{instance, server, listOf, put, withQueue, withServers, withDone}
 use Rattle.model.proofs.View.{past-end, put-past, put-twice, list-at, length-list}
 use Rattle.rules.specs.Instance.{withQueued}
-use Rattle.words.specs.Rows.{word, row, rowAt, rows, column, puts, putsIn}
-use Rattle.words.specs.Words.{instanceIn, connectionIn, stateIn}
-use Rattle.words.specs.Parts.{withSets, bare, withSlot, withConnection, withCount, connectionOf, changed}
+use Rattle.words.specs.Rows.{word, row, rowAt, rows, puts, putsIn}
+use Rattle.words.specs.Words.{instanceIn, stateIn}
+use Rattle.words.specs.Parts.{withSets, bare, withSlot, withServer, changed}
 use Rattle.words.proofs.Rows.{Apart, one-put, in-far, rows-put, rows-far, rows-same, rows-at, rows-none, none-word}
 
 -- ---- fields
@@ -43,14 +42,17 @@ module _ (ws : List ℕ) where
       ap (λ (v : Instance). v .present)
       (past-end (rows (instanceIn (word ws 0)) ws 1 32 5) absent (length-list 32 (λ k. instanceIn (word ws 0) k (row ws 1 5 k))) h)
 
-  pub connection-at : (l : ℕ) (get : Connection → ℕ) → get (connectionIn l []) ≡ get noConnection
-      → get (connection (stateIn ws) l) ≡ get (connectionIn l (rowAt ws 417 64 4 l))
-  unfolding stateIn
-  connection-at l get e = rows-at connectionIn 417 64 4 noConnection get ws l e
-
   pub slot-at : (n : ℕ) → getD (stateIn ws .queue) n 0 ≡ word (rowAt ws 161 256 1 n) 0
   unfolding stateIn
   slot-at n = rows-at (λ k r. word r 0) 161 256 1 0 (λ (x : ℕ). x) ws n refl
+
+  pub server-at : (n : ℕ) → server (stateIn ws .servers) n ≡ word (rowAt ws 417 512 1 n) 0
+  unfolding stateIn
+  server-at n = rows-at (λ k r. word r 0) 417 512 1 0 (λ (x : ℕ). x) ws n refl
+
+  pub servers-many : length (stateIn ws .servers) ≡ 512
+  unfolding stateIn
+  servers-many = length-list 512 (λ k. word (row ws 417 1 k) 0)
 
 -- ---- an instance put
 
@@ -67,7 +69,7 @@ module _ (ws : List ℕ) (i : ℕ) where
   unfolding stateIn
   own h = list-at 32 (λ k. instanceIn (word ws 0) k (row ws 1 5 k)) absent i h
 
-  module _ (full : length ws ≡ 675) where
+  module _ (full : length ws ≡ 930) where
     row-put : (f : ℕ) (xs : List ℕ) → f + length xs ≤ 5
         → stateIn (putsIn ws 1 32 5 i f xs) ≡ put (stateIn ws) i (instanceIn (word ws 0) i (puts (row ws 1 5 i) f xs))
     unfolding stateIn put
@@ -75,9 +77,8 @@ module _ (ws : List ℕ) (i : ℕ) where
       instances = (ap (λ (m : ℕ). rows (instanceIn m) (putsIn ws 1 32 5 i f xs) 1 32 5) (in-far ws xs 1 32 5 i f l 0 (inl (omega arith)))
           ∙ rows-put (instanceIn (word ws 0)) 1 32 5 absent ws xs i f l (omega arith)) j;
       queue = rows-far (λ k r. word r 0) 161 256 1 ws xs 1 32 5 i f l (inr (omega arith)) j;
-      connections = rows-far connectionIn 417 64 4 ws xs 1 32 5 i f l (inr (omega arith)) j;
-      count = in-far ws xs 1 32 5 i f l 673 (inr (omega arith)) j;
-      done = in-far ws xs 1 32 5 i f l 674 (inr (omega arith)) j;
+      servers = rows-far (λ k r. word r 0) 417 512 1 ws xs 1 32 5 i f l (inr (omega arith)) j;
+      done = in-far ws xs 1 32 5 i f l 929 (inr (omega arith)) j;
     }
 
     pub sets-put : (m r e : ℕ) → stateIn (putsIn ws 1 32 5 i 1 (m ∷ r ∷ e ∷ [])) ≡ put (stateIn ws) i (withSets (instance (stateIn ws) i) m r e)
@@ -107,9 +108,8 @@ module _ (ws : List ℕ) (i : ℕ) where
           ∙ one-put 32 (λ k. instanceIn (word ws 0) k (row ws 1 5 k)) absent (λ k. instanceIn m k (row ws 1 5 k)) i
           (λ k h d. ap (λ (b : Bool). with-present b k) (e k h d))) j;
       queue = rows-same (λ k r. word r 0) 161 256 1 ws us (λ n l h. far n (omega arith)) j;
-      connections = rows-same connectionIn 417 64 4 ws us (λ n l h. far n (omega arith)) j;
-      count = far 673 (omega arith) j;
-      done = far 674 (omega arith) j;
+      servers = rows-same (λ k r. word r 0) 417 512 1 ws us (λ n l h. far n (omega arith)) j;
+      done = far 929 (omega arith) j;
     }
       where
         us : List ℕ
@@ -131,7 +131,7 @@ changed-own : (m i : ℕ) (here : Bool) → i < 32 → member i (changed m i her
 changed-own m i true h = member-with i i m h ∙ rw (eq-eqb i i refl) (or-true (member i m))
 changed-own m i false h = member-without i m (only i) h ∙ rw (member-only i i h, eq-eqb i i refl) (and-false (member i m))
 
-pub instance-put : (ws : List ℕ) (i k m : ℕ) (here : Bool) → length ws ≡ 675
+pub instance-put : (ws : List ℕ) (i k m : ℕ) (here : Bool) → length ws ≡ 930
     → stateIn (putsIn (set ws 0 (changed (word ws 0) i here)) 1 32 5 i 0 (k ∷ m ∷ 0 ∷ 0 ∷ 0 ∷ [])) ≡ put (stateIn ws) i (bare here k m)
 instance-put ws i k m here full =
     bare-put us i (length-set ws 0 new ∙ full) k m
@@ -146,82 +146,53 @@ instance-put ws i k m here full =
     us : List ℕ
     us = set ws 0 new
 
--- ---- a slot, a connection and the two numbers put
+-- ---- a slot, a server and the number of instructions done put
 
-module _ (ws : List ℕ) (full : length ws ≡ 675) where
+module _ (ws : List ℕ) (full : length ws ≡ 930) where
   pub slot-put : (n x : ℕ) → stateIn (putsIn ws 161 256 1 n 0 (x ∷ [])) ≡ withSlot (stateIn ws) n x
   unfolding stateIn withQueue puts listOf
   slot-put n x j = record {
     instances = (ap (λ (m : ℕ). rows (instanceIn m) (putsIn ws 161 256 1 n 0 (x ∷ [])) 1 32 5) (in-far ws (x ∷ []) 161 256 1 n 0 (omega arith) 0 (inl (omega arith)))
         ∙ rows-far (instanceIn (word ws 0)) 1 32 5 ws (x ∷ []) 161 256 1 n 0 (omega arith) (inl (omega arith))) j;
     queue = rows-put (λ k r. word r 0) 161 256 1 0 ws (x ∷ []) n 0 (omega arith) (omega arith) j;
-    connections = rows-far connectionIn 417 64 4 ws (x ∷ []) 161 256 1 n 0 (omega arith) (inr (omega arith)) j;
-    count = in-far ws (x ∷ []) 161 256 1 n 0 (omega arith) 673 (inr (omega arith)) j;
-    done = in-far ws (x ∷ []) 161 256 1 n 0 (omega arith) 674 (inr (omega arith)) j;
+    servers = rows-far (λ k r. word r 0) 417 512 1 ws (x ∷ []) 161 256 1 n 0 (omega arith) (inr (omega arith)) j;
+    done = in-far ws (x ∷ []) 161 256 1 n 0 (omega arith) 929 (inr (omega arith)) j;
   }
 
-  pub connection-put : (l a b d e : ℕ) → stateIn (putsIn ws 417 64 4 l 0 (a ∷ b ∷ d ∷ e ∷ [])) ≡ withConnection (stateIn ws) l (connectionOf a b d e)
-  unfolding stateIn withConnections puts listOf
-  connection-put l a b d e j = record {
-    instances = (ap (λ (m : ℕ). rows (instanceIn m) (putsIn ws 417 64 4 l 0 xs) 1 32 5) (in-far ws xs 417 64 4 l 0 (omega arith) 0 (inl (omega arith)))
-        ∙ rows-far (instanceIn (word ws 0)) 1 32 5 ws xs 417 64 4 l 0 (omega arith) (inl (omega arith))) j;
-    queue = rows-far (λ k r. word r 0) 161 256 1 ws xs 417 64 4 l 0 (omega arith) (inl (omega arith)) j;
-    connections = rows-put connectionIn 417 64 4 noConnection ws xs l 0 (omega arith) (omega arith) j;
-    count = in-far ws xs 417 64 4 l 0 (omega arith) 673 (inr (omega arith)) j;
-    done = in-far ws xs 417 64 4 l 0 (omega arith) 674 (inr (omega arith)) j;
-  }
-    where
-      xs : List ℕ
-      xs = a ∷ b ∷ d ∷ e ∷ []
-
-  -- a number past the rows
-  module _ (p x : ℕ) (past : 673 ≤ p) where
-    abbrev us : List ℕ
-    us = set ws p x
-
-    far : (n : ℕ) → n < 673 → word us n ≡ word ws n
-    far n h = getD-set-other ws p n x 0 (λ z. omega arith)
-
-    instances-far : rows (instanceIn (word us 0)) us 1 32 5 ≡ rows (instanceIn (word ws 0)) ws 1 32 5
-    instances-far =
-        ap (λ (m : ℕ). rows (instanceIn m) us 1 32 5) (far 0 (omega arith)) ∙ rows-same (instanceIn (word ws 0)) 1 32 5 ws us (λ n b h. far n (omega arith))
-
-    queue-far : column us 161 256 1 0 ≡ column ws 161 256 1 0
-    queue-far = rows-same (λ k r. word r 0) 161 256 1 ws us (λ n b h. far n (omega arith))
-
-    connections-far : rows connectionIn us 417 64 4 ≡ rows connectionIn ws 417 64 4
-    connections-far = rows-same connectionIn 417 64 4 ws us (λ n b h. far n (omega arith))
-
-  pub count-put : (x : ℕ) → stateIn (set ws 673 x) ≡ withCount (stateIn ws) x
-  unfolding stateIn withConnections
-  count-put x j = record {
-    instances = instances-far 673 x (omega arith) j;
-    queue = queue-far 673 x (omega arith) j;
-    connections = connections-far 673 x (omega arith) j;
-    count = getD-set-same ws 673 x 0 (omega arith) j;
-    done = getD-set-other ws 673 674 x 0 (λ z. omega arith) j;
+  pub server-put : (s x : ℕ) → stateIn (putsIn ws 417 512 1 s 0 (x ∷ [])) ≡ withServer (stateIn ws) s x
+  unfolding stateIn withServers puts listOf
+  server-put s x j = record {
+    instances = (ap (λ (m : ℕ). rows (instanceIn m) (putsIn ws 417 512 1 s 0 (x ∷ [])) 1 32 5) (in-far ws (x ∷ []) 417 512 1 s 0 (omega arith) 0 (inl (omega arith)))
+        ∙ rows-far (instanceIn (word ws 0)) 1 32 5 ws (x ∷ []) 417 512 1 s 0 (omega arith) (inl (omega arith))) j;
+    queue = rows-far (λ k r. word r 0) 161 256 1 ws (x ∷ []) 417 512 1 s 0 (omega arith) (inl (omega arith)) j;
+    servers = rows-put (λ k r. word r 0) 417 512 1 0 ws (x ∷ []) s 0 (omega arith) (omega arith) j;
+    done = in-far ws (x ∷ []) 417 512 1 s 0 (omega arith) 929 (inr (omega arith)) j;
   }
 
-  pub done-put : (x : ℕ) → stateIn (set ws 674 x) ≡ withDone (stateIn ws) x
+  pub done-put : (x : ℕ) → stateIn (set ws 929 x) ≡ withDone (stateIn ws) x
   unfolding stateIn withDone
   done-put x j = record {
-    instances = instances-far 674 x (omega arith) j;
-    queue = queue-far 674 x (omega arith) j;
-    connections = connections-far 674 x (omega arith) j;
-    count = getD-set-other ws 674 673 x 0 (λ z. omega arith) j;
-    done = getD-set-same ws 674 x 0 (omega arith) j;
+    instances = (ap (λ (m : ℕ). rows (instanceIn m) us 1 32 5) (far 0 (omega arith)) ∙ rows-same (instanceIn (word ws 0)) 1 32 5 ws us (λ n b h. far n (omega arith))) j;
+    queue = rows-same (λ k r. word r 0) 161 256 1 ws us (λ n b h. far n (omega arith)) j;
+    servers = rows-same (λ k r. word r 0) 417 512 1 ws us (λ n b h. far n (omega arith)) j;
+    done = getD-set-same ws 929 x 0 (omega arith) j;
   }
+    where
+      us : List ℕ
+      us = set ws 929 x
+
+      far : (n : ℕ) → n < 929 → word us n ≡ word ws n
+      far n h = getD-set-other ws 929 n x 0 (λ z. omega arith)
 
 -- ---- the start
 
-pub start-in : stateIn (replicate 675 0) ≡ start
+pub start-in : stateIn (replicate 930 0) ≡ start
 unfolding stateIn start
 start-in j = record {
-  instances = (ap (λ (m : ℕ). rows (instanceIn m) (replicate 675 0) 1 32 5) (none-word 675 0) ∙ rows-none (instanceIn 0) absent 1 32 5 675 none) j;
-  queue = rows-none (λ k r. word r 0) 0 161 256 1 675 (λ k. refl) j;
-  connections = rows-none connectionIn noConnection 417 64 4 675 (λ k. refl) j;
-  count = none-word 675 673 j;
-  done = none-word 675 674 j;
+  instances = (ap (λ (m : ℕ). rows (instanceIn m) (replicate 930 0) 1 32 5) (none-word 930 0) ∙ rows-none (instanceIn 0) absent 1 32 5 930 none) j;
+  queue = rows-none (λ k r. word r 0) 0 161 256 1 930 (λ k. refl) j;
+  servers = rows-none (λ k r. word r 0) 0 417 512 1 930 (λ k. refl) j;
+  done = none-word 930 929 j;
 }
   where
     none : (k : ℕ) → instanceIn 0 k (replicate 5 0) ≡ absent

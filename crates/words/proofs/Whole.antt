@@ -18,13 +18,12 @@ use Rattle.model.specs.declared.Program.{Program}
 use Rattle.model.specs.declared.Step.{Step}
 use Rattle.model.specs.declared.Answer.{Answer}
 use Rattle.model.specs.declared.Instance.{Instance}
-use Rattle.model.specs.declared.Connection.{Connection}
 use Rattle.model.specs.declared.Configuration.{Configuration}
-use Rattle.model.specs.Empty.{noType, noInstruction, noStep, absent, noConnection}
+use Rattle.model.specs.Empty.{noType, noInstruction, noStep, absent}
 use Rattle.model.specs.View.{listOf}
 use Rattle.model.proofs.View.{list-at}
 use Rattle.words.specs.Rows.{word, row, rows, column}
-use Rattle.words.specs.Words.{typeIn, tablesIn, instructionIn, programIn, stepIn, answerIn, instanceIn, connectionIn, stateIn}
+use Rattle.words.specs.Words.{typeIn, tablesIn, instructionIn, programIn, stepIn, answerIn, instanceIn, stateIn}
 
 module _ (ws vs : List ℕ) where
   abbrev Same : ℕ → Type 0
@@ -153,7 +152,7 @@ module _ (ws vs : List ℕ) where
         (λ z. subst Same (let s : 2001 ≡ m = omega arith in s) (ap (λ (x : Tables). x .count) e)))))))
 
   -- the set of those present is of 32 members, as a word is
-  module _ (a : length ws ≡ 675) (b : length vs ≡ 675) (s : word ws 0 < 2 ^ 32) (t : word vs 0 < 2 ^ 32) (e : stateIn ws ≡ stateIn vs) where
+  module _ (a : length ws ≡ 930) (b : length vs ≡ 930) (s : word ws 0 < 2 ^ 32) (t : word vs 0 < 2 ^ 32) (e : stateIn ws ≡ stateIn vs) where
     instances-same : rows (instanceIn (word ws 0)) ws 1 32 5 ≡ rows (instanceIn (word vs 0)) vs 1 32 5
     unfolding stateIn
     instances-same = ap (λ (x : Configuration). x .instances) e
@@ -174,29 +173,12 @@ module _ (ws vs : List ℕ) where
         (instance-same (λ (v : Instance). v .running) 2 (omega arith) (λ m i r. refl) k o) (instance-same (λ (v : Instance). v .ended) 3 (omega arith) (λ m i r. refl) k o)
         (instance-same (λ (v : Instance). v .queued) 4 (omega arith) (λ m i r. refl) k o)) m l (omega arith)
 
-    connection-same : (get : Connection → ℕ) (f : ℕ) → f < 4 → ((l : ℕ) (r : List ℕ) → get (connectionIn l r) ≡ word r f) → (k : ℕ) → k < 64 → Same (417 + k * 4 + f)
-    unfolding stateIn
-    connection-same get f l p = word-same connectionIn connectionIn noConnection 417 64 4 (ap (λ (x : Configuration). x .connections) e) get f l p p
-
-    four : (k f : ℕ) → k < 64 → f < 4 → Same (417 + k * 4 + f)
-    four k zero o h = connection-same (λ (x : Connection). x .user) 0 (omega arith) (λ l r. refl) k o
-    four k (suc zero) o h = connection-same (λ (x : Connection). x .useport) 1 (omega arith) (λ l r. refl) k o
-    four k (suc (suc zero)) o h = connection-same (λ (x : Connection). x .provider) 2 (omega arith) (λ l r. refl) k o
-    four k (suc (suc (suc zero))) o h = connection-same (λ (x : Connection). x .provideport) 3 (omega arith) (λ l r. refl) k o
-    four k (suc (suc (suc (suc f)))) o h = absurd (omega arith)
-
-    in-connections : (m : ℕ) → 417 ≤ m → m < 673 → Same m
-    in-connections m l h =
-        subst Same (let q : 417 + (m - 417) / 4 * 4 + (m - 417) % 4 ≡ m = omega arith in q) (four ((m - 417) / 4) ((m - 417) % 4) (omega arith) (omega arith))
-
     pub state-words : ws ≡ vs
     unfolding stateIn
     state-words =
-        whole 675 a b
+        whole 930 a b
         (λ m h. by-cases (ℕ-discrete m 0) (λ z. subst Same (sym z) present-same)
         (λ l0. by-cases (decLt m 161) (λ l. in-instances m (omega arith) l)
         (λ l1. by-cases (decLt m 417) (λ l. in-one 161 256 (ap (λ (x : Configuration). x .queue) e) m (omega arith) (omega arith))
-        (λ l2. by-cases (decLt m 673) (λ l. in-connections m (omega arith) l)
-        (λ l3. by-cases (ℕ-discrete m 673)
-        (λ z. subst Same (sym z) (ap (λ (x : Configuration). x .count) e))
-        (λ z. subst Same (let q : 674 ≡ m = omega arith in q) (ap (λ (x : Configuration). x .done) e)))))))
+        (λ l2. by-cases (decLt m 929) (λ l. in-one 417 512 (ap (λ (x : Configuration). x .servers) e) m (omega arith) (omega arith))
+        (λ l3. subst Same (let q : 929 ≡ m = omega arith in q) (ap (λ (x : Configuration). x .done) e))))))

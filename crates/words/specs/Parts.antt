@@ -2,6 +2,7 @@
 use mathlib.Core.Bool.{Bool, cond}
 use mathlib.Core.List.{List}
 use Prim.Native.Nat.{ℕ}
+use lib.Dec.{ltb}
 use lib.ListN.{set}
 use Rattle.sets.specs.Mask.{with, without, only}
 use Rattle.model.specs.declared.ComponentType.{ComponentType}
@@ -13,7 +14,8 @@ use Rattle.model.specs.declared.Answer.{Answer}
 use Rattle.model.specs.declared.Instance.{Instance}
 use Rattle.model.specs.declared.Connection.{Connection}
 use Rattle.model.specs.declared.Configuration.{Configuration}
-use Rattle.model.specs.View.{withConnections, withQueue}
+use Rattle.model.specs.Empty.{noServer}
+use Rattle.model.specs.View.{portNumber, server, withQueue, withServers}
 use Rattle.reading.specs.Fill.{withTransition, withPort}
 
 -- the depth as it is written, and how many types, instructions, steps there are
@@ -92,17 +94,18 @@ withSets v m r e = record { present = v .present; kind = v .kind; marked = m; ru
 abbrev pub bare : Bool → ℕ → ℕ → Instance
 bare present kind marked = record { present = present; kind = kind; marked = marked; running = 0; ended = 0; queued = 0 }
 
-abbrev pub connectionOf : ℕ → ℕ → ℕ → ℕ → Connection
-connectionOf a b c d = record { user = a; useport = b; provider = c; provideport = d }
+abbrev pub connectionOfWords : ℕ → ℕ → ℕ → ℕ → Connection
+connectionOfWords a b c d = record { user = a; useport = b; provider = c; provideport = d }
 
 abbrev pub withSlot : Configuration → ℕ → ℕ → Configuration
 withSlot c n x = withQueue c (set (c .queue) n x)
 
-abbrev pub withConnection : Configuration → ℕ → Connection → Configuration
-withConnection c l k = withConnections c (set (c .connections) l k) (c .count)
+-- who serves use port q of instance i: past the sixteenth nobody, since a place there is another instance's
+abbrev pub serverOf : Configuration → ℕ → ℕ → ℕ
+serverOf c i q = cond (ltb q 16) (server (c .servers) (portNumber i q)) noServer
 
-abbrev pub withCount : Configuration → ℕ → Configuration
-withCount c n = withConnections c (c .connections) n
+abbrev pub withServer : Configuration → ℕ → ℕ → Configuration
+withServer c s x = withServers c (set (c .servers) s x)
 
 -- the set m with i in it, or without it
 abbrev pub changed : ℕ → ℕ → Bool → ℕ

@@ -5,7 +5,7 @@
 --   program  0 instructions (256 x 5: verb, id, number, provider, provideport); 1280 count
 --   answer   0 steps (1024 x 3: verb, id, number); 3072 count
 --   state    0 the set of those present; 1 instances (32 x 5: kind, marked, running, ended, queued); 161 queue slots (256);
---            417 connections (64 x 4: user, useport, provider, provideport); 673 count; 674 done
+--            417 servers (512); 929 done
 use mathlib.Core.List.{List}
 use Prim.Native.Nat.{ℕ}
 use Rattle.sets.specs.Mask.{member}
@@ -16,7 +16,6 @@ use Rattle.model.specs.declared.Program.{Program}
 use Rattle.model.specs.declared.Step.{Step}
 use Rattle.model.specs.declared.Answer.{Answer}
 use Rattle.model.specs.declared.Instance.{Instance}
-use Rattle.model.specs.declared.Connection.{Connection}
 use Rattle.model.specs.declared.Configuration.{Configuration}
 use Rattle.words.specs.Rows.{word, rows, column}
 
@@ -49,14 +48,10 @@ answerIn ws = record { steps = rows stepIn ws 0 1024 3; count = word ws 3072 }
 abbrev pub instanceIn : ℕ → ℕ → List ℕ → Instance
 instanceIn m i r = record { present = member i m; kind = word r 0; marked = word r 1; running = word r 2; ended = word r 3; queued = word r 4 }
 
-abbrev pub connectionIn : ℕ → List ℕ → Connection
-connectionIn l r = record { user = word r 0; useport = word r 1; provider = word r 2; provideport = word r 3 }
-
 unfoldable pub stateIn : List ℕ → Configuration
 stateIn ws = record {
   instances = rows (instanceIn (word ws 0)) ws 1 32 5;
   queue = column ws 161 256 1 0;
-  connections = rows connectionIn ws 417 64 4;
-  count = word ws 673;
-  done = word ws 674;
+  servers = column ws 417 512 1 0;
+  done = word ws 929;
 }

@@ -17,7 +17,7 @@ pub type ProgramWords = [u32; 1281];
 
 pub type AnswerWords = [u32; 3073];
 
-pub type StateWords = [u32; 675];
+pub type StateWords = [u32; 930];
 
 // Where word f of row k stands, where n rows of w words each stand from `at` on.
 fn place(at: usize, n: usize, w: usize, k: usize, f: usize) -> usize

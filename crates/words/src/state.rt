@@ -1,17 +1,20 @@
 // The words of the state: the configuration that a walk has reached.
 use crate::StateWords;
 use crate::cell;
+use crate::fewer;
 use crate::put_row;
 use crate::put_word;
 ghost use mathlib.Core.Path.{_≡_};
 ghost use mathlib.Core.Bool.{cond};
+ghost use Prim.Native.Nat.{_-_, _/_, _%_, _≤_};
 ghost use lib.ListN.{getD};
 ghost use Rattle.sets.specs.Mask.{with, without, only};
 ghost use Rattle.model.specs.Empty.{start};
-ghost use Rattle.model.specs.View.{instance, connection, queueHead, slot, put, withDone};
+ghost use Rattle.model.specs.View.{instance, queueHead, slot, server, put, withDone};
 ghost use Rattle.rules.specs.Instance.{withQueued};
+ghost use Rattle.rules.specs.Standing.{standing};
 ghost use Rattle.words.specs.Words.{stateIn};
-ghost use Rattle.words.specs.Parts.{withSets, bare, withSlot, withConnection, withCount, connectionOf, changed};
+ghost use Rattle.words.specs.Parts.{withSets, bare, withSlot, serverOf, withServer, changed};
 
 pub fn present(state: &StateWords, i: u32) -> bool
     ensures { λ r. ⌜ r ≡ instance (stateIn (now (state .entry))) i .present ⌝ }
@@ -53,30 +56,6 @@ pub fn queued(state: &StateWords, i: u32) -> u32
     cell(state, 1, 32, 5, i as usize, 4)
 }
 
-pub fn user(state: &StateWords, l: u32) -> u32
-    ensures { λ r. ⌜ r ≡ connection (stateIn (now (state .entry))) l .user ⌝ }
-{
-    cell(state, 417, 64, 4, l as usize, 0)
-}
-
-pub fn useport(state: &StateWords, l: u32) -> u32
-    ensures { λ r. ⌜ r ≡ connection (stateIn (now (state .entry))) l .useport ⌝ }
-{
-    cell(state, 417, 64, 4, l as usize, 1)
-}
-
-pub fn provider(state: &StateWords, l: u32) -> u32
-    ensures { λ r. ⌜ r ≡ connection (stateIn (now (state .entry))) l .provider ⌝ }
-{
-    cell(state, 417, 64, 4, l as usize, 2)
-}
-
-pub fn provideport(state: &StateWords, l: u32) -> u32
-    ensures { λ r. ⌜ r ≡ connection (stateIn (now (state .entry))) l .provideport ⌝ }
-{
-    cell(state, 417, 64, 4, l as usize, 3)
-}
-
 // Queue slot n of all, and slot r of instance i, whose head is slot 0: 0 past the last.
 pub fn slot_at(state: &StateWords, n: usize) -> u32
     ensures { λ r. ⌜ r ≡ getD (stateIn (now (state .entry)) .queue) n 0 ⌝ }
@@ -90,16 +69,57 @@ pub fn slot(state: &StateWords, i: u32, r: u32) -> u32
     slot_at(state, (i as usize) * 8 + r as usize)
 }
 
-pub fn connections(state: &StateWords) -> u32
-    ensures { λ r. ⌜ r ≡ stateIn (now (state .entry)) .count ⌝ }
+// Who serves the use port of number s, 16 numbers for each instance: 0 for nobody, and past the last nobody.
+pub fn server(state: &StateWords, s: u32) -> u32
+    ensures { λ r. ⌜ r ≡ server (stateIn (now (state .entry)) .servers) s ⌝ }
 {
-    state[673]
+    cell(state, 417, 512, 1, s as usize, 0)
+}
+
+// Who serves use port q of instance i.
+pub fn server_of(state: &StateWords, i: u32, q: u32) -> u32
+    ensures { λ r. ⌜ r ≡ serverOf (stateIn (now (state .entry))) i q ⌝ }
+{
+    if q < 16 {
+        cell(state, 417, 512, 1, (i as usize) * 16 + q as usize, 0)
+    } else {
+        0
+    }
+}
+
+// A server's instance and its provide port.
+pub fn provider(x: u32) -> u32
+    ensures { λ r. ⌜ r ≡ (x - 1) / 16 ⌝ }
+{
+    fewer(x, 1) / 16
+}
+
+pub fn provideport(x: u32) -> u32
+    ensures { λ r. ⌜ r ≡ (x - 1) % 16 ⌝ }
+{
+    fewer(x, 1) % 16
+}
+
+// How many connections stand. Those free are counted, since that is less work for the compiler's vectors.
+pub fn entries(state: &StateWords) -> u32
+    ensures value { λ r. ⌜ r ≡ standing (stateIn (now (state .entry))) .count ⌝ }
+    ensures small { λ r. ⌜ r ≤ 512 ⌝ }
+{
+    let mut free: u32 = 0;
+    let mut s: u32 = 0;
+    while s < 512 {
+        if server(state, s) == 0 {
+            free += 1;
+        }
+        s += 1;
+    }
+    512 - free
 }
 
 pub fn done(state: &StateWords) -> u32
     ensures { λ r. ⌜ r ≡ stateIn (now (state .entry)) .done ⌝ }
 {
-    state[674]
+    state[929]
 }
 
 // The sets of instance i, and how many behaviors it has queued; past the last instance nothing changes.
@@ -137,50 +157,28 @@ pub fn put_bare(state: &mut StateWords, i: u32, present: bool, kind: u32, marked
     put_row(state, 1, 32, 5, i as usize, 0, &[kind, marked, 0, 0, 0]);
 }
 
-// A slot, a connection or an instance past the last takes nothing.
+// A slot past the last takes nothing, and so does a use port.
 pub fn put_slot(state: &mut StateWords, n: usize, x: u32)
     ensures { λ r. ⌜ stateIn (now (state .exit)) ≡ withSlot (stateIn (now (state .entry))) n x ⌝ }
 {
     put_row(state, 161, 256, 1, n, 0, &[x]);
 }
 
-pub fn put_connection(
-    state: &mut StateWords,
-    l: u32,
-    user: u32,
-    useport: u32,
-    provider: u32,
-    provideport: u32,
-)
-    ensures { λ r. ⌜ stateIn (now (state .exit))
-        ≡ withConnection (stateIn (now (state .entry))) l (connectionOf user useport provider provideport) ⌝ }
+pub fn put_server(state: &mut StateWords, s: usize, x: u32)
+    ensures { λ r. ⌜ stateIn (now (state .exit)) ≡ withServer (stateIn (now (state .entry))) s x ⌝ }
 {
-    put_row(
-        state,
-        417,
-        64,
-        4,
-        l as usize,
-        0,
-        &[user, useport, provider, provideport],
-    );
-}
-
-pub fn put_count(state: &mut StateWords, n: u32)
-    ensures { λ r. ⌜ stateIn (now (state .exit)) ≡ withCount (stateIn (now (state .entry))) n ⌝ }
-{
-    put_word(state, 673, n);
+    put_row(state, 417, 512, 1, s, 0, &[x]);
 }
 
 pub fn put_done(state: &mut StateWords, n: u32)
     ensures { λ r. ⌜ stateIn (now (state .exit)) ≡ withDone (stateIn (now (state .entry))) n ⌝ }
 {
-    put_word(state, 674, n);
+    put_word(state, 929, n);
 }
 
 // Nothing is up, and nothing is done.
 pub fn clear_state(state: &mut StateWords)
     ensures { λ r. ⌜ stateIn (now (state .exit)) ≡ start ⌝ }
 {
-    *state = [0u32; 675];
+    *state = [0u32; 930];
 }
