@@ -1,2 +1,2 @@
--- A user's connections by port, and the report's parts.
+-- The report's parts.
 pub mod Lines

@@ -5,12 +5,10 @@ use inks::write_key;
 use inks::write_mask;
 use inks::write_number;
 use model::Text;
-use sets::member;
-use sets::with;
 use words::StateWords;
-use words::state::connections;
 use words::state::done;
 use words::state::ended;
+use words::state::entries;
 use words::state::kind;
 use words::state::marked;
 use words::state::present;
@@ -18,18 +16,18 @@ use words::state::provideport;
 use words::state::provider;
 use words::state::queued;
 use words::state::running;
+use words::state::server;
 use words::state::slot;
-use words::state::useport;
-use words::state::user;
 ghost use mathlib.Core.Path.{_≡_};
-ghost use Rattle.model.specs.View.{instance, connection, queueOf};
-ghost use Rattle.forms.specs.Write.{onlyIf, listText};
+ghost use Rattle.model.specs.View.{instance, connectionOf, queueOf};
+ghost use Rattle.forms.specs.Write.{listText};
 ghost use Rattle.sets.specs.Test.{tally};
 ghost use Rattle.report.specs.Report.{countText, instanceText, connectionText, instanceAt, instancesText, connectionsText, report};
 ghost use Rattle.report.specs.Faults.{textText, faultText};
+ghost use Rattle.rules.specs.Standing.{standing};
 ghost use Rattle.inks.specs.Written.{Written};
 ghost use Rattle.words.specs.Words.{stateIn};
-ghost use Rattle.writers.specs.Lines.{noted, byPort, userLines, usersOf, headPart, instancesPart, connectionsPart, reached};
+ghost use Rattle.writers.specs.Lines.{headPart, instancesPart, connectionsPart, reached};
 
 // key=number
 pub fn write_count(t: &mut [u8], key: &[u8], v: usize) -> usize
@@ -78,18 +76,18 @@ fn write_instance(t: &mut [u8], state: &StateWords, i: u32) -> usize
     write_byte(t, at, b'\n')
 }
 
-// connection=user,useport,provider,provideport
-fn write_connection(t: &mut [u8], state: &StateWords, l: u32) -> usize
-    ensures { λ r. ⌜ Written (now (t .entry)) (connectionText (connection (stateIn (now (state .entry))) l)) (now (t .exit)) 0 r ⌝ }
+// connection=user,useport,provider,provideport, of the use port of number s with the server x
+fn write_connection(t: &mut [u8], s: u32, x: u32) -> usize
+    ensures { λ r. ⌜ Written (now (t .entry)) (connectionText (connectionOf s x)) (now (t .exit)) 0 r ⌝ }
 {
     let mut at = write_key(t, 0, b"connection=");
-    at = write_number(t, at, user(state, l) as usize);
+    at = write_number(t, at, (s / 16) as usize);
     at = write_byte(t, at, b',');
-    at = write_number(t, at, useport(state, l) as usize);
+    at = write_number(t, at, (s % 16) as usize);
     at = write_byte(t, at, b',');
-    at = write_number(t, at, provider(state, l) as usize);
+    at = write_number(t, at, provider(x) as usize);
     at = write_byte(t, at, b',');
-    at = write_number(t, at, provideport(state, l) as usize);
+    at = write_number(t, at, provideport(x) as usize);
     write_byte(t, at, b'\n')
 }
 
@@ -117,98 +115,21 @@ fn write_instance_lines(t: &mut [u8], state: &StateWords) -> usize
     used
 }
 
-// A user's connections: the last of each of its sixteen ports, by its place in the list, and which ports have one.
-struct ByPort {
-    places: [u32; 16],
-    ports: u32,
-}
-
-// Connection l more, where it is this user's.
-fn noted(b: ByPort, state: &StateWords, i: u32, l: u32) -> ByPort
-    ensures { λ r. ⌜ r ≡ noted (stateIn (now (state .entry))) b i l ⌝ }
-{
-    if user(state, l) != i {
-        return b;
-    }
-    let port = useport(state, l);
-    if 16 <= port {
-        return b;
-    }
-    let mut next = b;
-    next.places[port as usize] = l;
-    next.ports = with(b.ports, port);
-    next
-}
-
-// In one pass, so that no line is looked for in the whole list.
-fn by_port(state: &StateWords, i: u32) -> ByPort
-    ensures { λ r. ⌜ r ≡ byPort (stateIn (now (state .entry))) i (stateIn (now (state .entry)) .count) ⌝ }
-{
-    let mut b = ByPort {
-        places: [0; 16],
-        ports: 0,
-    };
-    let n = connections(state);
-    let mut l: u32 = 0;
-    while l < n {
-        b = noted(b, state, i, l);
-        l += 1;
-    }
-    b
-}
-
-// A connection's line, nothing where there is none.
-fn write_found(t: &mut [u8], found: bool, state: &StateWords, l: u32) -> usize
-    ensures { λ r. ⌜ Written (now (t .entry)) (onlyIf found (connectionText (connection (stateIn (now (state .entry))) l))) (now (t .exit)) 0 r ⌝ }
-{
-    if found {
-        write_connection(t, state, l)
-    } else {
-        0
-    }
-}
-
-// The lines of a user's connections by port.
-fn write_connections_of(t: &mut [u8], state: &StateWords, i: u32) -> usize
-    ensures { λ r. ⌜ Written (now (t .entry)) (userLines (stateIn (now (state .entry))) i) (now (t .exit)) 0 r ⌝ }
-{
-    let b = by_port(state, i);
-    let mut used: usize = 0;
-    let mut q: usize = 0;
-    while q < 16 {
-        let found = member(b.ports, q as u32);
-        used += write_found(&mut t[used..], found, state, b.places[q]);
-        q += 1;
-    }
-    used
-}
-
-// The users that have a connection.
-fn users_of(state: &StateWords) -> u32
-    ensures { λ r. ⌜ r ≡ usersOf (stateIn (now (state .entry))) (stateIn (now (state .entry)) .count) ⌝ }
-{
-    let mut users: u32 = 0;
-    let n = connections(state);
-    let mut l: u32 = 0;
-    while l < n {
-        users = with(users, user(state, l));
-        l += 1;
-    }
-    users
-}
-
-// The lines of the connections by user and then port. Most users have none, and then nothing is looked for.
-fn write_connection_lines(t: &mut [u8], state: &StateWords) -> usize
+// The lines of the n connections by user and then port, which is the table's own order: past the last of them nothing is looked at.
+fn write_connection_lines(t: &mut [u8], state: &StateWords, n: u32) -> usize
+    requires { ⌜ n ≡ standing (stateIn (now state)) .count ⌝ }
     ensures { λ r. ⌜ Written (now (t .entry)) (connectionsText (stateIn (now (state .entry)))) (now (t .exit)) 0 r ⌝ }
 {
-    let users = users_of(state);
     let mut used: usize = 0;
-    let mut i: u32 = 0;
-    while i < 32 {
-        if member(users, i) {
-            used += write_connections_of(&mut t[used..], state, i);
+    let mut left = n;
+    let mut s: u32 = 0;
+    while 0 < left {
+        let x = server(state, s);
+        if x != 0 {
+            used += write_connection(&mut t[used..], s, x);
+            left -= 1;
         }
-        i += 1;
+        s += 1;
     }
     used
 }
@@ -249,8 +170,9 @@ fn write_instances(t: &mut [u8], state: &StateWords) -> usize
 fn write_connections(t: &mut [u8], state: &StateWords) -> usize
     ensures { λ r. ⌜ Written (now (t .entry)) (connectionsPart (stateIn (now (state .entry)))) (now (t .exit)) 0 r ⌝ }
 {
-    let used = write_count(t, b"connections=", connections(state) as usize);
-    used + write_connection_lines(&mut t[used..], state)
+    let n = entries(state);
+    let used = write_count(t, b"connections=", n as usize);
+    used + write_connection_lines(&mut t[used..], state, n)
 }
 
 // The whole report of a walk that came so far.

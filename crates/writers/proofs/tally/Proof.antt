@@ -5,8 +5,8 @@ use mathlib.Core.Logic.{⊎-elim}
 use native.Mathlib.Omega.{arith}
 use Rattle.model.specs.View.{instance}
 use Rattle.sets.specs.Test.{tally}
+use Rattle.sets.proofs.Laws.{tally-start, tally-in, tally-out}
 use Rattle.words.specs.Words.{stateIn}
-use Rattle.writers.proofs.Parts.{tally-none, tally-one, tally-same}
 use borrow.Author.Needs.{needs}
 use Rattle.writers.proofs.tally.Statement.{statement}
 use Rattle.writers.proofs.tally.Tie as tie
@@ -18,15 +18,15 @@ abbrev μ-loop : tie.MeasureT-loop
 μ-loop state n₀ i₀ n i = 32 - i
 
 loop-holds : tie.Need-loop-holds Inv-loop μ-loop
-loop-holds c = (omega arith, omega arith, sym (tally-none _))
+loop-holds c = (omega arith, omega arith, sym (tally-start _))
 
 loop-again : tie.Need-loop-again Inv-loop μ-loop
 loop-again c =
     let l = c .before .before .before .loop in
     let here = sym (c .before .present .ensures) in
     ⊎-elim
-    (λ w. (omega arith, omega (arith, w .1), w .1 ∙ rw (l .inv .2) (sym (tally-one _ _ (here ∙ w .0 .taken)))))
-    (λ w. (omega arith, omega (arith, w .1), w .1 ∙ rw (l .inv .2) (sym (tally-same _ _ (here ∙ w .0 .left)))))
+    (λ w. (omega arith, omega (arith, w .1), w .1 ∙ rw (l .inv .2) (sym (tally-in _ _ (here ∙ w .0 .taken)))))
+    (λ w. (omega arith, omega (arith, w .1), w .1 ∙ rw (l .inv .2) (sym (tally-out _ _ (here ∙ w .0 .left)))))
     (c .if1 .came)
 
 returns : tie.Need-returns Inv-loop μ-loop

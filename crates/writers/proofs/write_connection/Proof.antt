@@ -14,13 +14,13 @@ returns c =
     let provider = provider-end .before .before .before .before in
     let useport-end = provider .before .before .before .before .before in
     let useport = useport-end .before .before .before .before in
-    let user-end = useport .before .before .before .before .before in
+    let user-end = useport .before .before .before .before in
     let user = user-end .before .before .before .before in
-    let key = user .before .before .before .before .before in
+    let key = user .before .before .before .before in
     let from-provideport = then (rw (provideport .before .provideport .ensures) at (provideport .write-number4 .ensures)) (end .write-byte4 .ensures) in
     let from-provider = then (then (rw (provider .before .provider .ensures) at (provider .write-number3 .ensures)) (provider-end .write-byte3 .ensures)) from-provideport in
-    let from-useport = then (then (rw (useport .before .useport .ensures) at (useport .write-number2 .ensures)) (useport-end .write-byte2 .ensures)) from-provider in
-    then (key .write-key .ensures) (then (then (rw (user .before .user .ensures) at (user .write-number .ensures)) (user-end .write-byte .ensures)) from-useport)
+    let from-useport = then (then (useport .write-number2 .ensures) (useport-end .write-byte2 .ensures)) from-provider in
+    then (key .write-key .ensures) (then (then (user .write-number .ensures) (user-end .write-byte .ensures)) from-useport)
 
 same-length : tie.Need-same-length
 same-length c = length-written (returns c)
@@ -29,7 +29,6 @@ pub write-connection-spec : {M : Type 1} → statement M
 write-connection-spec =
     tie.close
     (tie.spec
-    (λ c. search needs) (λ c κs. search needs) (λ c κs. search needs) (λ c. search needs) (λ c κs. search needs) (λ c κs. search needs)
-    (λ c κs. search needs) (λ c. search needs) (λ c κs. search needs) (λ c κs. search needs) (λ c κs. search needs) (λ c. search needs)
-    (λ c κs. search needs) (λ c κs. search needs) (λ c κs. search needs) (λ c. search needs) (λ c κs. search needs)
-    (λ c κs. search needs) same-length returns)
+    (λ c. search needs) (λ c κs. search needs) (λ c. search needs) (λ c κs. search needs) (λ c κs. search needs) (λ c. search needs)
+    (λ c κs. search needs) (λ c κs. search needs) (λ c κs. search needs) (λ c. search needs) (λ c κs. search needs) (λ c κs. search needs)
+    (λ c κs. search needs) (λ c. search needs) (λ c κs. search needs) (λ c κs. search needs) same-length returns)

@@ -1,36 +1,78 @@
--- The lines of the users below i are written; what is left of the 32 falls.
-use Prim.Native.Nat.{_≤_, _-_}
-use mathlib.Core.Path.{_≡_, sym, _∙_}
-use mathlib.Core.Logic.{⊎-elim}
+-- The lines of the use ports below s are written, and those that are left are counted; what is left of the 512 falls.
+use Prim.Native.Nat.{ℕ, _+_, _≤_, _<_, _-_}
+use mathlib.Core.Path.{_≡_, refl, ap, sym, _∙_}
+use mathlib.Core.Logic.{⊎-elim, by-cases}
+use mathlib.Core.List.{List, []}
+use mathlib.Core.Bool.{true, false, not}
 use native.Mathlib.Omega.{arith}
+use native.Mathlib.Decide.{decLt}
+use lib.Dec.{eqb}
+use borrow.Author.Tests.{eq-eqb, ne-eqb}
+use Rattle.sets.specs.Test.{tally}
+use Rattle.sets.proofs.Laws.{tally-start, tally-in, tally-out}
+use Rattle.model.specs.View.{server, isServed, connectionOf}
+use Rattle.rules.specs.Standing.{standing, inTable}
+use Rattle.rules.proofs.Connections.{count-is}
+use Rattle.report.specs.Report.{connectionText, connectionLine}
+use Rattle.report.proofs.Lines.{lineAt, lines-in-turn}
 use Rattle.inks.proofs.Laws.{length-written}
 use Rattle.words.specs.Words.{stateIn}
-use Rattle.writers.specs.Lines.{userLines}
-use Rattle.writers.proofs.Parts.{user-absent, connections-lines, Turns, turns-none, turns-more, turns-empty}
+use Rattle.words.proofs.InState.{servers-many}
+use Rattle.writers.proofs.Parts.{Turns, turns-none, turns-more, turns-empty, all-written}
 use borrow.Author.Needs.{needs}
 use Rattle.writers.proofs.write_connection_lines.Statement.{statement}
 use Rattle.writers.proofs.write_connection_lines.Tie as tie
 
 abbrev Inv-loop : tie.InvT-loop
-Inv-loop t₀ state users used₀ i₀ t used i = (i ≤ 32) × Turns (userLines (stateIn state)) i t₀ t used
+Inv-loop t₀ state n used₀ left₀ s₀ t used left s =
+    (s ≤ 512) × (left + tally s (isServed (stateIn state .servers)) ≡ n) × Turns (lineAt (stateIn state .servers)) s t₀ t used
 
 abbrev μ-loop : tie.MeasureT-loop
-μ-loop t₀ state users used₀ i₀ t used i = 32 - i
+μ-loop t₀ state n used₀ left₀ s₀ t used left s = 512 - s
 
 loop-holds : tie.Need-loop-holds Inv-loop μ-loop
-loop-holds c = (omega arith, turns-none)
+loop-holds c = (omega arith, omega (arith, tally-start (isServed (stateIn (c .before .args .state .now) .servers))), turns-none)
+
+-- where one is left, the table goes on
+last : (c : tie.Joined1 Inv-loop μ-loop) → c .before .before .before .loop .s + 1 ≤ 512
+last c =
+    let l = c .before .before .before in
+    let ws = l .before .before .args .state .now in
+    by-cases (decLt (l .loop .s) 512) (λ h. omega arith)
+    (λ h.
+    let e : l .loop .s ≡ 512 = omega arith in
+    let all = rw e at (l .loop .inv .1) in
+    absurd (omega (arith, all, l .before .before .pre, count-is (stateIn ws .servers) (servers-many ws))))
+
+-- a use port that is free has no line
+silent : (x : List ℕ) (s : ℕ) → isServed x s ≡ false → lineAt x s ≡ []
+unfolding isServed connectionLine
+silent x s e = rw e refl
 
 loop-again : tie.Need-loop-again Inv-loop μ-loop
+unfolding isServed connectionLine
 loop-again c =
     let l = c .before .before .before in
-    let is = rw (l .before .users-of .ensures) at (c .before .member .ensures) in
+    let x = stateIn (l .before .before .args .state .now) .servers in
+    let read = c .before .server .ensures in
     ⊎-elim
-    (λ w. (omega arith, rw (w .5, w .6) (turns-more (l .loop .inv .1) (w .2 .ensures))))
-    (λ w. (omega arith, rw (w .1, w .2) (turns-empty (l .loop .inv .1) (user-absent _ _ (c .before .before .loop-test .taken) (sym is ∙ w .0 .left)))))
+    (λ w.
+    let on : not (eqb (server x (l .loop .s)) 0) ≡ true = rw (← read, ne-eqb _ _ (w .0 .taken)) refl in
+    let line : lineAt x (l .loop .s) ≡ connectionText (connectionOf (l .loop .s) (c .before .server .result)) = rw (on, read) refl in
+    (last c, omega (arith, w .7, l .loop .inv .1, tally-in (isServed x) (l .loop .s) on), rw (w .5, w .6) (turns-more (l .loop .inv .2) (rw (sym line) at (w .2 .ensures)))))
+    (λ w.
+    let off : not (eqb (server x (l .loop .s)) 0) ≡ false = rw (← read, eq-eqb _ _ (w .0 .left)) refl in
+    (last c, omega (arith, w .3, l .loop .inv .1, tally-out (isServed x) (l .loop .s) off), rw (w .1, w .2) (turns-empty (l .loop .inv .2) (rw off refl))))
     (c .if1 .came)
 
 returns : tie.Need-returns Inv-loop μ-loop
-returns c = let e : c .before .loop .i ≡ 32 = omega arith in rw (← connections-lines _) (rw e at (c .before .loop .inv .1 .written))
+returns c =
+    let l = c .before in
+    let ws = l .before .before .args .state .now in
+    let x = stateIn ws .servers in
+    let all : tally 512 (isServed x) ≡ tally (l .loop .s) (isServed x) = omega (arith, l .loop .inv .1, l .before .before .pre, count-is x (servers-many ws)) in
+    let same = all-written (isServed x) (lineAt x) (silent x) (l .loop .s) 512 (l .loop .inv .0) all in
+    rw (lines-in-turn (stateIn ws) (servers-many ws), same) (l .loop .inv .2 .written)
 
 same-length : tie.Need-same-length Inv-loop μ-loop
 same-length c = length-written (returns c)
@@ -39,5 +81,5 @@ pub write-connection-lines-spec : {M : Type 1} → statement M
 write-connection-lines-spec =
     tie.close
     (tie.spec
-    Inv-loop μ-loop (λ c κs. search needs) loop-holds (λ c κs. search needs) (λ c. search needs) (λ c. search needs) (λ c. search needs)
-    (λ c κs. search needs) (λ c. search needs) (λ c. search needs) (λ c. omega arith) loop-again same-length returns)
+    Inv-loop μ-loop loop-holds (λ c κs. search needs) (λ c. search needs) (λ c. search needs) (λ c. search needs)
+    (λ c κs. search needs) (λ c. search needs) (λ c. search needs) (λ c. search needs) (λ c. omega (arith, last c)) loop-again same-length returns)

@@ -9,11 +9,11 @@ unfolding connectionsPart
 returns c =
     let lines = c .before .before in
     let count = lines .before .before .before .before in
-    next (rw (count .before .connections .ensures) at (count .write-count .ensures)) (lines .write-connection-lines .ensures)
+    next (rw (count .before .before .before .entries .ensures .0) at (count .write-count .ensures)) (lines .write-connection-lines .ensures)
 
 pub write-connections-spec : {M : Type 1} → statement M
 write-connections-spec =
     tie.close
     (tie.spec
-    (λ c. search needs) (λ c κs. search needs) (λ c. search needs) (λ c κs. search needs) (λ c. search needs) (λ c. search needs)
-    (λ c. search needs) (λ c κs. search needs) (λ c. search needs) (λ c. search needs) returns)
+    (λ c κs. search needs) (λ c. search needs) (λ c. search needs) (λ c κs. search needs) (λ c. search needs) (λ c. search needs)
+    (λ c. search needs) (λ c κs. c .before .before .before .before .before .before .entries .ensures .0) (λ c. search needs) (λ c. search needs) returns)
