@@ -1,19 +1,21 @@
--- Number 7 on the configuration: 01's clauses in its words, by the limits that the readers cite. What is past a count, and what an absent
--- record holds, is not looked at. Running and ended may overlap, and may hold what is not in the head.
-use Prim.Native.Nat.{ℕ}
-use mathlib.Core.Bool.{Bool, not, _&&_, _||_}
+-- Number 7 on the configuration: 01's clauses in its words, by the limits that the readers cite. What is past a queue's count, and what an
+-- absent record holds, is not looked at; its use ports are. Running and ended may overlap, and may hold what is not in the head.
+use Prim.Native.Nat.{ℕ, suc}
+use mathlib.Core.Bool.{Bool, true, not, _&&_, _||_}
+use mathlib.Core.List.{List, [], _∷_}
 use lib.Dec.{eqb, leb}
-use Rattle.sets.specs.Test.{allBelow, anyBelow}
-use Rattle.model.specs.Empty.{mostConnections}
+use Rattle.sets.specs.Test.{allBelow}
+use Rattle.model.specs.Empty.{noServer, mostConnections}
 use Rattle.model.specs.declared.ComponentType.{ComponentType}
 use Rattle.model.specs.declared.Tables.{Tables}
 use Rattle.model.specs.declared.Program.{Program}
 use Rattle.model.specs.declared.Connection.{Connection}
 use Rattle.model.specs.declared.Configuration.{Configuration}
-use Rattle.model.specs.View.{typeOf, instance, connection, slot}
+use Rattle.model.specs.View.{typeOf, instance, connectionOf, slot}
 use Rattle.reading.specs.Limits.{typeOk, maskOk, endOk}
+use Rattle.rules.specs.Standing.{standing}
 use Rattle.rules.specs.PushB.{depthOf}
-use Rattle.rules.specs.Con.{isOf, isUsePort, isProvidePort}
+use Rattle.rules.specs.Con.{isUsePort, isProvidePort}
 
 -- "a number of a present instance outside its type": the behavior in slot r of its queue
 abbrev pub queuedIn : ComponentType → ℕ → Bool
@@ -35,11 +37,7 @@ numbersLawful default t c i =
 unfoldable pub instanceLawful : ℕ → Tables → Configuration → ℕ → Bool
 instanceLawful default t c i = not (instance c i .present) || numbersLawful default t c i
 
--- "a use port already connected": one of the first l connections is of the same use port
-unfoldable pub connectedBefore : Configuration → Connection → ℕ → Bool
-connectedBefore c k l = anyBelow l (λ m. isOf (k .user) (k .useport) (connection c m))
-
--- "one with an absent end, a wrong port, a single instance at both ends"
+-- "one with an absent end, a wrong port, a single instance at both ends"; an id past the last is absent too
 unfoldable pub endsLawful : Tables → Configuration → Connection → Bool
 endsLawful t c k =
     instance c (k .user) .present
@@ -48,12 +46,18 @@ endsLawful t c k =
     && (isProvidePort t c (k .provider) (k .provideport)
     && not (eqb (k .user) (k .provider)))))
 
-unfoldable pub connectionLawful : Tables → Configuration → ℕ → Bool
-connectionLawful t c l = endsLawful t c (connection c l) && not (connectedBefore c (connection c l) l)
+-- nobody serves the use port of number s, or its connection with the server v is such a one
+unfoldable pub connectionLawful : Tables → Configuration → ℕ → ℕ → Bool
+connectionLawful t c s v = eqb v noServer || endsLawful t c (connectionOf s v)
 
--- "over 64 connections"
+-- of a table whose first use port has the number s
+unfoldable pub lawfulFrom : Tables → Configuration → ℕ → List ℕ → Bool
+lawfulFrom t c s [] = true
+lawfulFrom t c s (v ∷ x) = connectionLawful t c s v && lawfulFrom t c (suc s) x
+
+-- "over 64 connections". No table has "a use port already connected": a slot is its port (`SlotIsItsPort` of rules)
 unfoldable pub connectionsLawful : Tables → Configuration → Bool
-connectionsLawful t c = leb (c .count) mostConnections && allBelow (c .count) (connectionLawful t c)
+connectionsLawful t c = leb (standing c .count) mostConnections && lawfulFrom t c 0 (c .servers)
 
 -- "more instructions done than the program has"
 unfoldable pub configurationLawful : ℕ → Tables → Program → Configuration → Bool

@@ -1,13 +1,11 @@
-// Every present instance of the configuration, and every connection.
+// Every present instance of the configuration, and every use port, present or not.
 use crate::types::mask_ok;
-use instructions::connections::Query;
-use instructions::connections::some_before;
 use instructions::depth_of;
 use instructions::is_port;
 use words::StateWords;
 use words::TableWords;
-use words::state::connections;
 use words::state::ended;
+use words::state::entries;
 use words::state::kind;
 use words::state::marked;
 use words::state::present;
@@ -15,17 +13,17 @@ use words::state::provideport;
 use words::state::provider;
 use words::state::queued;
 use words::state::running;
+use words::state::server;
 use words::state::slot;
-use words::state::useport;
-use words::state::user;
 use words::tables::behaviors_of;
 use words::tables::places_of;
 use words::tables::transitions_of;
 use words::tables::types;
 ghost use mathlib.Core.Path.{_≡_};
 ghost use Rattle.sets.specs.Test.{allBelow};
+ghost use Rattle.model.specs.View.{server};
 ghost use Rattle.words.specs.Words.{tablesIn, stateIn};
-ghost use Rattle.words.specs.Parts.{connectionOf};
+ghost use Rattle.words.specs.Parts.{connectionOfWords};
 ghost use Rattle.lawfulness.specs.Parts.{queueLawful};
 ghost use Rattle.lawfulness.specs.Lawful.{queuedLawful, numbersLawful, instanceLawful, endsLawful, connectionLawful, connectionsLawful};
 
@@ -88,7 +86,7 @@ pub fn instances_lawful(default: u32, tables: &TableWords, state: &StateWords) -
 }
 
 fn ends_lawful(tables: &TableWords, state: &StateWords, u: u32, uq: u32, v: u32, vq: u32) -> bool
-    ensures { λ r. ⌜ r ≡ endsLawful (tablesIn (now (tables .entry))) (stateIn (now (state .entry))) (connectionOf u uq v vq) ⌝ }
+    ensures { λ r. ⌜ r ≡ endsLawful (tablesIn (now (tables .entry))) (stateIn (now (state .entry))) (connectionOfWords u uq v vq) ⌝ }
 {
     let user = present(state, u);
     let provider = present(state, v);
@@ -97,30 +95,30 @@ fn ends_lawful(tables: &TableWords, state: &StateWords, u: u32, uq: u32, v: u32,
     user & (provider & (uses & (provides & (u != v))))
 }
 
-// A use port already connected is one that a connection before l has.
-fn connection_lawful(tables: &TableWords, state: &StateWords, l: u32) -> bool
-    ensures { λ r. ⌜ r ≡ connectionLawful (tablesIn (now (tables .entry))) (stateIn (now (state .entry))) l ⌝ }
+// A use port that nobody serves is lawful, whether its instance is there or not.
+fn connection_lawful(tables: &TableWords, state: &StateWords, s: u32) -> bool
+    ensures { λ r. ⌜ r ≡ connectionLawful (tablesIn (now (tables .entry))) (stateIn (now (state .entry))) s
+        (server (stateIn (now (state .entry)) .servers) s) ⌝ }
 {
-    let u = user(state, l);
-    let uq = useport(state, l);
-    let v = provider(state, l);
-    let vq = provideport(state, l);
-    ends_lawful(tables, state, u, uq, v, vq) & !some_before(Query::IsOf(u, uq), state, l)
+    let x = server(state, s);
+    if x == 0 {
+        return true;
+    }
+    ends_lawful(tables, state, s / 16, s % 16, provider(x), provideport(x))
 }
 
 pub fn connections_lawful(tables: &TableWords, state: &StateWords) -> bool
     ensures { λ r. ⌜ r ≡ connectionsLawful (tablesIn (now (tables .entry))) (stateIn (now (state .entry))) ⌝ }
 {
-    let n = connections(state);
-    if 64 < n {
+    if 64 < entries(state) {
         return false;
     }
-    let mut l: u32 = 0;
-    while l < n {
-        if !connection_lawful(tables, state, l) {
+    let mut s: u32 = 0;
+    while s < 512 {
+        if !connection_lawful(tables, state, s) {
             return false;
         }
-        l += 1;
+        s += 1;
     }
     true
 }

@@ -1,51 +1,52 @@
-use mathlib.Core.Path.{ap, _∙_}
+use mathlib.Core.Path.{_≡_, sym, _∙_}
 use mathlib.Core.Bool.{Bool, _&&_}
-use Prim.Native.Nat.{ℕ, _-_}
-use lib.Dec.{leb}
+use Prim.Native.Nat.{_-_}
+use borrow.Author.Tests.{lt-leb, le-leb}
 use Rattle.sets.specs.Test.{allBelow}
 use Rattle.words.specs.Words.{tablesIn, stateIn}
-use Rattle.lawfulness.specs.Lawful.{connectionLawful, connectionsLawful}
-use Rattle.lawfulness.proofs.Loops.{Passed, none-yet, one-fails, one-more, all-passed, too-many, few}
+use Rattle.words.proofs.InState.{servers-many}
+use Rattle.lawfulness.specs.Lawful.{connectionsLawful}
+use Rattle.lawfulness.proofs.Loops.{Passed, none-yet, one-fails, one-more, all-passed}
+use Rattle.lawfulness.proofs.Servers.{lawfulAt, lawful-all}
 use borrow.Author.Needs.{needs}
 use Rattle.lawfulness.proofs.configurations.connections_lawful.Statement.{statement}
 use Rattle.lawfulness.proofs.configurations.connections_lawful.Tie as tie
 
 abbrev Inv-loop : tie.InvT-loop
-Inv-loop tables state n l₀ l = Passed n (connectionLawful (tablesIn tables) (stateIn state)) l
+Inv-loop tables state s₀ s = Passed 512 (lawfulAt (tablesIn tables) (stateIn state) (stateIn state .servers)) s
 
 abbrev μ-loop : tie.MeasureT-loop
-μ-loop tables state n l₀ l = n - l
-
--- the first n connections
-abbrev first : tie.Start Inv-loop μ-loop → ℕ → Bool
-first s n = leb n 64 && allBelow n (connectionLawful (tablesIn (s .args .tables .now)) (stateIn (s .args .state .now)))
+μ-loop tables state s₀ s = 512 - s
 
 returns : tie.Need-returns Inv-loop μ-loop
 unfolding connectionsLawful
-returns c = too-many _ 64 _ (c .if1 .taken) ∙ ap (first (c .before .before)) (c .before .connections .ensures)
+returns c = rw (← c .before .entries .ensures .0, lt-leb _ _ (c .if1 .taken))
+
+-- few enough, and so by each use port
+each : (e : tie.Else1 Inv-loop μ-loop) (r : Bool)
+    → let s = e .before .before .args in
+    r ≡ allBelow 512 (lawfulAt (tablesIn (s .tables .now)) (stateIn (s .state .now)) (stateIn (s .state .now) .servers))
+    → r ≡ connectionsLawful (tablesIn (s .tables .now)) (stateIn (s .state .now))
+unfolding connectionsLawful
+each e r is =
+    let s = e .before .before .args in
+    rw (← e .before .entries .ensures .0, le-leb _ _ (e .if1 .left)) (is ∙ sym (lawful-all (tablesIn (s .tables .now)) (stateIn (s .state .now)) _ (servers-many _)))
 
 loop-holds : tie.Need-loop-holds Inv-loop μ-loop
 loop-holds c = none-yet _ _
 
 returns-2 : tie.Need-returns-2 Inv-loop μ-loop
-unfolding connectionsLawful
 returns-2 c =
     let l = c .before .before .before in
-    let e = l .before in
-    few _ 64 _ (e .if1 .left) (one-fails _ _ (l .loop .l) _ (c .before .before .loop-test .taken) (c .before .connection-lawful .ensures) (c .if2 .taken))
-    ∙ ap (first (e .before .before)) (e .before .connections .ensures)
+    each (l .before) _ (one-fails _ _ (l .loop .s) _ (c .before .before .loop-test .taken) (c .before .connection-lawful .ensures) (c .if2 .taken))
 
 loop-again : tie.Need-loop-again Inv-loop μ-loop
 loop-again c =
     let l = c .before .before .before in
-    one-more _ _ (l .loop .l) _ (c .before .before .loop-test .taken) (c .before .connection-lawful .ensures) (l .loop .inv) (c .if2 .left)
+    one-more _ _ (l .loop .s) _ (c .before .before .loop-test .taken) (c .before .connection-lawful .ensures) (l .loop .inv) (c .if2 .left)
 
 returns-3 : tie.Need-returns-3 Inv-loop μ-loop
-unfolding connectionsLawful
-returns-3 c =
-    let l = c .before in
-    let e = l .before in
-    few _ 64 _ (e .if1 .left) (all-passed _ _ (l .loop .l) (l .loop .inv) (c .loop-test .left)) ∙ ap (first (e .before .before)) (e .before .connections .ensures)
+returns-3 c = let l = c .before in each (l .before) _ (all-passed _ _ (l .loop .s) (l .loop .inv) (c .loop-test .left))
 
 pub connections-lawful-spec : {M : Type 1} → statement M
 connections-lawful-spec =
