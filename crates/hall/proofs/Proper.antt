@@ -1,27 +1,30 @@
--- What every point of a walk keeps (rules/specs/Proper) is lawful to the screen.
+-- What every point of a walk keeps (rules/specs/Proper) is lawful to the screen, and no table has a use port twice.
 -- Assumes nothing.
 use mathlib.Core.Path.{_≡_, sym, ap, ap₂, _∙_}
-use mathlib.Core.Bool.{true, false, not, _&&_, and-eq-true-iff}
+use mathlib.Core.Bool.{true, false, not, _&&_}
 use Prim.Native.Nat.{ℕ, zero, suc, _+_, _^_, _≤_, _<_}
 use native.Mathlib.Nat.{pow-suc, lt-of-lt-of-le}
 use native.Mathlib.Omega.{arith}
 use lib.Dec.{eqb, leb}
 use lib.Pow.{pow-mono}
-use borrow.Author.Tests.{lt-ltb, le-leb, leb-true, leb-false, ne-eqb, eqb-true}
+use borrow.Author.Tests.{lt-ltb, le-leb, leb-true, leb-false, ne-eqb}
 use Rattle.forms.proofs.Tests.{by-test}
 use Rattle.sets.specs.Mask.{member, collect}
-use Rattle.sets.proofs.Laws.{all-of, none-any, member-collect, member-past, collect-lt, same-members}
+use Rattle.sets.proofs.Laws.{all-of, member-collect, member-past, collect-lt, same-members}
 use Rattle.model.specs.declared.Tables.{Tables}
 use Rattle.model.specs.declared.Program.{Program}
 use Rattle.model.specs.declared.Connection.{Connection}
 use Rattle.model.specs.declared.Configuration.{Configuration}
-use Rattle.model.specs.View.{instance, connection, slot}
+use Rattle.model.specs.Empty.{noServer}
+use Rattle.model.specs.View.{instance, slot, portNumber, server, isServed, connection}
 use Rattle.reading.specs.Limits.{maskOk}
-use Rattle.rules.specs.Con.{isOf, isUsePort, isProvidePort}
-use Rattle.rules.specs.Proper.{ProperInstance, Joins, Proper}
+use Rattle.rules.specs.Con.{isUsePort, isProvidePort}
+use Rattle.rules.specs.Proper.{ProperInstance, Joins, Proper, SlotIsItsPort}
+use Rattle.rules.proofs.Connections.{slot-is-its-port}
 use Rattle.judged.specs.Course.{defaultDepth}
-use Rattle.lawfulness.specs.Lawful.{queuedLawful, numbersLawful, instanceLawful, connectedBefore, endsLawful, connectionLawful, connectionsLawful, configurationLawful}
-use Rattle.hall.specs.Agree.{ProperIsLawful}
+use Rattle.lawfulness.specs.Lawful.{queuedLawful, numbersLawful, instanceLawful, endsLawful, connectionLawful, connectionsLawful, configurationLawful}
+use Rattle.lawfulness.proofs.Servers.{lawful-all}
+use Rattle.hall.specs.Agree.{ProperIsLawful, NoUsePortTwice}
 
 -- a set whose members lie below n, as a mask
 below-power : (m : ℕ) → m < 2 ^ m
@@ -61,25 +64,21 @@ module _ (t : Tables) (p : Program) (c : Configuration) (h : Proper defaultDepth
       ap₂ _&&_ (j .user) (ap₂ _&&_ (j .provider) (ap₂ _&&_ (ap₂ _&&_ (lt-ltb _ _ (j .useport)) (j .uses))
       (ap₂ _&&_ (ap₂ _&&_ (lt-ltb _ _ (j .provideport)) (ap not (j .provides))) (ap not (ne-eqb _ _ (j .apart))))))
 
-  not-before : (l : ℕ) → l < c .count → connectedBefore c (connection c l) l ≡ false
-  unfolding connectedBefore isOf
-  not-before l b = none-any l _ (λ m a. by-test (isOf (connection c l .user) (connection c l .useport) (connection c m)) (λ e. absurd (twice m a e)) (λ e. e))
-    where
-      twice : (m : ℕ) → m < l → isOf (connection c l .user) (connection c l .useport) (connection c m) ≡ true → ⊥
-      twice m a e =
-          let (u, q) = and-eq-true-iff (eqb (connection c m .user) (connection c l .user)) _ .0 e in
-          let same : m ≡ l = h .connections .once m l (omega arith) b (eqb-true _ _ u) (eqb-true _ _ q) in
-          omega arith
-
-  connection-lawful : (l : ℕ) → l < c .count → connectionLawful t c l ≡ true
-  unfolding connectionLawful
-  connection-lawful l b = ap₂ _&&_ (ends-lawful (connection c l) (h .connections .joins l b)) (ap not (not-before l b))
+  connection-lawful : (s : ℕ) → s < 512 → connectionLawful t c s (server (c .servers) s) ≡ true
+  unfolding connectionLawful isServed
+  connection-lawful s l =
+      by-test (eqb (server (c .servers) s) noServer) (λ e. rw e) (λ e. rw e (ends-lawful (connection c s) (h .connections s l (rw e))))
 
   lawful : configurationLawful defaultDepth t p c ≡ true
   unfolding configurationLawful connectionsLawful
   lawful =
-      ap₂ _&&_ (all-of 32 _ (λ i _. instance-lawful i)) (ap₂ _&&_ (le-leb _ _ (h .done)) (ap₂ _&&_ (le-leb _ _ (h .few)) (all-of _ _ connection-lawful)))
+      ap₂ _&&_ (all-of 32 _ (λ i _. instance-lawful i)) (ap₂ _&&_ (le-leb _ _ (h .done)) (ap₂ _&&_ (le-leb _ _ (h .few))
+      (lawful-all t c (c .servers) (h .servers-length) ∙ all-of 512 _ connection-lawful)))
 
 pub proper-is-lawful : ProperIsLawful
 unfolding ProperIsLawful
 proper-is-lawful = lawful
+
+pub no-use-port-twice : NoUsePortTwice
+unfolding NoUsePortTwice SlotIsItsPort
+no-use-port-twice c s r u q = slot-is-its-port (c .servers) s ∙ ap₂ portNumber u q ∙ sym (slot-is-its-port (c .servers) r)

@@ -1,42 +1,38 @@
 -- What an allowed step leaves in every slot, from what the rules' proofs say of an action's effect (rules/proofs/Local).
 -- Assumes nothing.
 use mathlib.Core.Path.{_≡_, refl, sym, ap, _∙_}
-use mathlib.Core.Logic.{_⊎_, inl, inr, _≢_}
 use mathlib.Core.Bool.{true, false, cond}
-use Prim.Native.Nat.{ℕ, suc, _≤_, _<_}
+use Prim.Native.Nat.{ℕ, _≤_, _<_}
 use native.Mathlib.Omega.{arith}
-use lib.Dec.{eqb, ltb, leb}
-use lib.ListN.{length, getD}
-use borrow.Author.Tests.{eqb-true, eqb-false, eq-eqb, ne-eqb, ltb-true, ltb-false, le-ltb, leb-true}
+use lib.Dec.{eqb, leb}
+use lib.ListN.{length, set}
+use lib.Seq.{getD-set-same, getD-set-other}
+use borrow.Author.Tests.{eqb-true, eqb-false, eq-eqb, ne-eqb, le-ltb, leb-true}
 use Rattle.forms.proofs.Tests.{by-test, and-left, and-right}
 use Rattle.sets.specs.Test.{allBelow}
 use Rattle.sets.proofs.Laws.{all-at}
 use Rattle.model.specs.declared.Tables.{Tables}
 use Rattle.model.specs.declared.Program.{Program}
 use Rattle.model.specs.declared.Step.{Step}
-use Rattle.model.specs.declared.Connection.{Connection}
 use Rattle.model.specs.declared.Configuration.{Configuration}
-use Rattle.model.specs.Empty.{noConnection}
-use Rattle.model.specs.View.{typeOf, instance, connection, slot, queueHead, withConnections, withDone}
-use Rattle.model.proofs.View.{connection-same, connection-other}
+use Rattle.model.specs.Empty.{noServer}
+use Rattle.model.specs.View.{typeOf, instance, slot, queueHead, server, withServers, withDone}
 use Rattle.reading.specs.Limits.{typeOk, maskOk}
 use Rattle.reading.specs.Lawful.{tablesLawful, programLawful, stepLawful, Lawful}
 use Rattle.rules.specs.PushB.{depthOf}
 use Rattle.rules.specs.Con.{connected}
-use Rattle.rules.specs.DCon.{placeOf, disconnected}
+use Rattle.rules.specs.DCon.{disconnected}
 use Rattle.rules.specs.Action.{Action, add, del, pushb, con, dcon, wait, fire, end, enter, finish, actionCheck, effect}
-use Rattle.rules.specs.Step.{stepCheck, stepTo, action}
-use Rattle.rules.proofs.Closing.{closed-outside, closed-inside, closed-last}
+use Rattle.rules.specs.Step.{checkAt, stepCheck, stepTo, action}
 use Rattle.rules.proofs.Local.{shifted, Wires, change, touches, changes, self, turn, turnedSlot, ownInstance, ownSlot, Fits, Roomy, Room, instance-own, instance-other, slot-own, slot-other, part-wires}
-use Rattle.rules.proofs.Allowed.{del-facts, pushb-facts, con-facts, dcon-facts, fire-facts, end-facts, enter-facts, finish-facts, present-in}
-use Rattle.rules.proofs.Connections.{place-in}
+use Rattle.rules.proofs.Allowed.{del-facts, pushb-facts, fire-facts, end-facts, enter-facts, finish-facts, present-in}
 use Rattle.rules.proofs.Tables.{facts}
 use Rattle.rules.proofs.Proper.{Lawfully, step-lawfully}
 use Rattle.rules.proofs.Walks.{step-on, number-facts, after-cases, after-done}
 use Rattle.judged.specs.Course.{defaultDepth}
-use Rattle.lawfulness.specs.Lawful.{numbersLawful, instanceLawful, connectionsLawful, configurationLawful}
+use Rattle.lawfulness.specs.Lawful.{numbersLawful, instanceLawful, configurationLawful}
 use Rattle.hall.specs.Screen.{lentLawful, hallStep}
-use Rattle.hall.specs.Slots.{Whole, Holds, inInstance, gapClosed, slots, EverySlot}
+use Rattle.hall.specs.Slots.{Whole, Holds, inInstance, servedBy, gapClosed, slots, EverySlot}
 use Rattle.hall.proofs.Screen.{step-number}
 
 module _ (t : Tables) (c : Configuration) (whole : Whole c) where
@@ -46,8 +42,7 @@ module _ (t : Tables) (c : Configuration) (whole : Whole c) where
   owned a i h room = record {
     instances = λ j l. by-test (eqb j i) (λ e. rw (e, eqb-true j i e) (instance-own t c a i mine (in-array j l (eqb-true j i e)))) (λ e. rw e (instance-other t c a j (other j e)));
     queues = λ j r l g. by-test (eqb j i) (λ e. rw (e, eqb-true j i e) (slot-own t c a (whole .queue) room i mine r g)) (λ e. rw e (slot-other t c a (whole .queue) room j (other j e) r g));
-    connections = λ l g. ap (λ (w : Wires). getD (w .list) l noConnection) (part-wires t c a i mine);
-    count = ap (λ (w : Wires). w .count) (part-wires t c a i mine);
+    servers = λ s g. ap (λ (x : Wires). server x s) (part-wires t c a i mine);
   }
     where
       mine : changes a i ≡ true
@@ -64,45 +59,19 @@ module _ (t : Tables) (c : Configuration) (whole : Whole c) where
   unfolding turnedSlot gapClosed
   head-gone n f r = rw (le-ltb r 0 (omega arith))
 
-  appended-to : (k : Connection) → c .count < 64 → (l : ℕ) → connection (connected c k) l ≡ cond (eqb l (c .count)) k (connection c l)
-  unfolding connected
-  appended-to k few l =
-      by-test (eqb l (c .count)) (λ e. rw (e, eqb-true l (c .count) e) (connection-same c (c .count) (suc (c .count)) k (omega (arith, whole .connections))))
-      (λ e. rw e (connection-other c (c .count) l (suc (c .count)) k (eqb-false l (c .count) e)))
+  -- a slot of the table set
+  slot-set : (a v s : ℕ) → s < 512 → server (set (c .servers) a v) s ≡ servedBy c a v s
+  slot-set a v s h =
+      by-test (eqb s a)
+      (λ e. let own = eqb-true s a e in rw (e, own) (getD-set-same (c .servers) a v noServer (omega (arith, whole .servers))))
+      (λ e. rw e (getD-set-other (c .servers) a s v noServer (eqb-false s a e)))
 
-  module _ (k : Connection) (some : placeOf c k < c .count) (few : c .count ≤ 64) (l : ℕ) where
-    fits : c .count ≤ length (c .connections)
-    fits = omega (arith, whole .connections)
-
-    kept : (l < placeOf c k) ⊎ (c .count ≤ l) → connection (disconnected c k) l ≡ connection c l
-    unfolding disconnected withConnections
-    kept = closed-outside noConnection (c .connections) (placeOf c k) (c .count) some fits l
-
-    moved : placeOf c k ≤ l → suc l < c .count → connection (disconnected c k) l ≡ connection c (suc l)
-    unfolding disconnected withConnections
-    moved = closed-inside noConnection (c .connections) (placeOf c k) (c .count) some fits l
-
-    freed : suc l ≡ c .count → connection (disconnected c k) l ≡ noConnection
-    unfolding disconnected withConnections
-    freed = closed-last noConnection (c .connections) (placeOf c k) (c .count) some fits l
-
-    past : c .count ≤ suc l → suc l ≢ c .count → c .count ≤ l
-    past h n = omega arith
-
-    closed-up : connection (disconnected c k) l ≡ gapClosed noConnection (placeOf c k) (c .count) (connection c) l
-    unfolding gapClosed
-    closed-up =
-        by-test (ltb l (placeOf c k)) (λ e. rw e (kept (inl (ltb-true l (placeOf c k) e))))
-        (λ e. by-test (ltb (suc l) (c .count)) (λ f. rw (e, f) (moved (ltb-false l (placeOf c k) e) (ltb-true (suc l) (c .count) f)))
-        (λ f. by-test (eqb (suc l) (c .count)) (λ g. rw (e, f, g) (freed (eqb-true (suc l) (c .count) g)))
-        (λ g. rw (e, f, g) (kept (inr (past (ltb-false (suc l) (c .count) f) (eqb-false (suc l) (c .count) g)))))))
-
-  module _ (depth : depthOf defaultDepth t ≤ 8) (few : c .count ≤ 64)
+  module _ (depth : depthOf defaultDepth t ≤ 8)
       (short : (i : ℕ) → instance c i .present ≡ true → instance c i .queued ≤ depthOf defaultDepth t) where
     in-array : (i : ℕ) → instance c i .present ≡ true → i < 32
     in-array i e = omega (arith, present-in c i e, whole .instances)
 
-    room : (a : Action) → Lawfully t a → actionCheck defaultDepth t c a ≡ 0 → Room c a
+    room : (a : Action) → Lawfully t a → checkAt defaultDepth t c a ≡ 0 → Room c a
     unfolding actionCheck change Roomy Fits
     room (add i k) new e = (new i k refl .0, tt)
     room (del i) new e = (in-array i (del-facts c i e .present), tt)
@@ -118,24 +87,14 @@ module _ (t : Tables) (c : Configuration) (whole : Whole c) where
         let h = short i (f .present) in
         (in-array i (f .present), (f .queued, omega arith))
 
-    holds : (a : Action) → Lawfully t a → actionCheck defaultDepth t c a ≡ 0 → Holds (effect t c a) (slots t c a)
-    unfolding actionCheck effect change touches self turn turnedSlot slots connected disconnected withConnections
+    holds : (a : Action) → Lawfully t a → checkAt defaultDepth t c a ≡ 0 → Holds (effect t c a) (slots t c a)
+    unfolding actionCheck effect change touches self turn turnedSlot slots connected disconnected withServers
     holds (add i k) new e = owned (add i k) i (λ j. refl) (room (add i k) new e)
     holds (del i) new e = owned (del i) i (λ j. refl) (room (del i) new e)
     holds (pushb i b) new e = owned (pushb i b) i (λ j. refl) (room (pushb i b) new e)
-    holds (con k) new e = record {
-      instances = λ j l. refl;
-      queues = λ j r l g. refl;
-      connections = λ l g. appended-to k (con-facts t c k e .few) l;
-      count = refl;
-    }
-    holds (dcon k) new e = record {
-      instances = λ j l. refl;
-      queues = λ j r l g. refl;
-      connections = λ l g. closed-up k (place-in c k (dcon-facts t c k e .stands) (omega (arith, whole .connections))) few l;
-      count = refl;
-    }
-    holds (wait i) new e = record { instances = λ j l. refl; queues = λ j r l g. refl; connections = λ l g. refl; count = refl }
+    holds (con k) new e = record { instances = λ j l. refl; queues = λ j r l g. refl; servers = slot-set _ _ }
+    holds (dcon k) new e = record { instances = λ j l. refl; queues = λ j r l g. refl; servers = slot-set _ noServer }
+    holds (wait i) new e = record { instances = λ j l. refl; queues = λ j r l g. refl; servers = λ s l. refl }
     holds (fire i p) new e = owned (fire i p) i (λ j. refl) (room (fire i p) new e)
     holds (end i x) new e = owned (end i x) i (λ j. refl) (room (end i x) new e)
     holds (enter i p) new e = owned (enter i p) i (λ j. refl) (room (enter i p) new e)
@@ -144,8 +103,7 @@ module _ (t : Tables) (c : Configuration) (whole : Whole c) where
         record {
           instances = o .instances;
           queues = λ j r l g. o .queues j r l g ∙ ap (λ (x : ℕ). cond (eqb j i) x (slot c j r)) (head-gone (instance c i .queued) (slot c i) r);
-          connections = o .connections;
-          count = o .count;
+          servers = o .servers;
         }
 
 module _ (t : Tables) (p : Program) (c : Configuration) (s : Step) (whole : Whole c) (lawful : lentLawful t p c s ≡ true) where
@@ -153,20 +111,14 @@ module _ (t : Tables) (p : Program) (c : Configuration) (s : Step) (whole : Whol
   unfolding Lawful lentLawful
   law = (and-left (tablesLawful t) _ lawful, and-left (programLawful (t .count) p) _ (and-right (tablesLawful t) _ lawful))
 
-  standing : configurationLawful defaultDepth t p c ≡ true
+  lent : configurationLawful defaultDepth t p c ≡ true
   unfolding lentLawful
-  standing = and-right (stepLawful s) _ (and-right (programLawful (t .count) p) _ (and-right (tablesLawful t) _ lawful))
-
-  few : c .count ≤ 64
-  unfolding configurationLawful connectionsLawful
-  few =
-      leb-true (c .count) 64
-      (and-left (leb (c .count) 64) _ (and-right (leb (c .done) (p .count)) _ (and-right (allBelow 32 (instanceLawful defaultDepth t c)) _ standing)))
+  lent = and-right (stepLawful s) _ (and-right (programLawful (t .count) p) _ (and-right (tablesLawful t) _ lawful))
 
   short : (i : ℕ) → instance c i .present ≡ true → instance c i .queued ≤ depthOf defaultDepth t
   unfolding configurationLawful instanceLawful numbersLawful
   short i here =
-      let h = all-at 32 (instanceLawful defaultDepth t c) (and-left (allBelow 32 (instanceLawful defaultDepth t c)) _ standing) i (omega (arith, present-in c i here, whole .instances)) in
+      let h = all-at 32 (instanceLawful defaultDepth t c) (and-left (allBelow 32 (instanceLawful defaultDepth t c)) _ lent) i (omega (arith, present-in c i here, whole .instances)) in
       leb-true _ _ (and-left (leb (instance c i .queued) (depthOf defaultDepth t)) _
       (and-right (maskOk (typeOf t (instance c i .kind) .transitions) (instance c i .ended)) _
       (and-right (maskOk (typeOf t (instance c i .kind) .transitions) (instance c i .running)) _
@@ -177,9 +129,9 @@ module _ (t : Tables) (p : Program) (c : Configuration) (s : Step) (whole : Whol
   unfolding withDone
   each e =
       let l = facts defaultDepth t p (omega arith) law in
-      let h = holds t c whole (l .depth) few short (action p c s) (step-lawfully defaultDepth t p l c s e) (number-facts defaultDepth t p c s e .0) in
+      let h = holds t c whole (l .depth) short (action p c s) (step-lawfully defaultDepth t p l c s e) (number-facts defaultDepth t p c s e .0) in
       after-cases t p (λ (d : Configuration). Holds d (slots t c (action p c s))) c s
-      (λ _. record { instances = h .instances; queues = h .queues; connections = h .connections; count = h .count }) (λ _. h)
+      (λ _. record { instances = h .instances; queues = h .queues; servers = h .servers }) (λ _. h)
 
 pub every-slot : EverySlot
 unfolding EverySlot hallStep

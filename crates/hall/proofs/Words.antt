@@ -53,7 +53,7 @@ refused-is-untouched tables program before after s n a b h nz =
 
 whole : (ws : List ℕ) → Whole (stateIn ws)
 unfolding stateIn
-whole ws = record { instances = length-list 32 _; queue = length-list 256 _; connections = length-list 64 _ }
+whole ws = record { instances = length-list 32 _; queue = length-list 256 _; servers = length-list 512 _ }
 
 pub every-slot-of-words : EverySlotOfWords
 unfolding EverySlotOfWords EverySlot

@@ -11,7 +11,7 @@ use Rattle.model.specs.declared.Answer.{Answer}
 use Rattle.model.specs.declared.Configuration.{Configuration}
 use Rattle.model.specs.declared.Walked.{Walked}
 use Rattle.model.specs.Empty.{start}
-use Rattle.model.specs.View.{stepsOf}
+use Rattle.model.specs.View.{connection, stepsOf}
 use Rattle.reading.specs.Lines.{on}
 use Rattle.reading.specs.Texts.{sheet, answer}
 use Rattle.reading.specs.Lawful.{stepLawful}
@@ -34,6 +34,14 @@ RefusedLeaves =
 unfoldable pub SevenExactly : Type 0
 SevenExactly =
     (t : Tables) (p : Program) (c : Configuration) (s : Step) → (hallStep t p c s .refused ≡ limitBroken) ↔ (lentLawful t p c s ≡ false)
+
+-- "a use port already connected" is a clause that no lent table can break: two of its slots never speak of one use port
+unfoldable pub NoUsePortTwice : Type 0
+NoUsePortTwice =
+    (c : Configuration) (s r : ℕ)
+    → connection c s .user ≡ connection c r .user
+    → connection c s .useport ≡ connection c r .useport
+    → s ≡ r
 
 -- for what the reader of a sheet gives, 7 is for the step's or the configuration's sake
 unfoldable pub SheetsBreakNone : Type 0

@@ -1,13 +1,13 @@
 -- Each clause of 01's sentence on number 7 by itself, as one table: of what is lawfully lent one number is changed, and the row names it and
 -- says a value at which all is lawful and one at which it is not. The step's numbers are tried with each of its verbs.
--- (No types or places, 17 types and 65 connections break another clause too.)
-use Prim.Native.Nat.{ℕ}
+-- (No types or places and 17 types break another clause too. No number makes a use port connected twice: `NoUsePortTwice`.)
+use Prim.Native.Nat.{ℕ, _-_, _*_}
 use Prim.Native.String.{String}
 use mathlib.Core.Bool.{Bool, true, _&&_, cond}
 use mathlib.Core.List.{List, [], _∷_, _++_}
 use mathlib.Core.Path.{_≡_}
 use lib.Dec.{eqb}
-use lib.ListN.{replicate}
+use lib.ListN.{replicate, take, drop}
 use lib.Text.{eqt}
 use Rattle.model.specs.declared.ComponentType.{ComponentType}
 use Rattle.model.specs.declared.Tables.{Tables}
@@ -15,7 +15,8 @@ use Rattle.model.specs.declared.Program.{Program}
 use Rattle.model.specs.declared.Step.{Step}
 use Rattle.model.specs.declared.Instance.{Instance}
 use Rattle.model.specs.declared.Configuration.{Configuration}
-use Rattle.model.specs.Empty.{noInstruction, absent, noConnection}
+use Rattle.model.specs.Empty.{noInstruction, absent, noServer}
+use Rattle.model.specs.View.{serverNumber}
 use Rattle.model.specs.Verb.{addVerb, delVerb, pushbVerb, conVerb, dconVerb, waitVerb, fireVerb, endVerb, enterVerb, finishVerb}
 use Rattle.reading.specs.Kinds.{anInstruction}
 use Rattle.hall.specs.Screen.{limitBroken, lentLawful, hallStep}
@@ -33,8 +34,8 @@ base name n = n
 abbrev pub but : Numbers → String → ℕ → Numbers
 but f changed k name n = cond (eqt name changed) k (f name n)
 
--- two places, the first initial, one transition between them and one behavior of it;
--- port 0 uses and has the second place, port 1 provides and has the first and the transition
+-- two places, the first initial, one transition between them and one behavior of it; port 0 uses and has the second place, port 1 provides
+-- and has the first and the transition
 abbrev pub typeWith : Numbers → ComponentType
 typeWith f = record {
   places = f "places" 2;
@@ -44,7 +45,7 @@ typeWith f = record {
   ports = f "ports" 2;
 }
 
--- one type; the rows past its counts are lawful too
+-- one type; the rows past its counts are lawful too, and a port past them is a use port as port 0
 abbrev pub tables : Numbers → Tables
 tables f = record {
   depth = f "depth" 0;
@@ -53,9 +54,9 @@ tables f = record {
   transitions = record { source = f "source" 0 ∷ replicate 511 0; destination = f "destination" 1 ∷ replicate 511 1 };
   behaviors = f "behavior" 1 ∷ replicate 127 1;
   ports = record {
-    uses = 1 ∷ f "port 1" 0 ∷ replicate 254 0;
-    places = f "port 0 places" 2 ∷ f "port 1 places" 1 ∷ replicate 254 1;
-    transitions = 0 ∷ f "port 1 transitions" 1 ∷ replicate 254 1;
+    uses = 1 ∷ f "port 1" 0 ∷ replicate 254 1;
+    places = f "port 0 places" 2 ∷ f "port 1 places" 1 ∷ replicate 254 2;
+    transitions = 0 ∷ f "port 1 transitions" 1 ∷ replicate 254 0;
   };
 }
 
@@ -74,8 +75,8 @@ program f = record {
 }
 
 -- an instance of that type in its first place
-abbrev pub standing : Numbers → ℕ → Instance
-standing f n = record {
+abbrev pub inPlace : Numbers → ℕ → Instance
+inPlace f n = record {
   present = true;
   kind = f "instance type" 0;
   marked = f "marked" 1;
@@ -84,16 +85,31 @@ standing f n = record {
   queued = f "queued" n;
 }
 
--- instances 0, 1 and 2; instance 0 has behavior 0 in its queue; 1 and 2 use 0
+-- of so many connections all but two: port 1 of instance 0 serves the use ports 2 to 14 of instances 1 to 5, in this order
+abbrev pub others : ℕ → ℕ → List ℕ
+others n u = take 13 (drop (u * 13) (replicate (n - 2) (serverNumber 0 1) ++ replicate 65 noServer))
+
+-- the servers of the u-th of them: v of port 0, x of port 1, which provides, and y of port 15
+abbrev pub serversOf : Numbers → ℕ → ℕ → ℕ → ℕ → List ℕ
+serversOf f u v x y = v ∷ x ∷ others (f "connections" 2) u ++ (y ∷ [])
+
+-- port 0 of instances 1 and 2 is served; instance 6 is the first that is absent
+abbrev pub servers : Numbers → List ℕ
+servers f =
+    replicate 16 noServer
+    ++ serversOf f 0 (f "server" (serverNumber 0 1)) (f "server of a provide port" noServer) (f "server past the ports" noServer)
+    ++ serversOf f 1 (serverNumber 0 1) noServer noServer
+    ++ serversOf f 2 noServer noServer noServer
+    ++ serversOf f 3 noServer noServer noServer
+    ++ serversOf f 4 noServer noServer noServer
+    ++ (f "server of an absent one" noServer ∷ replicate 415 noServer)
+
+-- instances 0 to 5; instance 0 has behavior 0 in its queue; 1 and 2 use it
 abbrev pub configuration : Numbers → Configuration
 configuration f = record {
-  instances = standing f 1 ∷ standing base 0 ∷ standing base 0 ∷ replicate 29 absent;
+  instances = inPlace f 1 ∷ replicate 5 (inPlace base 0) ++ replicate 26 absent;
   queue = f "queue" 0 ∷ replicate 255 0;
-  connections =
-      record { user = f "user" 1; useport = f "useport" 0; provider = f "provider" 0; provideport = f "provideport" 1 }
-      ∷ record { user = f "second user" 2; useport = 0; provider = 0; provideport = 1 }
-      ∷ replicate 62 noConnection;
-  count = f "connections" 2;
+  servers = servers f;
   done = f "done" 1;
 }
 
@@ -116,6 +132,10 @@ clauseRow name n m = record { from = base; name = name; lawful = n; broken = m }
 -- the same with another verb of the step
 abbrev pub moving : ℕ → String → ℕ → ℕ → Row
 moving verb name n m = record { from = but base "step" verb; name = name; lawful = n; broken = m }
+
+-- the same in a type of 15 ports
+abbrev pub inMore : String → ℕ → ℕ → Row
+inMore name n m = record { from = but base "ports" 15; name = name; lawful = n; broken = m }
 
 -- "tables or program break a sheet's rules": the limits, then "`initial` empty; `tran` with source equal to destination; a use port whose
 -- group has an initial place"
@@ -186,18 +206,18 @@ configurationRows =
     -- "more instructions done than the program has", "a queue past the depth", "over 64 connections"
     ∷ clauseRow "done" 6 7
     ∷ clauseRow "queued" 8 9
-    ∷ clauseRow "connections" 2 65
-    -- "or one with an absent end"
-    ∷ clauseRow "user" 1 3
-    ∷ clauseRow "provider" 0 3
-    -- "a wrong port": of the other kind, and outside its type
-    ∷ clauseRow "useport" 0 1
-    ∷ clauseRow "useport" 0 2
-    ∷ clauseRow "provideport" 1 0
-    ∷ clauseRow "provideport" 1 2
-    -- "a single instance at both ends", "a use port already connected"
-    ∷ clauseRow "provider" 0 1
-    ∷ clauseRow "second user" 2 1
+    ∷ inMore "connections" 64 65
+    -- "or one with an absent end": its user, its provider, and a provider past the last
+    ∷ clauseRow "server of an absent one" noServer (serverNumber 0 1)
+    ∷ clauseRow "server" (serverNumber 0 1) (serverNumber 6 1)
+    ∷ clauseRow "server" (serverNumber 0 1) (serverNumber 32 0)
+    -- "a wrong port": of the other kind, and outside its type, on either side
+    ∷ clauseRow "server of a provide port" noServer (serverNumber 0 1)
+    ∷ clauseRow "server past the ports" noServer (serverNumber 0 1)
+    ∷ clauseRow "server" (serverNumber 0 1) (serverNumber 0 0)
+    ∷ clauseRow "server" (serverNumber 0 1) (serverNumber 0 2)
+    -- "a single instance at both ends"
+    ∷ clauseRow "server" (serverNumber 0 1) (serverNumber 1 1)
     ∷ []
 
 -- one table

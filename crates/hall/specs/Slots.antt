@@ -1,5 +1,6 @@
--- What a step that is allowed leaves in every slot of the lent configuration: "`con` appends to the list, `dcon` and `finish` close the gap
--- and zero the slot freed, `del` zeroes the whole record, and `add` zeroes all queue slots." All other slots keep what they hold, free ones too.
+-- What a step that is allowed leaves in every slot of the lent configuration. Where connections are kept by use port, `con` sets the slot of its
+-- use port and `dcon` zeroes it; `finish` closes the gap and zeroes "the slot freed, `del` zeroes the whole record, and `add` zeroes all
+-- queue slots." All other slots keep what they hold, free ones too.
 use Prim.Native.Nat.{ℕ, suc, _-_, _<_}
 use mathlib.Core.Bool.{cond}
 use mathlib.Core.Path.{_≡_}
@@ -9,38 +10,38 @@ use Rattle.model.specs.declared.Tables.{Tables}
 use Rattle.model.specs.declared.Program.{Program}
 use Rattle.model.specs.declared.Step.{Step}
 use Rattle.model.specs.declared.Instance.{Instance}
-use Rattle.model.specs.declared.Connection.{Connection}
 use Rattle.model.specs.declared.Configuration.{Configuration}
-use Rattle.model.specs.Empty.{absent, noConnection, mostConnections}
-use Rattle.model.specs.View.{instance, connection, slot}
+use Rattle.model.specs.Empty.{absent, noServer}
+use Rattle.model.specs.View.{instance, slot, portNumber, serverNumber, server}
 use Rattle.rules.specs.Instance.{endedBy, withQueued}
 use Rattle.rules.specs.Add.{fresh}
-use Rattle.rules.specs.DCon.{placeOf}
 use Rattle.rules.specs.Fire.{afterFire}
 use Rattle.rules.specs.Enter.{afterEnter}
 use Rattle.rules.specs.Action.{Action, add, del, pushb, con, dcon, wait, fire, end, enter, finish}
 use Rattle.rules.specs.Step.{isNext, action}
 use Rattle.hall.specs.Screen.{hallStep}
 
--- the record of each instance, slot r of its queue, each connection, and how many connections stand
+-- the record of each instance, slot r of its queue, and the slot of each use port by its number
 pub record Slots : Type 0 where
   pub instances : ℕ → Instance
   pub queues : ℕ → ℕ → ℕ
-  pub connections : ℕ → Connection
-  pub count : ℕ
+  pub servers : ℕ → ℕ
 
 -- instance i has the record w and the queue slots s
 abbrev pub inInstance : Configuration → ℕ → Instance → (ℕ → ℕ) → Slots
 inInstance c i w s = record {
   instances = λ j. cond (eqb j i) w (instance c j);
   queues = λ j r. cond (eqb j i) (s r) (slot c j r);
-  connections = connection c;
-  count = c .count;
+  servers = server (c .servers);
 }
 
--- the list is f, and n of it stand
-abbrev pub inConnections : Configuration → (ℕ → Connection) → ℕ → Slots
-inConnections c f n = record { instances = instance c; queues = slot c; connections = f; count = n }
+-- the table is f
+abbrev pub inServers : Configuration → (ℕ → ℕ) → Slots
+inServers c f = record { instances = instance c; queues = slot c; servers = f }
+
+-- the use port of number a has the server v
+abbrev pub servedBy : Configuration → ℕ → ℕ → ℕ → ℕ
+servedBy c a v s = cond (eqb s a) v (server (c .servers) s)
 
 -- slot l of f where the gap at `at` is closed in the first n: the later ones move down one, the slot freed is z, those past n stay
 unfoldable pub gapClosed : {A : Type 0} → A → ℕ → ℕ → (ℕ → A) → ℕ → A
@@ -51,9 +52,9 @@ slots t c (add i k) = inInstance c i (fresh t k) (λ r. 0)
 slots t c (del i) = inInstance c i absent (λ r. 0)
 slots t c (pushb i b) =
     inInstance c i (withQueued (instance c i) (suc (instance c i .queued))) (λ r. cond (eqb r (instance c i .queued)) b (slot c i r))
-slots t c (con k) = inConnections c (λ l. cond (eqb l (c .count)) k (connection c l)) (suc (c .count))
-slots t c (dcon k) = inConnections c (gapClosed noConnection (placeOf c k) (c .count) (connection c)) (c .count - 1)
-slots t c (wait i) = inConnections c (connection c) (c .count)
+slots t c (con k) = inServers c (servedBy c (portNumber (k .user) (k .useport)) (serverNumber (k .provider) (k .provideport)))
+slots t c (dcon k) = inServers c (servedBy c (portNumber (k .user) (k .useport)) noServer)
+slots t c (wait i) = inServers c (server (c .servers))
 slots t c (fire i p) = inInstance c i (afterFire t c i p) (slot c i)
 slots t c (end i x) = inInstance c i (endedBy (instance c i) x) (slot c i)
 slots t c (enter i p) = inInstance c i (afterEnter t c i p) (slot c i)
@@ -64,14 +65,13 @@ slots t c (finish i) =
 pub record Holds (d : Configuration) (x : Slots) : Type 0 where
   pub instances : (j : ℕ) → j < 32 → instance d j ≡ x .instances j
   pub queues : (j r : ℕ) → j < 32 → r < 8 → slot d j r ≡ x .queues j r
-  pub connections : (l : ℕ) → l < mostConnections → connection d l ≡ x .connections l
-  pub count : d .count ≡ x .count
+  pub servers : (s : ℕ) → s < 512 → server (d .servers) s ≡ x .servers s
 
 -- as long as its arrays are
 pub record Whole (c : Configuration) : Type 0 where
   pub instances : length (c .instances) ≡ 32
   pub queue : length (c .queue) ≡ 256
-  pub connections : length (c .connections) ≡ mostConnections
+  pub servers : length (c .servers) ≡ 512
 
 unfoldable pub EverySlot : Type 0
 EverySlot =

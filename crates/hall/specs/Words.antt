@@ -18,7 +18,7 @@ LeftWords tables program before s n after = Left (tablesIn tables) (programIn pr
 
 -- the words of a configuration: so many, and the first, which is a set of ids, is of 32 bits
 pub record Configured (ws : List ℕ) : Type 0 where
-  pub many : length ws ≡ 675
+  pub many : length ws ≡ 930
   pub small : word ws 0 < 2 ^ 32
 
 -- "untouched on a refusal": every word
