@@ -1,6 +1,8 @@
 /* "The screen in the hall": number 7 is given exactly when one of these clauses is broken. */
 #include "hall.h"
 
+#include <string.h>
+
 static bool inside(uint32_t set, unsigned count) { return (set & ~below(count)) == 0; }
 
 /* "tables or program break a sheet's rules (its length aside)" */
@@ -85,34 +87,72 @@ static bool instance_lawful(const struct tables *tables, const struct instance *
     return inside(i->marked, type->places) && inside(i->running, type->transitions) && inside(i->ended, type->transitions);
 }
 
-static bool end_lawful(const struct tables *tables, const struct configuration *c, unsigned id, unsigned port,
+static bool end_lawful(const struct tables *tables, const struct lent_configuration *c, unsigned id, unsigned port,
                        enum port_kind kind)
 {
     return id < INSTANCES && c->instance[id].present && has_port(&tables->type[c->instance[id].kind], port, kind);
 }
 
-/* "one with an absent end, a wrong port, a single instance at both ends or a use port already connected" */
-static bool connection_lawful(const struct tables *tables, const struct configuration *c, const struct connection *n)
+/* "one with an absent end, a wrong port, a single instance at both ends"; a slot is its use port, so none is connected twice. */
+static bool connection_lawful(const struct tables *tables, const struct lent_configuration *c, unsigned slot, unsigned port)
 {
-    return end_lawful(tables, c, n->user, n->useport, USE) && end_lawful(tables, c, n->provider, n->provideport, PROVIDE)
-        && n->user != n->provider && connection_of(c, n->user, n->useport) == n;
+    return end_lawful(tables, c, slot / PORTS, slot % PORTS, USE) && end_lawful(tables, c, port / PORTS, port % PORTS, PROVIDE)
+        && slot / PORTS != port / PORTS;
 }
 
-/* Instances first, so that the ends of a connection have lawful types. */
-static bool configuration_lawful(const struct tables *tables, const struct program *program, const struct configuration *c)
+/* "over 64 connections" */
+static bool connections_lawful(const struct tables *tables, const struct lent_configuration *c)
 {
-    if (c->done > program->count || c->count > CONNECTIONS) return false;
-    for (unsigned id = 0; id < INSTANCES; id++)
-        if (c->instance[id].present && !instance_lawful(tables, &c->instance[id])) return false;
-    for (unsigned k = 0; k < c->count; k++)
-        if (!connection_lawful(tables, c, &c->connection[k])) return false;
+    unsigned count = 0;
+    for (unsigned slot = 0; slot < INSTANCES * PORTS; slot++) {
+        if (c->server[slot] == 0) continue;
+        if (++count > CONNECTIONS || !connection_lawful(tables, c, slot, c->server[slot] - 1u)) return false;
+    }
     return true;
 }
 
-unsigned hall(const struct tables *tables, const struct program *program, struct configuration *configuration,
+/* Instances first, so that the ends of a connection have lawful types. */
+static bool configuration_lawful(const struct tables *tables, const struct program *program, const struct lent_configuration *c)
+{
+    if (c->done > program->count) return false;
+    for (unsigned id = 0; id < INSTANCES; id++)
+        if (c->instance[id].present && !instance_lawful(tables, &c->instance[id])) return false;
+    return connections_lawful(tables, c);
+}
+
+/* The configuration that the rules keep, its list in the table's order. */
+static void list_configuration(const struct lent_configuration *lent, struct configuration *c)
+{
+    memset(c, 0, sizeof *c);
+    memcpy(c->instance, lent->instance, sizeof c->instance);
+    c->done = lent->done;
+    for (unsigned slot = 0; slot < INSTANCES * PORTS; slot++) {
+        unsigned port = lent->server[slot] - 1u;
+        if (lent->server[slot] != 0)
+            c->connection[c->count++] = (struct connection){ (uint8_t)(slot / PORTS), (uint8_t)(slot % PORTS),
+                                                             (uint8_t)(port / PORTS), (uint8_t)(port % PORTS) };
+    }
+}
+
+void lend_configuration(const struct configuration *c, struct lent_configuration *lent)
+{
+    memcpy(lent->instance, c->instance, sizeof lent->instance);
+    memset(lent->server, 0, sizeof lent->server);
+    lent->done = c->done;
+    for (unsigned k = 0; k < c->count; k++) {
+        const struct connection *n = &c->connection[k];
+        lent->server[n->user * PORTS + n->useport] = (uint16_t)(1 + n->provider * PORTS + n->provideport);
+    }
+}
+
+unsigned hall(const struct tables *tables, const struct program *program, struct lent_configuration *lent,
               const struct step *step)
 {
+    struct configuration configuration;
     if (!tables_lawful(tables) || !program_lawful(program, tables->count) || !step_lawful(step)
-        || !configuration_lawful(tables, program, configuration)) return 7;
-    return take_step(tables, program, configuration, step);
+        || !configuration_lawful(tables, program, lent)) return 7;
+    list_configuration(lent, &configuration);
+    unsigned number = take_step(tables, program, &configuration, step);
+    lend_configuration(&configuration, lent);
+    return number;
 }

@@ -98,22 +98,13 @@ static void litter_absent(struct random *r, struct instance *i)
     litter_bytes(r, i->queue, 0, DEPTH);
 }
 
-static void litter_connection(struct random *r, struct connection *n)
-{
-    n->user = (uint8_t)draw(r);
-    n->useport = (uint8_t)draw(r);
-    n->provider = (uint8_t)draw(r);
-    n->provideport = (uint8_t)draw(r);
-}
-
-static void litter_configuration(struct random *r, struct configuration *c)
+static void litter_configuration(struct random *r, struct lent_configuration *c)
 {
     for (unsigned id = 0; id < INSTANCES; id++) {
         struct instance *i = &c->instance[id];
         if (i->present) litter_bytes(r, i->queue, i->queued, DEPTH);
         else litter_absent(r, i);
     }
-    for (unsigned k = c->count; k < CONNECTIONS; k++) litter_connection(r, &c->connection[k]);
 }
 
 static void litter_step(struct random *r, struct step *step)
@@ -154,7 +145,8 @@ static bool break_count(struct random *r, struct lent *lent)
 {
     lent->tables.count = chance(r, 50) ? 0 : past(r, TYPES + 1);
     if (lent->tables.count > 0) return true;
-    lent->program.count = lent->configuration.done = lent->configuration.count = 0;
+    lent->program.count = lent->configuration.done = 0;
+    memset(lent->configuration.server, 0, sizeof lent->configuration.server);
     for (unsigned id = 0; id < INSTANCES; id++) lent->configuration.instance[id].present = 0;
     return true;
 }
@@ -251,7 +243,7 @@ static bool break_step(struct random *r, struct lent *lent)
 }
 
 /* A present instance, or an absent one where there is none. */
-static struct instance *any_instance(struct random *r, struct configuration *c)
+static struct instance *any_instance(struct random *r, struct lent_configuration *c)
 {
     unsigned id = pick(r, INSTANCES);
     for (unsigned k = 0; k < INSTANCES && !c->instance[id].present; k++) id = (id + 1) % INSTANCES;
@@ -283,29 +275,71 @@ static bool break_instance(struct random *r, struct lent *lent)
     }
 }
 
-/* An end that is absent, its record as it was, or a port that its type has not or has of the other kind. */
-static bool break_end(struct random *r, struct lent *lent, uint8_t *id, uint8_t *port)
+/* A connection's slot, or any where there is none. */
+static unsigned any_slot(struct random *r, const struct lent_configuration *c)
 {
-    struct instance *i = &lent->configuration.instance[*id];
-    switch (pick(r, 4)) {
-    case 0: *id = past(r, INSTANCES); return true;
-    case 1: i->present = 0; return true;
-    case 2: *port = past(r, lent->tables.type[i->kind].ports); return true;
-    default: *port = (uint8_t)pick(r, lent->tables.type[i->kind].ports); return true;
-    }
+    unsigned slot = pick(r, INSTANCES * PORTS);
+    for (unsigned k = 0; k < INSTANCES * PORTS && c->server[slot] == 0; k++) slot = (slot + 1) % (INSTANCES * PORTS);
+    return slot;
+}
+
+/* A use port of a present instance that is free gets a provide port of another; false where the draw finds none. */
+static bool add_connection(struct random *r, struct lent *lent)
+{
+    struct lent_configuration *c = &lent->configuration;
+    unsigned slot = pick(r, INSTANCES * PORTS), port = pick(r, INSTANCES * PORTS);
+    const struct instance *user = &c->instance[slot / PORTS], *provider = &c->instance[port / PORTS];
+    if (c->server[slot] != 0 || !user->present || !provider->present || user == provider) return false;
+    if (!has_port(&lent->tables.type[user->kind], slot % PORTS, USE)) return false;
+    if (!has_port(&lent->tables.type[provider->kind], port % PORTS, PROVIDE)) return false;
+    c->server[slot] = (uint16_t)(port + 1);
+    return true;
+}
+
+/* More than 64, each of them lawful. */
+static bool overfill_table(struct random *r, struct lent *lent)
+{
+    unsigned count = 0, most = chance(r, 70) ? CONNECTIONS + 1 : pick_from(r, CONNECTIONS + 1, 120);
+    for (unsigned slot = 0; slot < INSTANCES * PORTS; slot++) count += lent->configuration.server[slot] != 0;
+    for (unsigned tries = 0; tries < 20000 && count < most; tries++) count += add_connection(r, lent);
+    return count > CONNECTIONS;
+}
+
+/* The server of a connection also at a slot that is no use port: of an absent instance, or of a port of another kind or past the type's. */
+static bool break_use(struct random *r, struct lent *lent, unsigned server)
+{
+    struct lent_configuration *c = &lent->configuration;
+    unsigned id = chance(r, 70) ? (unsigned)(any_instance(r, c) - c->instance) : pick(r, INSTANCES), port = pick(r, PORTS);
+    const struct type *type = &lent->tables.type[c->instance[id].kind % TYPES];
+    if (c->instance[id].present && type->ports > 0 && chance(r, 60)) port = pick(r, type->ports);
+    if (c->instance[id].present && has_port(type, port, USE)) return false;
+    c->server[id * PORTS + port] = (uint16_t)server;
+    return true;
+}
+
+/* A provider past the last, any other, or any port of the same one. */
+static bool break_server(struct random *r, const struct lent *lent, uint16_t *server)
+{
+    unsigned id = (*server - 1u) / PORTS, clause = pick(r, 6);
+    if (clause == 0) *server = (uint16_t)(INSTANCES * PORTS + 1);
+    else if (clause == 1) *server = (uint16_t)pick_from(r, INSTANCES * PORTS + 1, UINT16_MAX);
+    else if (clause == 2) *server = (uint16_t)pick_from(r, 1, INSTANCES * PORTS);
+    else if (clause == 3) *server = (uint16_t)(id * PORTS + 1 + pick(r, PORTS));
+    else *server = (uint16_t)(id * PORTS + 1 + pick(r, lent->tables.type[lent->configuration.instance[id].kind].ports));
+    return true;
 }
 
 static bool break_connection(struct random *r, struct lent *lent)
 {
-    struct configuration *c = &lent->configuration;
-    struct connection *n = &c->connection[pick(r, c->count)], *other = &c->connection[pick(r, c->count)];
-    unsigned clause = pick(r, 100);
-    if (clause < 15) return c->count = past(r, CONNECTIONS + 1), true;
-    if (c->count == 0) return false;
-    if (clause < 45) return break_end(r, lent, &n->user, &n->useport);
-    if (clause < 75) return break_end(r, lent, &n->provider, &n->provideport);
-    if (clause < 85) return n->provider = n->user, n->provideport = (uint8_t)pick(r, PORTS), true;
-    return n->user = other->user, n->useport = other->useport, n != other;
+    struct lent_configuration *c = &lent->configuration;
+    unsigned slot = any_slot(r, c), clause = pick(r, 100), port = c->server[slot] - 1u;
+    if (clause < 20) return overfill_table(r, lent);
+    if (c->server[slot] == 0) return false;
+    if (clause < 30) return c->instance[slot / PORTS].present = 0, true;
+    if (clause < 40) return c->instance[port / PORTS].present = 0, true;
+    if (clause < 60) return break_use(r, lent, c->server[slot]);
+    if (clause < 85) return break_server(r, lent, &c->server[slot]);
+    return c->server[slot] = (uint16_t)(slot / PORTS * PORTS + 1 + pick(r, PORTS)), true;
 }
 
 typedef bool breach(struct random *, struct lent *);
@@ -315,7 +349,7 @@ static void break_clause(struct random *r, struct lent *lent)
     static breach *const breaches[] = { break_depth, break_count, break_counts, break_initial, break_transition, break_behavior,
                                         break_port, break_port, break_instruction, break_instruction, break_length, break_done,
                                         break_step, break_step, break_instance, break_instance, break_connection,
-                                        break_connection };
+                                        break_connection, break_connection, break_connection };
     for (unsigned tries = 0; tries < 20; tries++) {
         struct lent broken = *lent;
         if (!breaches[pick(r, sizeof breaches / sizeof breaches[0])](r, &broken)) continue;
@@ -343,14 +377,14 @@ static void move_on(struct paper *paper, bool walk)
 static void draw_last(struct paper *paper, struct lent *lent, bool walk)
 {
     for (unsigned tries = 0; paper->aim >= 10 && tries < 40; tries++) {
-        lent->configuration = paper->configuration;
+        lend_configuration(&paper->configuration, &lent->configuration);
         if (draw_refused(paper, paper->aim)) {
             lent->step = paper->step[paper->steps - 1];
             return;
         }
         move_on(paper, walk);
     }
-    lent->configuration = paper->configuration;
+    lend_configuration(&paper->configuration, &lent->configuration);
     bool found = chance(&paper->random, 80) && draw_allowed(paper);
     lent->step = found ? paper->step[paper->steps - 1] : draw_step(paper);
 }
@@ -372,17 +406,19 @@ static void append_rest(struct paper *paper)
         paper->program.line[paper->program.count++] = draw_instruction(paper, 20);
 }
 
+/* Over 64 connections need tables and instances with so many ports, as a paper has that aims at 16. */
 void generate_lent(uint64_t seed, uint64_t index, struct lent *lent)
 {
     static struct paper paper;
     paper.random = random_of(seed, index);
     unsigned aim = pick_weighted(&paper.random, aims, 38);
-    bool walk = aim != 15 && aim != 16 && chance(&paper.random, 50);
-    draw_state(&paper, aim, walk);
+    bool over = aim == 7 && chance(&paper.random, 15), walk = !over && aim != 15 && aim != 16 && chance(&paper.random, 50);
+    draw_state(&paper, over ? 16 : aim, walk);
     draw_last(&paper, lent, walk);
     append_rest(&paper);
     lent->tables = paper.tables;
     lent->program = paper.program;
     litter(&paper.random, lent);
+    if (over && overfill_table(&paper.random, lent)) return;
     if (aim == 7) break_clause(&paper.random, lent);
 }

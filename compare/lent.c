@@ -23,6 +23,14 @@ static void word(struct visit *v, uint32_t *number)
     *number = value;
 }
 
+static void pair(struct visit *v, uint16_t *number)
+{
+    uint8_t low = (uint8_t)*number, high = (uint8_t)(*number >> 8);
+    byte(v, &low);
+    byte(v, &high);
+    *number = (uint16_t)(low | high << 8);
+}
+
 static void counts(struct visit *v, struct type *t)
 {
     byte(v, &t->places);
@@ -69,18 +77,11 @@ static void instance(struct visit *v, struct instance *i)
     byte(v, &i->queued);
 }
 
-static void configuration(struct visit *v, struct configuration *c)
+static void configuration(struct visit *v, struct lent_configuration *c)
 {
     for (unsigned id = 0; id < INSTANCES; id++) instance(v, &c->instance[id]);
     for (unsigned k = 0; k < INSTANCES * DEPTH; k++) byte(v, &c->instance[k / DEPTH].queue[k % DEPTH]);
-    for (unsigned k = 0; k < CONNECTIONS; k++) {
-        struct connection *n = &c->connection[k];
-        byte(v, &n->user);
-        byte(v, &n->useport);
-        byte(v, &n->provider);
-        byte(v, &n->provideport);
-    }
-    byte(v, &c->count);
+    for (unsigned slot = 0; slot < INSTANCES * PORTS; slot++) pair(v, &c->server[slot]);
     word(v, &c->done);
 }
 

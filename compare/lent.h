@@ -2,12 +2,12 @@
 #ifndef LENT_H
 #define LENT_H
 
-#include "rules.h"
+#include "hall.h"
 
-enum { TABLES_BYTES = 3970, PROGRAM_BYTES = 1284, CONFIGURATION_BYTES = 997, STEP_BYTES = 3,
+enum { TABLES_BYTES = 3970, PROGRAM_BYTES = 1284, CONFIGURATION_BYTES = 1764, STEP_BYTES = 3,
        CONFIGURATION_START = TABLES_BYTES + PROGRAM_BYTES, LENT_BYTES = CONFIGURATION_START + CONFIGURATION_BYTES + STEP_BYTES };
 
-struct lent { struct tables tables; struct program program; struct configuration configuration; struct step step; };
+struct lent { struct tables tables; struct program program; struct lent_configuration configuration; struct step step; };
 
 void lent_to_bytes(const struct lent *lent, uint8_t *bytes);
 void lent_of_bytes(const uint8_t *bytes, struct lent *lent);

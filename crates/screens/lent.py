@@ -1,54 +1,7 @@
-"""The cases of the program `screens`: what is lent, the number that it must get, and, where the step is allowed, what it must leave.
-A change is a row of `place=value`, as in `types.0.places=2 queue.8=1`; the places are those of model.py's `empty`."""
-import copy
-
-from model import empty
-
-
-def changed(lent, changes):
-    lent = copy.deepcopy(lent)
-    for change in changes.split():
-        place, value = change.split("=")
-        *way, last = (int(p) if p.isdigit() else p for p in place.split("."))
-        spot = lent
-        for part in way:
-            spot = spot[part]
-        assert isinstance(spot[last], int), place
-        spot[last] = int(value)
-    return lent
-
-
-def row(name, **values):
-    return " ".join(f"{name}.{key}={value}" for key, value in values.items())
-
-
-cases = []
-
-
-def case(name, lent, changes, number, left=""):
-    """The number of a step; an allowed one leaves what `left` says and all else as it was, a refused one everything."""
-    given = changed(lent, changes)
-    cases.append((name, given, number, changed(given, left)))
-
-
-def instance(i, kind, marked, queued=0, running=0, ended=0):
-    return row(f"instances.{i}", present=1, kind=kind, marked=marked, running=running, ended=ended, queued=queued)
-
-
-def connection(at, user, useport, provider, provideport):
-    return row(f"connections.{at}", user=user, useport=useport, provider=provider, provideport=provideport)
-
-
-def instruction(at, verb, identity, number=0, provider=0, provideport=0):
-    return row(f"program.{at}", verb=verb, id=identity, number=number, provider=provider, provideport=provideport)
-
-
-def step(verb, identity=0, number=0):
-    return row("step", verb=verb, id=identity, number=number)
-
-
-ADD, DEL, PUSHB, CON, DCON, WAIT = range(6)
-NEXT, FIRE, END, ENTER, FINISH = range(5)
+"""The cases of the program `screens`: what is lent, the number that it must get, and, where the step is allowed, what it must leave."""
+from model import empty, server, slot_of
+from notation import ADD, CON, DCON, DEL, END, ENTER, FINISH, FIRE, NEXT, PUSHB, WAIT
+from notation import case, cases, changed, connection, instance, instruction, row, step, unconnected
 
 # ---- the type: two places, the first initial, one transition between them, one behavior of it; port 0 uses and has the second place,
 # ---- port 1 provides and has the first and the transition. Instances 1 and 2 use 0, which may fire.
@@ -59,9 +12,9 @@ def plain(k):
     return row(f"types.{k}", places=2, initial=1, transitions=1, behaviors=1, ports=2) + " " + rows
 
 
-base = changed(empty(), plain(0) + " count=1 instructions=2 done=1 standing=2 " + step(FIRE))
+base = changed(empty(), plain(0) + " count=1 instructions=2 done=1 " + step(FIRE))
 base = changed(base, " ".join([instance(0, 0, 1, 1), instance(1, 0, 1), instance(2, 0, 1)]))
-base = changed(base, connection(0, 1, 0, 0, 1) + " " + connection(1, 2, 0, 0, 1))
+base = changed(base, connection(1, 0, 0, 1) + " " + connection(2, 0, 0, 1))
 sixteen = " ".join(plain(k) for k in range(1, 16)) + " count=16 "
 fired = "instances.0.marked=0 instances.0.running=1"
 
@@ -153,18 +106,22 @@ limit("queued_behavior", "queue.0=?", 0, 1)
 limit("last_queued_behavior", "instances.0.queued=4 queue.3=?", 0, 1)
 limit("done", "done=?", 2, 3)
 limit("done_past_bytes", "done=?", 2, 65536 + 1)
-limit("connections", "standing=?", 2, 65)
-limit("user_present", "connections.0.user=?", 1, 3)
-limit("user_id", "connections.0.user=?", 1, 32)
-limit("provider_present", "connections.0.provider=?", 0, 3)
-limit("provider_id", "connections.0.provider=?", 0, 255)
-limit("useport_kind", "connections.0.useport=?", 0, 1)
-limit("useport_outside", "connections.0.useport=?", 0, 2)
-limit("provideport_kind", "connections.0.provideport=?", 1, 0)
-limit("provideport_outside", "connections.0.provideport=?", 1, 2)
-limit("two_ends", "connections.0.provider=?", 0, 1)
-limit("use_port_connected_once", "connections.1.user=?", 2, 1)
-case("a_gap_in_the_list", base, "standing=3", 7)
+limit("entry_of_an_absent_user", f"servers.{slot_of(3, 0)}=?", 0, server(0, 1))
+limit("entry_of_the_last_user", f"servers.{slot_of(31, 15)}=?", 0, server(0, 1))
+limit("entry_of_a_provide_port", f"servers.{slot_of(1, 1)}=?", 0, server(0, 1))
+limit("entry_past_the_ports", f"servers.{slot_of(1, 2)}=?", 0, server(0, 1))
+limit("entry_of_the_last_port", f"servers.{slot_of(1, 15)}=?", 0, server(0, 1))
+limit("provider_present", f"servers.{slot_of(1, 0)}=?", server(0, 1), server(3, 1))
+limit("provideport_kind", f"servers.{slot_of(1, 0)}=?", server(0, 1), server(0, 0))
+limit("provideport_outside", f"servers.{slot_of(1, 0)}=?", server(0, 1), server(0, 2))
+limit("two_ends", f"servers.{slot_of(1, 0)}=?", server(0, 1), server(1, 1))
+far = f"types.0.ports=16 {instance(31, 0, 1)} servers.{slot_of(1, 0)}="
+limit("server", far + "?", server(31, 15), 513)
+case("server_65535", base, far + "65535", 7)
+case("server_512_of_an_absent_instance", base, f"types.0.ports=16 servers.{slot_of(1, 0)}=512", 7)
+case("a_user_that_is_gone", base, "instances.1.present=0", 7)
+case("a_provider_that_is_gone", base, "instances.0.present=0 " + step(FIRE, 1), 7)
+case("no_connections", base, unconnected(1, 0) + " " + unconnected(2, 0), 0, fired)
 case("a_last_instance", base, instance(31, 1, 1), 7)
 case("a_last_instance_of_its_type", base, instance(31, 0, 1), 0, fired)
 
@@ -172,7 +129,6 @@ case("a_last_instance_of_its_type", base, instance(31, 0, 1), 0, fired)
 garbage = " ".join(
     [row("instances.7", kind=200, marked=4294967295, running=4294967295, ended=4294967295, queued=200)]
     + ["queue.%d=%d" % (at, 200 + at % 8) for at in list(range(1, 8)) + list(range(56, 64))]
-    + [connection(at, 99, 99, 99, 99) for at in (2, 3, 4, 63)]
     + ["types.9.places=99 types.9.initial=0 source.1=99 destination.1=99 behaviors.1=99 uses.2=99 places.2=99 transitions.2=99"]
     + [instruction(at, 99, 99, 99, 99, 99) for at in range(2, 9)]
 )
@@ -201,15 +157,37 @@ case("pushb_on_a_queue", due, instruction(1, PUSHB, 0), 0, "instances.0.queued=2
 case("pushb_to_the_depth", due, "depth=8 instances.0.queued=7 " + queue(0, *[0] * 7) + " " + instruction(1, PUSHB, 0), 0,
      "instances.0.queued=8 queue.7=0 done=2")
 case("wait_for_an_id", due, instruction(1, WAIT, 1), 0, "done=2")
-case("con_at_the_end", due, instruction(1, CON, 0, 0, 1, 1), 0, connection(2, 0, 0, 1, 1) + " standing=3 done=2")
-case("con_in_an_empty_list", due, "standing=0 " + instruction(1, CON, 0, 0, 1, 1), 0, connection(0, 0, 0, 1, 1) + " standing=1 done=2")
-three = changed(due, connection(2, 0, 0, 1, 1) + " standing=3")
-case("dcon_the_first", three, instruction(1, DCON, 1, 0, 0, 1), 0,
-     " ".join([connection(0, 2, 0, 0, 1), connection(1, 0, 0, 1, 1), connection(2, 0, 0, 0, 0), "standing=2 done=2"]))
-case("dcon_the_middle", three, instruction(1, DCON, 2, 0, 0, 1), 0,
-     " ".join([connection(1, 0, 0, 1, 1), connection(2, 0, 0, 0, 0), "standing=2 done=2"]))
-case("dcon_the_last", three, instruction(1, DCON, 0, 0, 1, 1), 0, connection(2, 0, 0, 0, 0) + " standing=2 done=2")
-case("dcon_the_only_one", due, "standing=1 " + instruction(1, DCON, 1, 0, 0, 1), 0, connection(0, 0, 0, 0, 0) + " standing=0 done=2")
+case("con_of_a_use_port", due, instruction(1, CON, 0, 0, 1, 1), 0, connection(0, 0, 1, 1) + " done=2")
+alone = changed(due, unconnected(1, 0) + " " + unconnected(2, 0))
+case("con_of_the_only_one", alone, instruction(1, CON, 0, 0, 1, 1), 0, connection(0, 0, 1, 1) + " done=2")
+three = changed(due, connection(0, 0, 1, 1))
+for word, user, provider in ("first", 0, 1), ("middle", 1, 0), ("last", 2, 0):
+    case(f"dcon_the_{word}", three, instruction(1, DCON, user, 0, provider, 1), 0, unconnected(user, 0) + " done=2")
+case("dcon_the_only_one", alone, connection(1, 0, 0, 1) + " " + instruction(1, DCON, 1, 0, 0, 1), 0, unconnected(1, 0) + " done=2")
+case("dcon_of_another_provider", three, instruction(1, DCON, 1, 0, 2, 1), 17)
+case("dcon_of_another_provide_port", three, instruction(1, DCON, 1, 0, 0, 0), 17)
+case("dcon_past_the_ports", three, instruction(1, DCON, 0, 15, 0, 1), 17)
+case("del_of_a_mere_provider", due, "instances.0.queued=0 " + instruction(1, DEL, 0), 18)
+case("del_of_a_mere_user", due, instruction(1, DEL, 1), 18)
+case("del_after_the_last_user", alone, "instances.0.queued=0 " + instruction(1, DEL, 0), 0,
+     row("instances.0", present=0, kind=0, marked=0, running=0, ended=0, queued=0) + " done=2 " + queue(0, 0, 0, 0, 0, 0, 0, 0, 0))
+
+# ---- one use port connected, freed, and connected again to another
+turns = [(CON, 1, connection(0, 0, 1, 1)), (DCON, 1, unconnected(0, 0)), (CON, 2, connection(0, 0, 2, 1))]
+again = changed(due, "instructions=4 " + " ".join(instruction(at, verb, 0, 0, provider, 1) for at, (verb, provider, _) in enumerate(turns, 1)))
+for at, (_, _, left) in enumerate(turns, 1):
+    left += f" done={at + 1}"
+    case(f"con_dcon_con_{at}", again, "", 0, left)
+    again = changed(again, left)
+
+# ---- every slot of the table by its own `con`: the type has one use port
+for at in range(512):
+    (user, q), two = divmod(at, 16), changed(empty(), "count=1 instructions=1 types.0.places=1 types.0.initial=1 types.0.ports=16")
+    provider, p = (user + 1 + q) % 32, (q + 1 + user % 15) % 16
+    two = changed(two, f"uses.{q}=1 {instance(user, 0, 1)} {instance(provider, 0, 1)} {instruction(0, CON, user, q, provider, p)}")
+    case(f"con_in_slot_{at}", two, "", 0, connection(user, q, provider, p) + " done=1")
+
+# ---- the moves
 case("fire_a_place", free, "", 0, fired)
 running = changed(free, "instances.0.marked=0 instances.0.running=1")
 case("end_a_transition", running, step(END), 0, "instances.0.running=0 instances.0.ended=1")
@@ -245,21 +223,21 @@ case("refused_37", free, step(FINISH), 37)
 # ---- 64 connections: type 0 uses by 16 ports, type 1 provides by one; four users
 many = changed(empty(), "count=2 instructions=1 types.0.places=2 types.0.initial=1 types.0.ports=16 types.1.places=1 types.1.initial=1 types.1.ports=1 places.16=1")
 many = changed(many, " ".join([f"uses.{q}=1 places.{q}=2" for q in range(16)] + [instance(i, 0, 1) for i in range(5)] + [instance(31, 1, 1)]))
-many = changed(many, " ".join([connection(at, at // 16, at % 16, 31, 0) for at in range(64)] + ["standing=64"]))
+many = changed(many, " ".join(connection(at // 16, at % 16, 31, 0) for at in range(64)))
 case("refused_16", many, instruction(0, CON, 4, 0, 31, 0), 16)
-case("con_of_the_64th", many, "standing=63 " + connection(63, 9, 9, 9, 9) + " " + instruction(0, CON, 4, 0, 31, 0), 0,
-     connection(63, 4, 0, 31, 0) + " standing=64 done=1")
-case("dcon_of_64", many, instruction(0, DCON, 0, 0, 31, 0), 0,
-     " ".join([connection(at, (at + 1) // 16, (at + 1) % 16, 31, 0) for at in range(63)] + [connection(63, 0, 0, 0, 0), "standing=63 done=1"]))
-case("the_64th_is_looked_at", many, connection(63, 0, 0, 31, 0), 7)
-case("the_64th_is_not_looked_at", many, "standing=63 " + connection(63, 0, 0, 31, 0) + " " + instruction(0, WAIT, 4), 0, "done=1")
+case("con_of_the_64th", many, unconnected(2, 7) + " " + instruction(0, CON, 4, 0, 31, 0), 0, connection(4, 0, 31, 0) + " done=1")
+case("dcon_of_64", many, instruction(0, DCON, 0, 0, 31, 0), 0, unconnected(0, 0) + " done=1")
+case("connections_64", many, instruction(0, WAIT, 4), 0, "done=1")
+case("connections_65", many, connection(4, 0, 31, 0) + " " + instruction(0, WAIT, 4), 7)
+case("connections_65_of_which_one_is_unlawful", many, connection(4, 0, 4, 0) + " " + instruction(0, WAIT, 4), 7)
+case("the_64th_is_looked_at", many, connection(3, 15, 31, 1), 7)
 
 # ---- the pair of document 01, at points that no walk reaches: still the rules' answer
 pair = empty()
 for k, port in (0, 0), (1, 1):
     pair["types"][k].update(places=2, initial=1, transitions=2, behaviors=2, ports=1)
     pair = changed(pair, f"destination.{k * 32}=1 source.{k * 32 + 1}=1 behaviors.{k * 8}=1 behaviors.{k * 8 + 1}=2 uses.{k * 16}={port} places.{k * 16}=2 transitions.{k * 16}={port}")
-pair = changed(pair, " ".join(["count=2 standing=1", connection(0, 1, 0, 0, 0), instance(0, 0, 1, 1), instance(1, 1, 1, 1)]))
+pair = changed(pair, " ".join(["count=2", connection(1, 0, 0, 0), instance(0, 0, 1, 1), instance(1, 1, 1, 1)]))
 case("running_and_ended_at_once", pair, "instances.0.marked=0 instances.0.running=1 instances.0.ended=1 " + step(END), 0, "instances.0.running=0")
 case("enter_clears_running_too", pair, "instances.0.marked=0 instances.0.running=1 instances.0.ended=1 " + step(ENTER, 0, 1), 0,
      "instances.0.marked=2 instances.0.running=0 instances.0.ended=0")
@@ -269,7 +247,7 @@ case("held_with_an_empty_queue", pair, "instances.0.queued=0 instances.0.running
 case("held_with_an_empty_queue_and_no_finish", pair, "instances.0.queued=0 instances.0.ended=1 " + step(FINISH), 30)
 case("held_outside_the_head", pair, "instances.0.running=2 " + step(END, 0, 1), 0, "instances.0.running=0 instances.0.ended=2")
 case("no_token_at_all", pair, "instances.0.marked=0 queue.0=0 " + step(FINISH), 0, "instances.0.queued=0")
-case("an_unserved_port_met_by_another_move", pair, "standing=0 instances.1.marked=3 types.1.places=4 behaviors.8=3 source.32=0 destination.32=2 source.33=2 destination.33=3 transitions.16=0 " + step(FIRE, 1, 0), 34)
+case("an_unserved_port_met_by_another_move", pair, unconnected(1, 0) + " instances.1.marked=3 types.1.places=4 behaviors.8=3 source.32=0 destination.32=2 source.33=2 destination.33=3 transitions.16=0 " + step(FIRE, 1, 0), 34)
 case("an_idle_provider_met_by_another_move", pair, "instances.1.marked=3 types.1.places=4 destination.32=2 source.33=2 destination.33=3 transitions.16=0 " + step(FIRE, 1, 0), 34)
 case("a_served_port_and_another_move", pair, "instances.0.marked=2 instances.1.marked=3 types.1.places=4 destination.32=2 source.33=2 destination.33=3 transitions.16=0 " + step(FIRE, 1, 0), 0,
      "instances.1.marked=2 instances.1.running=1")
@@ -278,7 +256,7 @@ case("refused_36_by_a_port_of_the_pair", pair, "instances.0.marked=2 queue.0=1 i
 case("served", pair, "instances.0.marked=2 " + step(FIRE, 1, 0), 0, "instances.1.marked=0 instances.1.running=1")
 two_ports = changed(pair, "types.1.ports=2 places.17=1 " + step(FIRE, 1, 0))
 case("a_port_emptied_and_another_filled", two_ports, "instances.0.marked=2", 0, "instances.1.marked=0 instances.1.running=1")
-case("a_port_emptied_in_use_and_another_filled", two_ports, "instances.0.marked=2 standing=2 " + instance(2, 1, 2) + " " + connection(1, 2, 0, 1, 1), 36)
+case("a_port_emptied_in_use_and_another_filled", two_ports, "instances.0.marked=2 " + instance(2, 1, 2) + " " + connection(2, 0, 1, 1), 36)
 case("a_port_emptied_and_an_unserved_one_filled", two_ports, "", 34)
 case("enter_takes_what_runs_from_a_port_too", pair, "places.0=0 transitions.0=1 instances.0.marked=0 instances.0.running=1 instances.0.ended=1 instances.1.marked=2 " + step(ENTER, 0, 1), 36)
 case("the_first_step_of_all", changed(empty(), "count=1 types.0.places=1 types.0.initial=1 instructions=1"), "", 0, instance(0, 0, 1) + " done=1")

@@ -1,5 +1,5 @@
-"""The screen in the hall in Python, written from document 01 and not from the definitions: what is lent as bytes, number 7, and what an
-allowed step leaves in every slot. The rules 10 to 37 are those of the model beside the program `cases`."""
+"""The screen in the hall in Python, written from documents 01 and 02 and not from the definitions: what is lent as bytes, number 7, and what
+an allowed step leaves in every slot. The rules 10 to 37 are those of the model beside the program `cases`."""
 import importlib.util
 import os
 import struct
@@ -33,8 +33,7 @@ def empty():
         "instructions": 0,
         "instances": [record(present=0, kind=0, marked=0, running=0, ended=0, queued=0) for _ in range(32)],
         "queue": [0] * 256,
-        "connections": [record(user=0, useport=0, provider=0, provideport=0) for _ in range(64)],
-        "standing": 0,
+        "servers": [0] * 512,
         "done": 0,
         "step": record(verb=0, id=0, number=0),
     }
@@ -53,15 +52,27 @@ def table_bytes(x):
 
 def configuration_bytes(x):
     out = b"".join(packed("BBIIIB", v.values()) for v in x["instances"]) + bytes(x["queue"])
-    out += b"".join(bytes(k.values()) for k in x["connections"])
-    return out + packed("BI", [x["standing"], x["done"]])
+    return out + packed("512H", x["servers"]) + packed("I", [x["done"]])
 
 
 def lent_bytes(x):
     program = b"".join(bytes(n.values()) for n in x["program"]) + packed("I", [x["instructions"]])
     out = table_bytes(x) + program + configuration_bytes(x) + bytes(x["step"].values())
-    assert len(out) == 6254
+    assert len(out) == 7021
     return out
+
+
+def slot_of(user, useport):
+    return user * 16 + useport
+
+
+def server(provider, provideport):
+    return 1 + provider * 16 + provideport
+
+
+def connections(x):
+    """Those that stand: (user, useport) and (provider, provideport) of each."""
+    return [(divmod(at, 16), divmod(v - 1, 16)) for at, v in enumerate(x["servers"]) if v != 0]
 
 
 # ---- number 7
@@ -128,20 +139,14 @@ def instance_is_lawful(x, i):
 
 
 def connections_are_lawful(x):
-    standing = x["connections"][: x["standing"]]
-
     def is_port(i, q, use):
         if i > 31 or not x["instances"][i]["present"]:
             return False
         k = x["instances"][i]["kind"]
         return q < x["types"][k]["ports"] and x["uses"][k * 16 + q] == use
 
-    used = [(k["user"], k["useport"]) for k in standing]
-    return (
-        all(is_port(k["user"], k["useport"], 1) and is_port(k["provider"], k["provideport"], 0) for k in standing)
-        and all(k["user"] != k["provider"] for k in standing)
-        and len(set(used)) == len(used)
-    )
+    standing = connections(x)
+    return len(standing) <= 64 and all(is_port(*use, 1) and is_port(*provide, 0) and use[0] != provide[0] for use, provide in standing)
 
 
 def is_lawful(x):
@@ -154,7 +159,6 @@ def is_lawful(x):
         and all(instruction_is_lawful(x, n) for n in x["program"][: x["instructions"]])
         and step_is_lawful(x["step"])
         and x["done"] <= x["instructions"]
-        and x["standing"] <= 64
         and all(instance_is_lawful(x, i) for i in range(32) if x["instances"][i]["present"])
         and connections_are_lawful(x)
     )
@@ -179,8 +183,7 @@ def state_of(x):
         if v["present"]:
             queue = x["queue"][i * 8 : i * 8 + v["queued"]]
             state.instances[i] = rules.Instance(v["kind"], members(v["marked"]), members(v["running"]), members(v["ended"]), queue)
-    for k in x["connections"][: x["standing"]]:
-        state.connections[k["user"], k["useport"]] = k["provider"], k["provideport"]
+    state.connections.update(connections(x))
     state.done = x["done"]
     return state
 
@@ -210,7 +213,6 @@ def carry_out(x, n):
     """An instruction that is allowed, on the slots of x."""
     word, i = WORDS[n["verb"]], n["id"]
     v, own = x["instances"][i], slice(i * 8, i * 8 + 8)
-    named = dict(user=i, useport=n["number"], provider=n["provider"], provideport=n["provideport"])
     if word == "add":
         v.update(present=1, kind=n["number"], marked=x["types"][n["number"]]["initial"], running=0, ended=0, queued=0)
         x["queue"][own] = [0] * 8
@@ -221,12 +223,9 @@ def carry_out(x, n):
         x["queue"][i * 8 + v["queued"]] = n["number"]
         v["queued"] += 1
     if word == "con":
-        x["connections"][x["standing"]] = named
-        x["standing"] += 1
+        x["servers"][slot_of(i, n["number"])] = server(n["provider"], n["provideport"])
     if word == "dcon":
-        gap, last = x["connections"].index(named), x["standing"] - 1
-        x["connections"][gap : last + 1] = x["connections"][gap + 1 : last + 1] + [dict(user=0, useport=0, provider=0, provideport=0)]
-        x["standing"] = last
+        x["servers"][slot_of(i, n["number"])] = 0
     x["done"] += 1
 
 

@@ -1,4 +1,6 @@
-// What is lent, as words, from its 6,254 bytes, little-endian: tables, program at 3,970, configuration at 5,254, step at 6,251.
+// What is lent, as words, from its 7,021 bytes, little-endian: tables, program at 3,970, configuration at 5,254, step at 7,018.
+// The configuration: 32 instances of 15 bytes each; at 5,734 the queue slots, a byte each; at 5,990 who serves each of the 512 use ports, two
+// bytes each, 16 ports for each instance; at 7,014 the instructions done, four bytes.
 use words::ProgramWords;
 use words::StateWords;
 use words::TableWords;
@@ -6,10 +8,9 @@ use words::program::put_instruction;
 use words::program::put_instructions;
 use words::state::clear_state;
 use words::state::put_bare;
-use words::state::put_connection;
-use words::state::put_count;
 use words::state::put_done;
 use words::state::put_queued;
+use words::state::put_server;
 use words::state::put_sets;
 use words::state::put_slot;
 use words::tables::put_behavior;
@@ -19,7 +20,7 @@ use words::tables::put_port;
 use words::tables::put_type;
 ghost use Prim.Native.Nat.{_≤_, _<_};
 
-pub const BYTES: usize = 6254;
+pub const BYTES: usize = 7021;
 
 fn long(x: u8) -> u32 {
     x as u32
@@ -30,13 +31,13 @@ pub(crate) fn byte_at(bytes: &[u8; BYTES], at: usize) -> u32 {
 }
 
 fn pair_at(bytes: &[u8; BYTES], at: usize) -> u32
-    requires { ⌜ at ≤ 6252 ⌝ }
+    requires { ⌜ at ≤ 7019 ⌝ }
 {
     byte_at(bytes, at) | (byte_at(bytes, at + 1) << 8)
 }
 
 fn mask_at(bytes: &[u8; BYTES], at: usize) -> u32
-    requires { ⌜ at ≤ 6250 ⌝ }
+    requires { ⌜ at ≤ 7017 ⌝ }
 {
     pair_at(bytes, at) | (pair_at(bytes, at + 2) << 16)
 }
@@ -125,24 +126,14 @@ fn fill_instance(state: &mut StateWords, bytes: &[u8; BYTES], i: u32)
     put_queued(state, i, byte_at(bytes, at + 14));
 }
 
-fn fill_connection(state: &mut StateWords, bytes: &[u8; BYTES], l: u32)
-    requires { ⌜ l < 64 ⌝ }
-{
-    let at = 5990 + (l as usize) * 4;
-    let user = byte_at(bytes, at);
-    let useport = byte_at(bytes, at + 1);
-    let provider = byte_at(bytes, at + 2);
-    put_connection(state, l, user, useport, provider, byte_at(bytes, at + 3));
-}
-
-// Queue slot n, connection n and instance n, as far as there are so many.
+// Use port n, queue slot n and instance n, as far as there are so many.
 fn fill_slot(state: &mut StateWords, bytes: &[u8; BYTES], n: u32)
-    requires { ⌜ n < 256 ⌝ }
+    requires { ⌜ n < 512 ⌝ }
 {
     let at = n as usize;
-    put_slot(state, at, byte_at(bytes, 5734 + at));
-    if n < 64 {
-        fill_connection(state, bytes, n);
+    put_server(state, at, pair_at(bytes, 5990 + at * 2));
+    if n < 256 {
+        put_slot(state, at, byte_at(bytes, 5734 + at));
     }
     if n < 32 {
         fill_instance(state, bytes, n);
@@ -151,9 +142,8 @@ fn fill_slot(state: &mut StateWords, bytes: &[u8; BYTES], n: u32)
 
 pub(crate) fn fill_state(state: &mut StateWords, bytes: &[u8; BYTES]) {
     clear_state(state);
-    for n in 0..256u32 {
+    for n in 0..512u32 {
         fill_slot(state, bytes, n);
     }
-    put_count(state, byte_at(bytes, 6246));
-    put_done(state, mask_at(bytes, 6247));
+    put_done(state, mask_at(bytes, 7014));
 }

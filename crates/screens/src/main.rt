@@ -29,7 +29,7 @@ fn wide(x: u32) -> usize {
 }
 
 fn same_words(a: &StateWords, b: &StateWords) -> bool {
-    for k in 0..675usize {
+    for k in 0..930usize {
         if a[k] != b[k] {
             return false;
         }
@@ -43,12 +43,12 @@ fn run_case(name: &[u8; 64], size: usize, bytes: &[u8; BYTES]) {
     fill_tables(&mut tables, bytes);
     let mut program: ProgramWords = [0; 1281];
     fill_program(&mut program, bytes);
-    let mut state: StateWords = [0; 675];
+    let mut state: StateWords = [0; 930];
     fill_state(&mut state, bytes);
     let before = state;
-    let verb = byte_at(bytes, 6251);
-    let id = byte_at(bytes, 6252);
-    let number = byte_at(bytes, 6253);
+    let verb = byte_at(bytes, 7018);
+    let id = byte_at(bytes, 7019);
+    let number = byte_at(bytes, 7020);
     let mut lean = state;
     let refused = hall(&tables, &program, &mut state, verb, id, number);
     let again = lent_step(&tables, &program, &mut lean, verb, id, number);

@@ -1,26 +1,22 @@
-// A configuration as its 997 bytes, and the line that says which of them moved.
+// A configuration as its 1,764 bytes, and the line that says which of them moved.
 use inks::write_byte;
 use inks::write_key;
 use inks::write_number;
 use libc::STDOUT_FILENO;
 use model::wide;
 use words::StateWords;
-use words::state::connections;
 use words::state::done;
 use words::state::ended;
 use words::state::kind;
 use words::state::marked;
 use words::state::present;
-use words::state::provideport;
-use words::state::provider;
 use words::state::queued;
 use words::state::running;
+use words::state::server;
 use words::state::slot_at;
-use words::state::useport;
-use words::state::user;
 ghost use Prim.Native.Nat.{_≤_, _<_};
 
-const BYTES: usize = 997;
+const BYTES: usize = 1764;
 
 const ROOM: usize = 8192;
 
@@ -31,14 +27,14 @@ fn put_byte(out: &mut [u8; BYTES], at: usize, x: u32) {
 }
 
 fn put_pair(out: &mut [u8; BYTES], at: usize, x: u32)
-    requires { ⌜ at ≤ 996 ⌝ }
+    requires { ⌜ at ≤ 1763 ⌝ }
 {
     put_byte(out, at, x);
     put_byte(out, at + 1, x / 256);
 }
 
 fn put_long(out: &mut [u8; BYTES], at: usize, x: u32)
-    requires { ⌜ at ≤ 994 ⌝ }
+    requires { ⌜ at ≤ 1761 ⌝ }
 {
     put_pair(out, at, x);
     put_pair(out, at + 2, x / 65536);
@@ -56,36 +52,25 @@ fn put_instance(out: &mut [u8; BYTES], state: &StateWords, i: u32)
     put_byte(out, at + 14, queued(state, i));
 }
 
-fn put_connection(out: &mut [u8; BYTES], state: &StateWords, l: u32)
-    requires { ⌜ l < 64 ⌝ }
-{
-    let at = 736 + (l as usize) * 4;
-    put_byte(out, at, user(state, l));
-    put_byte(out, at + 1, useport(state, l));
-    put_byte(out, at + 2, provider(state, l));
-    put_byte(out, at + 3, provideport(state, l));
-}
-
-// Queue slot n, instance n and connection n, as far as there are so many.
+// Use port n, queue slot n and instance n, as far as there are so many.
 fn put_row(out: &mut [u8; BYTES], state: &StateWords, n: u32)
-    requires { ⌜ n < 256 ⌝ }
+    requires { ⌜ n < 512 ⌝ }
 {
     let at = n as usize;
-    put_byte(out, 480 + at, slot_at(state, at));
+    put_pair(out, 736 + at * 2, server(state, n));
+    if n < 256 {
+        put_byte(out, 480 + at, slot_at(state, at));
+    }
     if n < 32 {
         put_instance(out, state, n);
-    }
-    if n < 64 {
-        put_connection(out, state, n);
     }
 }
 
 fn put_state(out: &mut [u8; BYTES], state: &StateWords) {
-    for n in 0..256u32 {
+    for n in 0..512u32 {
         put_row(out, state, n);
     }
-    put_byte(out, 992, connections(state));
-    put_long(out, 993, done(state));
+    put_long(out, 1760, done(state));
 }
 
 // Nothing for a byte that stands as it was lent.

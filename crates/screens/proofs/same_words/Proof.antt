@@ -4,10 +4,10 @@ use Rattle.screens.proofs.same_words.Statement.{statement}
 use Rattle.screens.proofs.same_words.Tie as tie
 
 abbrev Inv-loop : tie.InvT-loop
-Inv-loop a b k₀ k = k ≤ 675
+Inv-loop a b k₀ k = k ≤ 930
 
 abbrev μ-loop : tie.MeasureT-loop
-μ-loop a b k₀ k = 675 - k
+μ-loop a b k₀ k = 930 - k
 
 pub same-words-spec : {M : Type 1} → statement M
 same-words-spec =

@@ -7,7 +7,7 @@ abbrev Inv-loop : tie.InvT-loop
 Inv-loop state₀ bytes n₀ state n = Unit {0}
 
 abbrev μ-loop : tie.MeasureT-loop
-μ-loop state₀ bytes n₀ state n = 256 - n
+μ-loop state₀ bytes n₀ state n = 512 - n
 
 pub fill-state-spec : {M : Type 1} → statement M
-fill-state-spec = tie.close (tie.spec Inv-loop μ-loop (λ c κs. search needs) (λ c. search needs) (λ c κs. search needs) (λ c. search needs) (λ c. search needs) (λ c. search needs) (λ c κs. search needs) (λ c κs. search needs) (λ c κs. search needs) (λ c κs. search needs) (λ c. search needs))
+fill-state-spec = tie.close (tie.spec Inv-loop μ-loop (λ c κs. search needs) (λ c. search needs) (λ c κs. search needs) (λ c. search needs) (λ c. search needs) (λ c. search needs) (λ c κs. search needs) (λ c κs. search needs) (λ c. search needs))

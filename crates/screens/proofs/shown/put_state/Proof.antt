@@ -7,7 +7,7 @@ abbrev Inv-loop : tie.InvT-loop
 Inv-loop out₀ state n₀ out n = Unit {0}
 
 abbrev μ-loop : tie.MeasureT-loop
-μ-loop out₀ state n₀ out n = 256 - n
+μ-loop out₀ state n₀ out n = 512 - n
 
 pub put-state-spec : {M : Type 1} → statement M
-put-state-spec = tie.close (tie.spec Inv-loop μ-loop (λ c. search needs) (λ c κs. search needs) (λ c. search needs) (λ c. search needs) (λ c. search needs) (λ c κs. search needs) (λ c κs. search needs) (λ c κs. search needs) (λ c κs. search needs) (λ c. search needs))
+put-state-spec = tie.close (tie.spec Inv-loop μ-loop (λ c. search needs) (λ c κs. search needs) (λ c. search needs) (λ c. search needs) (λ c. search needs) (λ c κs. search needs) (λ c κs. search needs) (λ c. search needs))

@@ -9,7 +9,7 @@ abbrev Inv-loop : tie.InvT-loop
 Inv-loop line₀ from before after at₀ i₀ line at i = length line ≡ length line₀
 
 abbrev μ-loop : tie.MeasureT-loop
-μ-loop line₀ from before after at₀ i₀ line at i = 997 - i
+μ-loop line₀ from before after at₀ i₀ line at i = 1764 - i
 
 pub write-all-moved-spec : {M : Type 1} → statement M
 write-all-moved-spec =
