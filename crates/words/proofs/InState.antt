@@ -36,11 +36,12 @@ module _ (ws : List ℕ) where
   unfolding stateIn
   present-in i h = ap (λ (v : Instance). v .present) (list-at 32 (λ k. instanceIn (word ws 0) k (row ws 1 5 k)) absent i h)
 
-  pub present-past : (i : ℕ) → 32 ≤ i → instance (stateIn ws) i .present ≡ false
+  pub instance-past : (i : ℕ) → 32 ≤ i → instance (stateIn ws) i ≡ absent
   unfolding stateIn
-  present-past i h =
-      ap (λ (v : Instance). v .present)
-      (past-end (rows (instanceIn (word ws 0)) ws 1 32 5) absent (length-list 32 (λ k. instanceIn (word ws 0) k (row ws 1 5 k))) h)
+  instance-past i h = past-end (rows (instanceIn (word ws 0)) ws 1 32 5) absent (length-list 32 (λ k. instanceIn (word ws 0) k (row ws 1 5 k))) h
+
+  pub present-past : (i : ℕ) → 32 ≤ i → instance (stateIn ws) i .present ≡ false
+  present-past i h = ap (λ (v : Instance). v .present) (instance-past i h)
 
   pub slot-at : (n : ℕ) → getD (stateIn ws .queue) n 0 ≡ word (rowAt ws 161 256 1 n) 0
   unfolding stateIn
@@ -50,9 +51,9 @@ module _ (ws : List ℕ) where
   unfolding stateIn
   server-at n = rows-at (λ k r. word r 0) 417 512 1 0 (λ (x : ℕ). x) ws n refl
 
-  pub servers-many : length (stateIn ws .servers) ≡ 512
+  pub servers-length : length (stateIn ws .servers) ≡ 512
   unfolding stateIn
-  servers-many = length-list 512 (λ k. word (row ws 417 1 k) 0)
+  servers-length = length-list 512 (λ k. word (row ws 417 1 k) 0)
 
 -- ---- an instance put
 

@@ -4,3 +4,4 @@ pub mod InTexts
 pub mod InTables
 pub mod InState
 pub mod Whole
+pub mod Served

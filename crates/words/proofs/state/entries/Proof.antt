@@ -12,7 +12,7 @@ use Rattle.sets.proofs.Tally.{tally-both}
 use Rattle.model.specs.View.{isServed}
 use Rattle.rules.proofs.Connections.{count-is}
 use Rattle.words.specs.Words.{stateIn}
-use Rattle.words.proofs.InState.{servers-many}
+use Rattle.words.proofs.InState.{servers-length}
 use Rattle.words.proofs.state.entries.Statement.{statement}
 use Rattle.words.proofs.state.entries.Tie as tie
 
@@ -41,7 +41,7 @@ returns c =
     let x = stateIn (l .before .args .state .now) .servers in
     let e : l .loop .s ≡ 512 = omega arith in
     let free = rw e at (l .loop .inv .2) in
-    (omega (arith, free, tally-both 512 (isServed x), count-is x (servers-many _)), omega arith)
+    (omega (arith, free, tally-both 512 (isServed x), count-is x (servers-length _)), omega arith)
 
 pub entries-spec : {M : Type 1} → statement M
 entries-spec = tie.close (tie.spec Inv-loop μ-loop loop-holds (λ c κs. search needs) (λ c. omega arith) (λ c. search needs) (λ c. search needs) loop-again (λ c. omega arith) returns)
