@@ -1,2 +1,3 @@
--- The port check by what is lost and gained is the port check by the instance after the move.
+-- The port check by what is had before and after a move is the port check by the instance after it (Ports); the provide ports in use, row by row (InUse).
 pub mod Ports
+pub mod InUse

@@ -1,47 +1,240 @@
--- The port check by what is marked and held after a move is the port check by the instance after it.
+-- The port check by what is marked and held before and after a move is the port check by the instance after it, and what one look at a server tells.
 -- Assumes nothing.
 use mathlib.Core.Path.{_≡_, refl, sym, ap, _∙_}
-use mathlib.Core.Bool.{Bool, true, false, not, _&&_, _||_, and-assoc, or-false, or-comm}
-use Prim.Native.Nat.{ℕ}
+use mathlib.Core.Logic.{by-cases}
+use mathlib.Core.Bool.{Bool, true, false, not, _&&_, _||_, cond, and-true, and-false, or-false, or-comm, and-eq-true-iff, false≢true}
+use Prim.Native.Nat.{ℕ, _+_, _-_, _/_, _%_, _≤_, _<_}
+use native.Mathlib.Omega.{arith}
+use native.Mathlib.Numerals.{add-one}
+use native.Mathlib.Decide.{ℕ-discrete, decLt}
+use lib.Dec.{eqb, ltb}
+use lib.ListN.{length}
+use borrow.Author.Tests.{eqb-true, eq-eqb, ne-eqb, lt-ltb, le-ltb, ltb-true, ltb-false}
 use Rattle.sets.specs.Test.{anyBelow}
-use Rattle.sets.specs.Mask.{member, joined, without}
-use Rattle.sets.proofs.Laws.{any-same, collect-same, member-joined, member-without}
+use Rattle.sets.specs.Mask.{member, collect, with, overlaps, joined, without}
+use Rattle.sets.proofs.Laws.{any-none, any-same, member-none, member-collect, collect-is, collect-same, member-joined, member-without, none-overlaps}
+use Rattle.sets.proofs.Searches.{any-alike}
+use Rattle.forms.proofs.Tests.{by-test}
 use Rattle.model.specs.declared.Tables.{Tables}
 use Rattle.model.specs.declared.Instance.{Instance}
+use Rattle.model.specs.declared.Connection.{Connection}
 use Rattle.model.specs.declared.Configuration.{Configuration}
-use Rattle.model.specs.View.{isUse, instance}
-use Rattle.rules.specs.Instance.{held, active, portsOf}
+use Rattle.model.specs.Empty.{absent}
+use Rattle.model.specs.View.{isUse, instance, groupPlaces, groupTransitions}
 use Rattle.rules.specs.Refusal.{_⇒_∣_, allowed, unserved, providerRefusing, serviceInUse}
-use Rattle.rules.specs.Ports.{someConnection, portCheck, failsUnserved, failsRefusing, failsInUse}
-use Rattle.ports.specs.declared.PortTest.{PortTest}
+use Rattle.rules.specs.Standing.{standing, someConnection}
+use Rattle.rules.specs.Instance.{held, active, portsOf}
+use Rattle.rules.specs.Ports.{wouldLeave, serves, blocks, employs, failsUnserved, failsRefusing, failsInUse, inUse, portCheck}
+use Rattle.rules.proofs.Connections.{Stands, some-stands}
+use Rattle.words.specs.Parts.{serverOf}
+use Rattle.words.proofs.Served.{hasServer, looked}
 use Rattle.ports.specs.declared.Sets.{Sets}
-use Rattle.ports.specs.Tests.{passes, fails, wants, isFault, failsWith, somePort, changed, turned, turnCheck}
+use Rattle.ports.specs.Turns.{activeIn, leavesBy, refusingAt, useRefusal, portRefusal, setsOf, gets, endingBelow, portsRefusal, changed, turned, turnCheck}
 
-and-inner : (a b d x : Bool) → (a && (b && (d && x))) ≡ ((a && (b && d)) && x)
-and-inner a b d x = ap (λ (y : Bool). a && y) (sym (and-assoc b d x)) ∙ sym (and-assoc a (b && d) x)
+-- ---- places that would leave
+
+pub marked-leaves : (t : Tables) (v : Instance) (m q : ℕ) → anyBelow 32 (λ p. member p (v .marked) && leavesBy t v m q p) ≡ anyBelow 16 (wouldLeave t v m q)
+unfolding leavesBy wouldLeave
+marked-leaves t v m q =
+    any-alike 32 16 _ _
+    (λ p h e. let (on, rest) = and-eq-true-iff (member p (v .marked)) _ .0 e in
+    let (low, leaves) = and-eq-true-iff (ltb p 16) _ .0 rest in
+    (ltb-true p 16 low, rw on leaves))
+    (λ p h e. (omega arith, rw (lt-ltb p 16 h) e))
+
+-- ---- one look
+
+module _ (t : Tables) (c : Configuration) (full : length (c .servers) ≡ 512) (i q : ℕ) where
+  abbrev server′ : ℕ
+  server′ = serverOf c i q
+
+  serves-looked : someConnection c (serves t c i q) ≡ (hasServer c full i q && active t (instance c ((server′ - 1) / 16)) ((server′ - 1) % 16))
+  unfolding serves
+  serves-looked = looked c full i q (λ k. active t (instance c (k .provider)) (k .provideport))
+
+  blocks-looked : someConnection c (blocks t c i q) ≡ (hasServer c full i q && refusingAt t c ((server′ - 1) / 16) ((server′ - 1) % 16))
+  unfolding blocks
+  blocks-looked = looked c full i q (λ k. refusingAt t c (k .provider) (k .provideport))
+
+  pub use-looked : (before : Bool)
+      → useRefusal t c i before q
+      ≡ (not (hasServer c full i q && active t (instance c ((server′ - 1) / 16)) ((server′ - 1) % 16)) ⇒ unserved
+      ∣ not before && (hasServer c full i q && refusingAt t c ((server′ - 1) / 16) ((server′ - 1) % 16)) ⇒ providerRefusing
+      ∣ allowed)
+  unfolding useRefusal
+  use-looked before = rw (serves-looked, blocks-looked)
+
+-- ---- all ports in one pass
+
+-- what a port gets: a use port or not, active after and before, served, refused
+abbrev told : Bool → Bool → Bool → Bool → Bool → ℕ
+told u a b s k = cond u (cond a (not s ⇒ unserved ∣ not b && k ⇒ providerRefusing ∣ allowed) allowed) (b && not a ⇒ serviceInUse ∣ allowed)
+
+unserved-told : (u a b s k : Bool) → eqb (told u a b s k) unserved ≡ (u && (a && not s))
+unserved-told true true b false k = refl
+unserved-told true true true true k = refl
+unserved-told true true false true true = refl
+unserved-told true true false true false = refl
+unserved-told true false b s k = refl
+unserved-told false true true s k = refl
+unserved-told false true false s k = refl
+unserved-told false false true s k = refl
+unserved-told false false false s k = refl
+
+refusing-told : (u a b s k : Bool) → (u && (a && not s)) ≡ false → eqb (told u a b s k) providerRefusing ≡ (u && (a && (not b && k)))
+refusing-told true true b false k e = absurd (false≢true (sym e))
+refusing-told true true true true k e = refl
+refusing-told true true false true true e = refl
+refusing-told true true false true false e = refl
+refusing-told true false b s k e = refl
+refusing-told false true true s k e = refl
+refusing-told false true false s k e = refl
+refusing-told false false true s k e = refl
+refusing-told false false false s k e = refl
+
+ending-told : (u a b s k : Bool) → eqb (told u a b s k) serviceInUse ≡ (not u && (b && not a))
+ending-told true true b false k = refl
+ending-told true true true true k = refl
+ending-told true true false true true = refl
+ending-told true true false true false = refl
+ending-told true false b s k = refl
+ending-told false true true s k = refl
+ending-told false true false s k = refl
+ending-told false false true s k = refl
+ending-told false false false s k = refl
+
+-- those below n that pass, of the 32, one by one
+module _ (p : ℕ → Bool) (q : ℕ) where
+  next-below : (j : ℕ) → (ltb j (q + 1) && p j) ≡ ((ltb j q && p j) || (eqb j q && p q))
+  next-below j =
+      by-cases (decLt j q)
+      (λ l. rw (lt-ltb j q l, lt-ltb j (q + 1) (omega arith), ne-eqb j q (λ e. omega arith)) (sym (or-false (p j))))
+      (λ n. by-cases (ℕ-discrete j q) (λ e. rw (e, lt-ltb q (q + 1) (omega arith), le-ltb q q (omega arith), eq-eqb q q refl))
+      (λ d. rw (le-ltb j q (omega arith), le-ltb j (q + 1) (omega arith), ne-eqb j q d)))
+
+  pub below-in : p q ≡ true → with q (collect 32 (λ j. ltb j q && p j)) ≡ collect 32 (λ j. ltb j (q + 1) && p j)
+  below-in e =
+      collect-same 32 _ _
+      (λ j h. ap (λ (b : Bool). b || eqb j q) (member-collect 32 (λ j. ltb j q && p j) j h) ∙ sym (next-below j ∙ rw (e, and-true (eqb j q))))
+
+  pub below-out : p q ≡ false → collect 32 (λ j. ltb j q && p j) ≡ collect 32 (λ j. ltb j (q + 1) && p j)
+  below-out e = collect-same 32 _ _ (λ j h. sym (next-below j ∙ rw (e, and-false (eqb j q)) (or-false (ltb j q && p j))))
+
+pub below-start : (p : ℕ → Bool) → 0 ≡ collect 32 (λ j. ltb j 0 && p j)
+below-start p = collect-is 32 _ 0 (omega arith) (λ j h. member-none j ∙ sym (rw (le-ltb j 0 (omega arith))))
+
+pub none-overlap : (m : ℕ) → overlaps 0 m ≡ false
+none-overlap m = none-overlaps 0 m (λ j h e. absurd (false≢true (sym (member-none j) ∙ e)))
+
+pub any-next : (q : ℕ) (p : ℕ → Bool) → anyBelow (q + 1) p ≡ (anyBelow q p || p q)
+unfolding anyBelow
+any-next q p = rw (add-one q)
 
 module _ (t : Tables) (c : Configuration) (i : ℕ) where
-  fails-split : (test : PortTest) (v w : Instance) (q : ℕ)
-      → fails test t c i v w q ≡ (wants test (isUse t (w .kind) q) (active t v q) (active t w q) && isFault test (someConnection c (passes test t c i q)))
-  unfolding fails passes failsUnserved failsRefusing failsInUse
-  fails-split PortTest.Unserved v w q = sym (and-assoc (isUse t (w .kind) q) (active t w q) _)
-  fails-split PortTest.Refusing v w q = and-inner (isUse t (w .kind) q) (active t w q) (not (active t v q)) _
-  fails-split PortTest.InUse v w q = and-inner (not (isUse t (w .kind) q)) (active t v q) (not (active t w q)) _
+  abbrev employed : ℕ → Bool
+  employed q = someConnection c (employs t c i q)
 
-  -- the port check by the three questions, where w has this type, these marks and these holds
-  module _ (marks holds : ℕ) (w : Instance) (kind : w .kind ≡ instance c i .kind) (marked : w .marked ≡ marks) (hold : held w ≡ holds) where
-    asked : (test : PortTest) (n : ℕ) → anyBelow n (failsWith test t c i marks holds) ≡ anyBelow n (fails test t c i (instance c i) w)
-    unfolding failsWith active
-    asked test n =
-        any-same n _ _ (λ q h. rw (fails-split test (instance c i) w q, kind, marked, hold))
+  abbrev served : ℕ → Bool
+  served q = someConnection c (serves t c i q)
 
-    -- the answers that were found, in their order
-    pub checked : (a b d : Bool) → a ≡ somePort PortTest.Unserved t c i marks holds
-        → b ≡ somePort PortTest.Refusing t c i marks holds
-        → d ≡ somePort PortTest.InUse t c i marks holds
-        → (a ⇒ unserved ∣ b ⇒ providerRefusing ∣ d ⇒ serviceInUse ∣ allowed) ≡ portCheck t c i (instance c i) w
-    unfolding portCheck fails somePort
-    checked a b d e f g = rw (e, f, g, asked PortTest.Unserved (portsOf t (instance c i)), asked PortTest.Refusing (portsOf t (instance c i)), asked PortTest.InUse (portsOf t (instance c i)))
+  abbrev refused : ℕ → Bool
+  refused q = someConnection c (blocks t c i q)
+
+  -- a server's provide port is one of the sixteen
+  employed-past : (q : ℕ) → 16 ≤ q → employed q ≡ false
+  unfolding employs
+  employed-past q h = by-test (employed q) (λ on. absurd (no (some-stands (c .servers) (employs t c i q) on))) (λ off. off)
+    where
+      no : (k : Connection) × Stands (c .servers) k × (employs t c i q k ≡ true) → ⊥
+      no (k, z, f) =
+          let (s, _, _, is) = z in
+          let (_, rest) = and-eq-true-iff (eqb (k .provider) i) _ .0 f in
+          let (port, _) = and-eq-true-iff (eqb (k .provideport) q) _ .0 rest in
+          let low : k .provideport < 16 = rw (← is) (omega arith) in
+          let at = eqb-true (k .provideport) q port in
+          omega arith
+
+  abbrev v : Instance
+  v = instance c i
+
+  abbrev n : ℕ
+  n = portsOf t v
+
+  -- a number past all instances has nothing, so no service of it ends
+  pub none-ends : v ≡ absent → (next : Sets) (m : ℕ) → endingBelow t c i next m ≡ 0
+  unfolding portRefusal useRefusal
+  none-ends away next m =
+      sym (collect-is 32 _ 0 (omega arith) (λ q h. member-none q ∙ sym (ap (_&&_ (ltb q m)) (no-end q) ∙ and-false (ltb q m))))
+    where
+      idle : (q : ℕ) → activeIn t (v .kind) (setsOf v) q ≡ false
+      idle q =
+          rw (away, none-overlap (groupPlaces t 0 q))
+          (none-overlaps (joined 0 0) (groupTransitions t 0 q) (λ j h e. absurd (false≢true (sym (member-joined j 0 0 h ∙ rw (member-none j)) ∙ e))))
+
+      no-end : (q : ℕ) → gets t c i next serviceInUse q ≡ false
+      no-end q =
+          ending-told (isUse t (v .kind) q) (activeIn t (v .kind) next q) (activeIn t (v .kind) (setsOf v) q) (served q) (refused q)
+          ∙ ap (λ (b : Bool). not (isUse t (v .kind) q) && (b && not (activeIn t (v .kind) next q))) (idle q) ∙ and-false (not (isUse t (v .kind) q))
+
+  module _ (w : Instance) (kind : w .kind ≡ v .kind) where
+    gets-told : (number q : ℕ) → gets t c i (setsOf w) number q
+        ≡ eqb (told (isUse t (w .kind) q) (active t w q) (active t v q) (served q) (refused q)) number
+    unfolding portRefusal useRefusal active
+    gets-told number q = rw kind
+
+    unserved-at : (q : ℕ) → gets t c i (setsOf w) unserved q ≡ failsUnserved t (standing c) c i w q
+    unfolding failsUnserved
+    unserved-at q = gets-told unserved q ∙ unserved-told (isUse t (w .kind) q) (active t w q) (active t v q) (served q) (refused q)
+
+    refusing-at : (q : ℕ) → failsUnserved t (standing c) c i w q ≡ false → gets t c i (setsOf w) providerRefusing q ≡ failsRefusing t (standing c) c i v w q
+    unfolding failsUnserved failsRefusing
+    refusing-at q e = gets-told providerRefusing q ∙ refusing-told (isUse t (w .kind) q) (active t w q) (active t v q) (served q) (refused q) e
+
+    ending-at : (q : ℕ) → (gets t c i (setsOf w) serviceInUse q && employed q) ≡ failsInUse t (standing c) c i v w q
+    unfolding failsInUse
+    ending-at q =
+        ap (λ (b : Bool). b && employed q) (gets-told serviceInUse q ∙ ending-told (isUse t (w .kind) q) (active t w q) (active t v q) (served q) (refused q))
+        ∙ inward (not (isUse t (w .kind) q)) (active t v q) (not (active t w q)) (employed q)
+      where
+        inward : (a b d x : Bool) → ((a && (b && d)) && x) ≡ (a && (b && (d && x)))
+        inward true true d x = refl
+        inward true false d x = refl
+        inward false b d x = refl
+
+    -- 36 by the set of the ports whose service ends and the set of those in use
+    by-sets : overlaps (endingBelow t c i (setsOf w) n) (inUse t (standing c) c i) ≡ anyBelow n (failsInUse t (standing c) c i v w)
+    unfolding inUse
+    by-sets =
+        any-same 32 _ _
+        (λ q h. rw (member-collect 32 (λ j. ltb j n && gets t c i (setsOf w) serviceInUse j) q h, member-collect 32 employed q h))
+        ∙ any-alike 32 n (λ q. (ltb q n && gets t c i (setsOf w) serviceInUse q) && employed q) (failsInUse t (standing c) c i v w) there back
+      where
+        there : (q : ℕ) → q < 32 → ((ltb q n && gets t c i (setsOf w) serviceInUse q) && employed q) ≡ true → (q < n) × (failsInUse t (standing c) c i v w q ≡ true)
+        there q h e =
+            let (a, on) = and-eq-true-iff (ltb q n && gets t c i (setsOf w) serviceInUse q) _ .0 e in
+            let (low, ends) = and-eq-true-iff (ltb q n) _ .0 a in
+            (ltb-true q n low, sym (ending-at q) ∙ rw (ends, on))
+
+        back : (q : ℕ) → q < n → failsInUse t (standing c) c i v w q ≡ true → (q < 32) × (((ltb q n && gets t c i (setsOf w) serviceInUse q) && employed q) ≡ true)
+        back q h e =
+            let (ends, on) = and-eq-true-iff (gets t c i (setsOf w) serviceInUse q) _ .0 (ending-at q ∙ e) in (
+              by-test (ltb q 32) (ltb-true q 32) (λ far. absurd (false≢true (sym (employed-past q (omega (arith, ltb-false q 32 far))) ∙ on))),
+              rw (lt-ltb q n h, ends, on),
+            )
+
+    pub ports-check : portsRefusal t c i (setsOf w) ≡ portCheck t (standing c) c i v w
+    unfolding portsRefusal portCheck
+    ports-check =
+        by-test (anyBelow n (failsUnserved t (standing c) c i w))
+        (λ on. rw (first, on))
+        (λ off. rw (first, off, second off, by-sets))
+      where
+        first : anyBelow n (gets t c i (setsOf w) unserved) ≡ anyBelow n (failsUnserved t (standing c) c i w)
+        first = any-same n _ _ (λ q h. unserved-at q)
+
+        second : anyBelow n (failsUnserved t (standing c) c i w) ≡ false
+            → anyBelow n (gets t c i (setsOf w) providerRefusing) ≡ anyBelow n (failsRefusing t (standing c) c i v w)
+        second off = any-same n _ _ (λ q h. refusing-at q (any-none n _ off q h))
 
 -- ---- what is held after it
 
@@ -59,17 +252,16 @@ turned-held v loses gains =
     (λ j h. rw (member-joined j (without (v .running) (loses .holds)) (gains .holds) h, member-without j (v .running) (loses .holds) h, member-without j (v .ended) (loses .holds) h, member-without j (held v) (loses .holds) h, member-joined j (v .running) (v .ended) h)
     (turned-bits (member j (v .running)) (member j (v .ended)) (member j (loses .holds)) (member j (gains .holds))))
 
+pub same-sets : (marks holds : ℕ) (s : Sets) → marks ≡ s .places → holds ≡ s .holds → _≡_ {A = Sets} (record { places = marks; holds = holds }) s
+same-sets marks holds s e f = rw (e, f)
+
 -- any instance of that type with those marks and holds has the same port check
 pub turned-check : (t : Tables) (c : Configuration) (i : ℕ) (loses gains : Sets) (w : Instance) → w .kind ≡ instance c i .kind
     → w .marked ≡ changed (instance c i .marked) (loses .places) (gains .places) → held w ≡ changed (held (instance c i)) (loses .holds) (gains .holds)
-    → turnCheck t c i loses gains ≡ portCheck t c i (instance c i) w
+    → turnCheck t c i loses gains ≡ portCheck t (standing c) c i (instance c i) w
 unfolding turned
-turned-check t c i loses gains w k m h =
+turned-check t c i loses gains w kind marks holds =
     let v = instance c i in
-    let marks = changed (v .marked) (loses .places) (gains .places) in
-    let holds = changed (held v) (loses .holds) (gains .holds) in
-    let a = somePort PortTest.Unserved t c i marks holds in
-    let b = somePort PortTest.Refusing t c i marks holds in
-    let d = somePort PortTest.InUse t c i marks holds in
-    sym (checked t c i marks holds (turned v loses gains) refl refl (turned-held v loses gains) a b d refl refl refl)
-    ∙ checked t c i marks holds w k m h a b d refl refl refl
+    let u = turned v loses gains in
+    sym (ports-check t c i u refl) ∙ ap (portsRefusal t c i) (same-sets (u .marked) (held u) (setsOf w) (sym marks) (turned-held v loses gains ∙ sym holds))
+    ∙ ports-check t c i w kind

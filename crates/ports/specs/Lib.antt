@@ -1,2 +1,3 @@
--- The questions of the port check as values, and what a move takes and gives.
-pub mod Tests
+-- The port check port by port (Turns), and the provide ports in use row by row (InUse).
+pub mod Turns
+pub mod InUse

@@ -16,20 +16,18 @@ ghost use mathlib.Core.Path.{_≡_};
 ghost use Rattle.sets.specs.Mask.{collect};
 ghost use Rattle.model.specs.View.{instance};
 ghost use Rattle.rules.specs.Instance.{held, active, endsAt, leaving, entering};
-ghost use Rattle.rules.specs.Ports.{behavior, wouldLeave};
+ghost use Rattle.rules.specs.Ports.{behavior};
 ghost use Rattle.words.specs.Words.{tablesIn, stateIn};
-ghost use Rattle.ports.specs.Tests.{endOf, activeWith, refusingAt};
+ghost use Rattle.ports.specs.Turns.{endOf, activeWith, leavesBy, refusingAt};
 
-fn ends_at(tables: &TableWords, out: bool, k: u32, m: u32, p: u32, x: u32) -> bool
-    ensures { λ r. ⌜ r ≡ endsAt (endOf (tablesIn (now (tables .entry))) out k) m p x ⌝ }
+// Where transition x of type k leaves, or where it leads.
+fn end_of(tables: &TableWords, out: bool, k: u32, x: u32) -> u32
+    ensures { λ r. ⌜ r ≡ endOf (tablesIn (now (tables .entry))) out k x ⌝ }
 {
-    if !sets::member(m, x) {
-        return false;
-    }
     if out {
-        source(tables, k, x) == p
+        source(tables, k, x)
     } else {
-        destination(tables, k, x) == p
+        destination(tables, k, x)
     }
 }
 
@@ -38,12 +36,13 @@ fn ending_at(tables: &TableWords, out: bool, k: u32, m: u32, p: u32) -> u32
     ensures { λ r. ⌜ r ≡ collect 32 (endsAt (endOf (tablesIn (now (tables .entry))) out k) m p) ⌝ }
 {
     let mut xs: u32 = 0;
-    let mut x: u32 = 0;
-    while x < 32 {
-        if ends_at(tables, out, k, m, p, x) {
+    let mut rest = m;
+    while rest != 0 {
+        let x = sets::least(rest);
+        if end_of(tables, out, k, x) == p {
             xs = sets::with(xs, x);
         }
-        x += 1;
+        rest = sets::without(rest, sets::only(x));
     }
     xs
 }
@@ -71,7 +70,7 @@ pub fn active_with(tables: &TableWords, k: u32, marks: u32, holds: u32, q: u32) 
     ensures { λ r. ⌜ r ≡ activeWith (tablesIn (now (tables .entry))) k marks holds q ⌝ }
 {
     sets::overlaps(marks, group_places(tables, k, q))
-        || sets::overlaps(holds, group_transitions(tables, k, q))
+        | sets::overlaps(holds, group_transitions(tables, k, q))
 }
 
 pub fn active(tables: &TableWords, state: &StateWords, i: u32, q: u32) -> bool
@@ -90,11 +89,11 @@ pub fn behavior(tables: &TableWords, state: &StateWords, i: u32) -> u32
     behavior_of(tables, kind(state, i), slot(state, i, 0))
 }
 
+// Firing the marked place p would make port q inactive: some transition leaves it, and none that does is held.
 fn would_leave(tables: &TableWords, state: &StateWords, i: u32, m: u32, q: u32, p: u32) -> bool
-    ensures { λ r. ⌜ r ≡ wouldLeave (tablesIn (now (tables .entry))) (instance (stateIn (now (state .entry))) i) m q p ⌝ }
+    ensures { λ r. ⌜ r ≡ leavesBy (tablesIn (now (tables .entry))) (instance (stateIn (now (state .entry))) i) m q p ⌝ }
 {
-    let marks = marked(state, i);
-    if !sets::member(marks, p) {
+    if 16 <= p {
         return false;
     }
     let k = kind(state, i);
@@ -105,9 +104,10 @@ fn would_leave(tables: &TableWords, state: &StateWords, i: u32, m: u32, q: u32, 
     if sets::overlaps(xs, held(state, i)) {
         return false;
     }
+    let marks = sets::without(marked(state, i), sets::only(p));
     let runs = sets::joined(running(state, i), xs);
     let holds = sets::joined(runs, ended(state, i));
-    !active_with(tables, k, sets::without(marks, sets::only(p)), holds, q)
+    !active_with(tables, k, marks, holds, q)
 }
 
 // Provide port q of instance i refuses.
@@ -118,12 +118,13 @@ pub fn refusing(tables: &TableWords, state: &StateWords, i: u32, q: u32) -> bool
         return false;
     }
     let m = behavior(tables, state, i);
-    let mut p: u32 = 0;
-    while p < 16 {
+    let mut rest = marked(state, i);
+    while rest != 0 {
+        let p = sets::least(rest);
         if would_leave(tables, state, i, m, q, p) {
             return true;
         }
-        p += 1;
+        rest = sets::without(rest, sets::only(p));
     }
     false
 }

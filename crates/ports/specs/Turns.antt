@@ -1,0 +1,87 @@
+-- The port check by what an instance has before and after a move, port by port, and what a move takes and gives.
+use mathlib.Core.Bool.{Bool, not, _&&_, _||_, cond}
+use Prim.Native.Nat.{ℕ}
+use lib.Dec.{eqb, ltb}
+use Rattle.sets.specs.Test.{anyBelow}
+use Rattle.sets.specs.Mask.{collect, overlaps, joined, without}
+use Rattle.model.specs.declared.Tables.{Tables}
+use Rattle.model.specs.declared.Instance.{Instance}
+use Rattle.model.specs.declared.Configuration.{Configuration}
+use Rattle.model.specs.View.{source, destination, groupPlaces, groupTransitions, isUse, instance}
+use Rattle.rules.specs.Refusal.{_⇒_∣_, allowed, unserved, providerRefusing, serviceInUse}
+use Rattle.rules.specs.Standing.{standing, someConnection}
+use Rattle.rules.specs.Instance.{held, active, leaving, fired, portsOf}
+use Rattle.rules.specs.Ports.{behavior, refusing, serves, blocks, inUse, portCheck}
+use Rattle.ports.specs.declared.Sets.{Sets}
+
+-- the end of transition x, where it leaves or where it leads
+abbrev pub endOf : Tables → Bool → ℕ → ℕ → ℕ
+endOf t out k x = cond out (source t k x) (destination t k x)
+
+-- port q of an instance of type k is active where these places are marked and these transitions held
+abbrev pub activeWith : Tables → ℕ → ℕ → ℕ → ℕ → Bool
+activeWith t k marked held q = overlaps marked (groupPlaces t k q) || overlaps held (groupTransitions t k q)
+
+abbrev pub activeIn : Tables → ℕ → Sets → ℕ → Bool
+activeIn t k s q = activeWith t k (s .places) (s .holds) q
+
+-- of one of the 16 places that is marked: firing it would make port q inactive
+unfoldable pub leavesBy : Tables → Instance → ℕ → ℕ → ℕ → Bool
+leavesBy t v m q p =
+    ltb p 16 && (not (eqb (leaving t (v .kind) m p) 0)
+    && (not (overlaps (leaving t (v .kind) m p) (held v)) && not (active t (fired v p (leaving t (v .kind) m p)) q)))
+
+-- provide port q of instance i refuses
+abbrev pub refusingAt : Tables → Configuration → ℕ → ℕ → Bool
+refusingAt t c i q = refusing t (instance c i) (behavior t c i) q
+
+-- what use port q of i gets that is active after the move
+unfoldable pub useRefusal : Tables → Configuration → ℕ → Bool → ℕ → ℕ
+useRefusal t c i before q =
+    not (someConnection c (serves t c i q)) ⇒ unserved
+    ∣ not before && someConnection c (blocks t c i q) ⇒ providerRefusing
+    ∣ allowed
+
+-- what port q of i, of type k, gets by itself where i goes from one to the other: 36 where a service ends, in use or not
+unfoldable pub portRefusal : Tables → Configuration → ℕ → ℕ → Sets → Sets → ℕ → ℕ
+portRefusal t c i k was next q =
+    cond (isUse t k q) (cond (activeIn t k next q) (useRefusal t c i (activeIn t k was q) q) allowed)
+    (activeIn t k was q && not (activeIn t k next q) ⇒ serviceInUse ∣ allowed)
+
+-- what v has
+abbrev pub setsOf : Instance → Sets
+setsOf v = record { places = v .marked; holds = held v }
+
+-- port q of i gets the number n
+abbrev pub gets : Tables → Configuration → ℕ → Sets → ℕ → ℕ → Bool
+gets t c i next n q = eqb (portRefusal t c i (instance c i .kind) (setsOf (instance c i)) next q) n
+
+-- the first q ports whose service ends
+abbrev pub endingBelow : Tables → Configuration → ℕ → Sets → ℕ → ℕ
+endingBelow t c i next n = collect 32 (λ q. ltb q n && gets t c i next serviceInUse q)
+
+unfoldable pub portsRefusal : Tables → Configuration → ℕ → Sets → ℕ
+portsRefusal t c i next =
+    anyBelow (portsOf t (instance c i)) (gets t c i next unserved) ⇒ unserved
+    ∣ anyBelow (portsOf t (instance c i)) (gets t c i next providerRefusing) ⇒ providerRefusing
+    ∣ overlaps (endingBelow t c i next (portsOf t (instance c i))) (inUse t (standing c) c i) ⇒ serviceInUse
+    ∣ allowed
+
+-- a set without what is lost and with what is gained
+abbrev pub changed : ℕ → ℕ → ℕ → ℕ
+changed m loses gains = joined (without m loses) gains
+
+-- v without what it loses and with what it gains
+unfoldable pub turned : Instance → Sets → Sets → Instance
+turned v loses gains = record {
+  present = v .present;
+  kind = v .kind;
+  marked = changed (v .marked) (loses .places) (gains .places);
+  running = changed (v .running) (loses .holds) (gains .holds);
+  ended = without (v .ended) (loses .holds);
+  queued = v .queued;
+}
+
+-- the port check of a move by which instance i loses and gains so much
+abbrev pub turnCheck : Tables → Configuration → ℕ → Sets → Sets → ℕ
+turnCheck t c i loses gains = portCheck t (standing c) c i (instance c i) (turned (instance c i) loses gains)
