@@ -1,3 +1,3 @@
--- Slots zeroed one by one (Slots), and the list of connections as loops go over it (Lists).
+-- Slots zeroed one by one (Slots), and a use port looked up by its server (Looks).
 pub mod Slots
-pub mod Lists
+pub mod Looks

@@ -2,14 +2,15 @@
 // Promised: for every tables, state and number, each check answers the number of rules/specs, and each change is that of rules/specs.
 pub mod connections;
 
-use connections::Query;
-use connections::some_listed;
+use connections::has_server;
+use connections::is_named;
+use connections::stands;
 use ports::instance::active;
 use ports::refuse_if;
 use words::StateWords;
 use words::TableWords;
 use words::more;
-use words::state::connections;
+use words::state::entries;
 use words::state::kind;
 use words::state::present;
 use words::state::put_bare;
@@ -26,6 +27,7 @@ ghost use mathlib.Core.Bool.{cond};
 ghost use Prim.Native.Nat.{_*_, _<_};
 ghost use Rattle.model.specs.View.{instance, withQueue};
 ghost use Rattle.rules.specs.Closing.{zeroed, renewed};
+ghost use Rattle.rules.specs.Standing.{standing};
 ghost use Rattle.rules.specs.Add.{addCheck, added};
 ghost use Rattle.rules.specs.Del.{delCheck, deleted};
 ghost use Rattle.rules.specs.PushB.{depthOf, pushbCheck, pushed};
@@ -33,7 +35,7 @@ ghost use Rattle.rules.specs.Con.{isUsePort, isProvidePort, conCheck};
 ghost use Rattle.rules.specs.DCon.{dconCheck};
 ghost use Rattle.rules.specs.Wait.{waitCheck};
 ghost use Rattle.words.specs.Words.{tablesIn, stateIn};
-ghost use Rattle.words.specs.Parts.{bare, connectionOf};
+ghost use Rattle.words.specs.Parts.{bare, connectionOfWords};
 
 const ID_ABSENT: u32 = 11;
 
@@ -91,10 +93,10 @@ pub fn add_to(tables: &TableWords, state: &mut StateWords, i: u32, k: u32)
 }
 
 pub fn del_check(state: &StateWords, i: u32) -> u32
-    ensures { λ r. ⌜ r ≡ delCheck (stateIn (now (state .entry))) i ⌝ }
+    ensures { λ r. ⌜ r ≡ delCheck (standing (stateIn (now (state .entry)))) (stateIn (now (state .entry))) i ⌝ }
 {
     let here = present(state, i);
-    let named = some_listed(Query::Names(i), state);
+    let named = is_named(state, i);
     let late = refuse_if(queued(state, i) != 0, QUEUE_NOT_EMPTY, 0);
     refuse_if(!here, ID_ABSENT, refuse_if(named, STILL_CONNECTED, late))
 }
@@ -156,15 +158,16 @@ pub fn is_port(tables: &TableWords, state: &StateWords, i: u32, q: u32, used: bo
 }
 
 pub fn con_check(tables: &TableWords, state: &StateWords, u: u32, uq: u32, v: u32, vq: u32) -> u32
-    ensures value { λ r. ⌜ r ≡ conCheck (tablesIn (now (tables .entry))) (stateIn (now (state .entry))) (connectionOf u uq v vq) ⌝ }
-    ensures room { λ r. ⌜ (r ≡ 0 → stateIn (now (state .entry)) .count < 4294967295) ⌝ }
+    ensures value { λ r. ⌜ r ≡ conCheck (tablesIn (now (tables .entry))) (standing (stateIn (now (state .entry)))) (stateIn (now (state .entry)))
+        (connectionOfWords u uq v vq) ⌝ }
+    ensures known { λ r. ⌜ (r ≡ 0 → v < 32) ⌝ }
 {
     let user = present(state, u);
     let provider = present(state, v);
     let uses = is_port(tables, state, u, uq, true);
     let provides = is_port(tables, state, v, vq, false);
-    let taken = some_listed(Query::IsOf(u, uq), state);
-    let room = connections(state) < 64;
+    let taken = has_server(state, u, uq);
+    let room = entries(state) < 64;
     let late = refuse_if(!room, NO_MORE_CONNECTIONS, 0);
     let joined = refuse_if(
         u == v,
@@ -176,9 +179,10 @@ pub fn con_check(tables: &TableWords, state: &StateWords, u: u32, uq: u32, v: u3
 }
 
 pub fn dcon_check(tables: &TableWords, state: &StateWords, u: u32, uq: u32, v: u32, vq: u32) -> u32
-    ensures { λ r. ⌜ r ≡ dconCheck (tablesIn (now (tables .entry))) (stateIn (now (state .entry))) (connectionOf u uq v vq) ⌝ }
+    ensures { λ r. ⌜ r ≡ dconCheck (tablesIn (now (tables .entry))) (standing (stateIn (now (state .entry)))) (stateIn (now (state .entry)))
+        (connectionOfWords u uq v vq) ⌝ }
 {
-    let stands = some_listed(Query::Is(u, uq, v, vq), state);
+    let stands = stands(state, u, uq, v, vq);
     let late = refuse_if(active(tables, state, u, uq), USE_PORT_ACTIVE, 0);
     refuse_if(!stands, NO_SUCH_CONNECTION, late)
 }

@@ -1,15 +1,14 @@
 use Rattle.rules.specs.Del.{delCheck}
-use Rattle.instructions.specs.Queries.{asks}
 use borrow.Author.Needs.{needs}
 use Rattle.instructions.proofs.del_check.Statement.{statement}
 use Rattle.instructions.proofs.del_check.Tie as tie
 
 returns : tie.Need-returns
-unfolding delCheck asks
+unfolding delCheck
 returns c =
     let l = c .before .before in
     let n = l .before .before in
-    rw (← n .before .present .ensures, ← n .some-listed .ensures, ← l .before .queued .ensures, ← l .refuse-if .ensures, ← c .before .refuse-if2 .ensures) (c .refuse-if3 .ensures)
+    rw (← n .before .present .ensures, ← n .is-named .ensures, ← l .before .queued .ensures, ← l .refuse-if .ensures, ← c .before .refuse-if2 .ensures) (c .refuse-if3 .ensures)
 
 pub del-check-spec : {M : Type 1} → statement M
 del-check-spec = tie.close (tie.spec (λ c κs. search needs) (λ c κs. search needs) (λ c κs. search needs) (λ c κs. search needs) (λ c κs. search needs) (λ c κs. search needs) returns)

@@ -1,11 +1,10 @@
-use mathlib.Core.Path.{_≡_, ap, _∙_}
-use mathlib.Core.Bool.{false, not}
+use mathlib.Core.Path.{_≡_, refl, ap, _∙_}
+use mathlib.Core.Bool.{Bool, true, false, not, cond}
 use Prim.Native.Nat.{ℕ}
 use borrow.Author.Tests.{lt-ltb, le-ltb}
 use Rattle.model.specs.View.{instance, typeOf}
 use Rattle.rules.specs.Instance.{portsOf}
 use Rattle.words.specs.Words.{tablesIn, stateIn}
-use Rattle.instructions.proofs.Lists.{if-same}
 use Rattle.rules.specs.Con.{isUsePort, isProvidePort}
 use borrow.Author.Needs.{needs}
 use Rattle.instructions.proofs.is_port.Statement.{statement}
@@ -16,6 +15,10 @@ many : (p : tie.After-ports-of) → let a = p .before .before .args in p .ports-
 many p =
     let a = p .before .before .args in
     p .ports-of .ensures ∙ ap (λ (k : ℕ). typeOf (tablesIn (a .tables .now)) k .ports) (p .before .kind .ensures)
+
+if-same : (b x : Bool) → x ≡ cond b x x
+if-same true x = refl
+if-same false x = refl
 
 returns : tie.Need-returns
 unfolding isUsePort isProvidePort

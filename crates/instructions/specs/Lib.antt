@@ -1,2 +1,0 @@
--- What is asked of a connection, as values.
-pub mod Queries
