@@ -3,14 +3,10 @@
 use mathlib.Core.Path.{_≡_, refl}
 use mathlib.Core.Bool.{Bool, true, false, not, _&&_, _||_}
 use Prim.Native.Nat.{ℕ}
-use native.Mathlib.Omega.{arith}
 use lib.Dec.{eqb}
 use Rattle.sets.specs.Mask.{member, only, with, without, joined}
-use Rattle.sets.proofs.Laws.{collect-same, member-past, member-without, member-joined, member-only}
-use Rattle.ports.specs.Tests.{changed}
-
-none : (j : ℕ) → member j 0 ≡ false
-none j = member-past 0 j 0 (omega arith) (omega arith)
+use Rattle.sets.proofs.Laws.{collect-same, member-none, member-without, member-joined, member-only}
+use Rattle.ports.specs.Turns.{changed}
 
 gained : (r x e : Bool) → ((r || x) || e) ≡ (((r || e) && not false) || x)
 gained true true true = refl
@@ -29,17 +25,17 @@ lost false b = refl
 
 -- the mark goes, and nothing is marked
 pub fire-marks : (m p : ℕ) → without m (only p) ≡ changed m (only p) 0
-fire-marks m p = collect-same 32 _ _ (λ j h. rw (member-without j m (only p) h, none j) (lost (member j m) (not (member j (only p)))))
+fire-marks m p = collect-same 32 _ _ (λ j h. rw (member-without j m (only p) h, member-none j) (lost (member j m) (not (member j (only p)))))
 
 -- the transitions xs are held, and none is let go
 pub fire-holds : (r e xs : ℕ) → joined (joined r xs) e ≡ changed (joined r e) 0 xs
 fire-holds r e xs =
     collect-same 32 _ _
-    (λ j h. rw (member-joined j r xs h, member-without j (joined r e) 0 h, member-joined j r e h, none j) (gained (member j r) (member j xs) (member j e)))
+    (λ j h. rw (member-joined j r xs h, member-without j (joined r e) 0 h, member-joined j r e h, member-none j) (gained (member j r) (member j xs) (member j e)))
 
 -- p is marked, and no mark goes
 pub enter-marks : (m p : ℕ) → with p m ≡ changed m 0 (only p)
-enter-marks m p = collect-same 32 _ _ (λ j h. rw (member-without j m 0 h, member-only j p h, none j) (kept (member j m) (eqb j p)))
+enter-marks m p = collect-same 32 _ _ (λ j h. rw (member-without j m 0 h, member-only j p h, member-none j) (kept (member j m) (eqb j p)))
   where
     kept : (a b : Bool) → (a || b) ≡ ((a && not false) || b)
     kept true b = refl
@@ -49,7 +45,7 @@ enter-marks m p = collect-same 32 _ _ (λ j h. rw (member-without j m 0 h, membe
 pub enter-holds : (r e xs : ℕ) → joined (without r xs) (without e xs) ≡ changed (joined r e) xs 0
 enter-holds r e xs =
     collect-same 32 _ _
-    (λ j h. rw (member-without j r xs h, member-without j e xs h, member-without j (joined r e) xs h, member-joined j r e h, none j) (freed (member j r) (member j e) (not (member j xs))))
+    (λ j h. rw (member-without j r xs h, member-without j e xs h, member-without j (joined r e) xs h, member-joined j r e h, member-none j) (freed (member j r) (member j e) (not (member j xs))))
   where
     freed : (a b x : Bool) → ((a && x) || (b && x)) ≡ (((a || b) && x) || false)
     freed true true true = refl

@@ -1,8 +1,10 @@
--- The checks that the moves share: the two that all four begin with, and the row of fire and enter.
-use mathlib.Core.Bool.{Bool, not}
+-- The checks that the moves share: the two that all four begin with, and the row of fire and enter; and what finish asks of a marked place.
+use mathlib.Core.Bool.{Bool, not, _&&_}
 use Prim.Native.Nat.{ℕ}
-use lib.Dec.{eqb}
+use lib.Dec.{eqb, ltb}
+use Rattle.model.specs.declared.Tables.{Tables}
 use Rattle.model.specs.declared.Instance.{Instance}
+use Rattle.rules.specs.Instance.{leaving}
 use Rattle.rules.specs.Refusal.{_⇒_∣_, allowed, idAbsent, queueEmpty, noTransition, notReady, heldOrMarked}
 
 abbrev pub firstly : Instance → ℕ → ℕ
@@ -10,3 +12,7 @@ firstly v rest = not (v .present) ⇒ idAbsent ∣ eqb (v .queued) 0 ⇒ queueEm
 
 abbrev pub row : ℕ → Bool → Bool → ℕ
 row xs ready taken = eqb xs 0 ⇒ noTransition ∣ not ready ⇒ notReady ∣ taken ⇒ heldOrMarked ∣ allowed
+
+-- some transition of the behavior m leaves p, one of the 16 places
+abbrev pub leavable : Tables → ℕ → ℕ → ℕ → Bool
+leavable t k m p = ltb p 16 && not (eqb (leaving t k m p) 0)

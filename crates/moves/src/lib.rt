@@ -25,12 +25,13 @@ ghost use mathlib.Core.Path.{_≡_};
 ghost use Rattle.sets.specs.Test.{anyBelow};
 ghost use Rattle.model.specs.View.{instance, withQueue};
 ghost use Rattle.rules.specs.Closing.{closed};
+ghost use Rattle.rules.specs.Standing.{standing};
 ghost use Rattle.rules.specs.Fire.{leavers, fireCheck, fireTo};
 ghost use Rattle.rules.specs.End.{endCheck, endTo};
 ghost use Rattle.rules.specs.Enter.{enterers, enterCheck, enterTo};
 ghost use Rattle.rules.specs.Finish.{mayLeave, finishCheck, finished};
 ghost use Rattle.words.specs.Words.{tablesIn, stateIn};
-ghost use Rattle.moves.specs.Rows.{firstly, row};
+ghost use Rattle.moves.specs.Rows.{firstly, row, leavable};
 
 const ID_ABSENT: u32 = 11;
 
@@ -77,7 +78,7 @@ fn enterers(tables: &TableWords, state: &StateWords, i: u32, p: u32) -> u32
 }
 
 pub fn fire_check(tables: &TableWords, state: &StateWords, i: u32, p: u32) -> u32
-    ensures { λ r. ⌜ r ≡ fireCheck (tablesIn (now (tables .entry))) (stateIn (now (state .entry))) i p ⌝ }
+    ensures { λ r. ⌜ r ≡ fireCheck (tablesIn (now (tables .entry))) (standing (stateIn (now (state .entry)))) (stateIn (now (state .entry))) i p ⌝ }
 {
     let xs = leavers(tables, state, i, p);
     let ready = sets::member(marked(state, i), p);
@@ -125,7 +126,7 @@ pub fn end_to(state: &mut StateWords, i: u32, x: u32)
 }
 
 pub fn enter_check(tables: &TableWords, state: &StateWords, i: u32, p: u32) -> u32
-    ensures { λ r. ⌜ r ≡ enterCheck (tablesIn (now (tables .entry))) (stateIn (now (state .entry))) i p ⌝ }
+    ensures { λ r. ⌜ r ≡ enterCheck (tablesIn (now (tables .entry))) (standing (stateIn (now (state .entry)))) (stateIn (now (state .entry))) i p ⌝ }
 {
     let xs = enterers(tables, state, i, p);
     let ready = sets::within(xs, ended(state, i));
@@ -156,22 +157,25 @@ pub fn enter_to(tables: &TableWords, state: &mut StateWords, i: u32, p: u32)
     put_sets(state, i, marks, runs, ends);
 }
 
-fn may_leave(tables: &TableWords, state: &StateWords, i: u32, m: u32, p: u32) -> bool
-    ensures { λ r. ⌜ r ≡ mayLeave (tablesIn (now (tables .entry))) (instance (stateIn (now (state .entry))) i) m p ⌝ }
+// Some transition of the set m leaves p, which is one of the 16 places.
+fn may_leave(tables: &TableWords, k: u32, m: u32, p: u32) -> bool
+    ensures { λ r. ⌜ r ≡ leavable (tablesIn (now (tables .entry))) k m p ⌝ }
 {
-    sets::member(marked(state, i), p) && leaving(tables, kind(state, i), m, p) != 0
+    p < 16 && leaving(tables, k, m, p) != 0
 }
 
 // A place that may be left counts, also where every firing would fail its ports.
 fn some_leaver(tables: &TableWords, state: &StateWords, i: u32, m: u32) -> bool
     ensures { λ r. ⌜ r ≡ anyBelow 16 (mayLeave (tablesIn (now (tables .entry))) (instance (stateIn (now (state .entry))) i) m) ⌝ }
 {
-    let mut p: u32 = 0;
-    while p < 16 {
-        if may_leave(tables, state, i, m, p) {
+    let k = kind(state, i);
+    let mut rest = marked(state, i);
+    while rest != 0 {
+        let p = sets::least(rest);
+        if may_leave(tables, k, m, p) {
             return true;
         }
-        p += 1;
+        rest = sets::without(rest, sets::only(p));
     }
     false
 }

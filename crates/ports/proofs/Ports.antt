@@ -14,6 +14,7 @@ use Rattle.sets.specs.Test.{anyBelow}
 use Rattle.sets.specs.Mask.{member, collect, with, overlaps, joined, without}
 use Rattle.sets.proofs.Laws.{any-none, any-same, member-none, member-collect, collect-is, collect-same, member-joined, member-without, none-overlaps}
 use Rattle.sets.proofs.Searches.{any-alike}
+use Rattle.sets.proofs.Members.{members-low}
 use Rattle.forms.proofs.Tests.{by-test}
 use Rattle.model.specs.declared.Tables.{Tables}
 use Rattle.model.specs.declared.Instance.{Instance}
@@ -35,12 +36,7 @@ use Rattle.ports.specs.Turns.{activeIn, leavesBy, refusingAt, useRefusal
 
 pub marked-leaves : (t : Tables) (v : Instance) (m q : ℕ) → anyBelow 32 (λ p. member p (v .marked) && leavesBy t v m q p) ≡ anyBelow 16 (wouldLeave t v m q)
 unfolding leavesBy wouldLeave
-marked-leaves t v m q =
-    any-alike 32 16 _ _
-    (λ p h e. let (on, rest) = and-eq-true-iff (member p (v .marked)) _ .0 e in
-    let (low, leaves) = and-eq-true-iff (ltb p 16) _ .0 rest in
-    (ltb-true p 16 low, rw on leaves))
-    (λ p h e. (omega arith, rw (lt-ltb p 16 h) e))
+marked-leaves t v m q = members-low (v .marked) _ 16 (omega arith)
 
 -- ---- one look
 

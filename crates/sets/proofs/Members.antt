@@ -3,16 +3,17 @@
 use mathlib.Core.Path.{_≡_, refl, sym, ap, _∙_}
 use mathlib.Core.Logic.{_≢_, by-cases}
 use mathlib.Core.Bool.{Bool, true, false, not, _&&_, _||_, and-true, and-false, or-false, and-eq-true-iff}
-use Prim.Native.Nat.{ℕ, zero, suc, _/_, _%_, _^_, _<_}
+use Prim.Native.Nat.{ℕ, zero, suc, _/_, _%_, _^_, _≤_, _<_}
 use native.Mathlib.Nat.{pow-suc}
 use native.Mathlib.Omega.{arith}
 use native.Mathlib.Decide.{ℕ-discrete, decLt}
 use lib.Count.{trailingZeros, under}
-use lib.Dec.{eqb}
-use borrow.Author.Tests.{eq-eqb, ne-eqb}
+use lib.Dec.{eqb, ltb}
+use borrow.Author.Tests.{eq-eqb, ne-eqb, lt-ltb, ltb-true}
 use Rattle.sets.specs.Test.{anyBelow, tally}
 use Rattle.sets.specs.Mask.{member, collect, only, with, without, least}
 use Rattle.sets.proofs.Laws.{any-hit, any-none, none-any, member-zero, member-suc, member-none, member-far, member-collect, member-only, member-without, collect-is, collect-same, collect-lt}
+use Rattle.sets.proofs.Searches.{any-alike}
 use Rattle.sets.proofs.Tally.{tally-one}
 
 -- ---- the least member is one
@@ -121,3 +122,12 @@ module _ (m : ℕ) (p : ℕ → Bool) where
 
   pub none-end : (r : ℕ) → r ≡ 0 → anyBelow 32 (behind r) ≡ false → anyBelow 32 (λ j. member j m && p j) ≡ false
   none-end r e off = none-any 32 _ (λ j h. sym (all-behind j) ∙ ap (λ (r : ℕ). behind r j) (sym e) ∙ any-none 32 (behind r) off j h)
+
+  -- of the first n numbers only
+  pub members-low : (n : ℕ) → n ≤ 32 → anyBelow 32 (λ j. member j m && (ltb j n && p j)) ≡ anyBelow n (λ j. member j m && p j)
+  members-low n most =
+      any-alike 32 n _ _
+      (λ j h e. let (on, rest) = and-eq-true-iff (member j m) _ .0 e in
+      let (low, passed) = and-eq-true-iff (ltb j n) _ .0 rest in
+      (ltb-true j n low, rw (on, passed)))
+      (λ j h e. (omega arith, rw (lt-ltb j n h) e))

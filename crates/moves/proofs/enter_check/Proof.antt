@@ -4,7 +4,7 @@ use Rattle.model.specs.View.{instance}
 use Rattle.rules.specs.Instance.{entered}
 use Rattle.rules.specs.Enter.{enterRow, enterers, afterEnter, enterCheck}
 use Rattle.words.specs.Words.{tablesIn, stateIn}
-use Rattle.ports.specs.Tests.{turned}
+use Rattle.ports.specs.Turns.{turned}
 use Rattle.ports.proofs.Ports.{turned-check}
 use Rattle.moves.proofs.Settle.{else-first, else-then}
 use Rattle.moves.proofs.Turns.{enter-marks, enter-holds}

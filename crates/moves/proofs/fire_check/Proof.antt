@@ -4,7 +4,7 @@ use Rattle.model.specs.View.{instance}
 use Rattle.rules.specs.Instance.{fired}
 use Rattle.rules.specs.Fire.{fireRow, leavers, afterFire, fireCheck}
 use Rattle.words.specs.Words.{tablesIn, stateIn}
-use Rattle.ports.specs.Tests.{turned}
+use Rattle.ports.specs.Turns.{turned}
 use Rattle.ports.proofs.Ports.{turned-check}
 use Rattle.moves.proofs.Settle.{else-first, else-then}
 use Rattle.moves.proofs.Turns.{fire-marks, fire-holds}
