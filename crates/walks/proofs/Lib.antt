@@ -1,3 +1,4 @@
--- A step by its verb (Steps), and what is left of a walk (Ahead).
+-- A step by its verb (Steps), what is left of a walk (Ahead), and that lawful programs name ports that fit (Fits).
 pub mod Steps
 pub mod Ahead
+pub mod Fits

@@ -1,2 +1,3 @@
--- What a step and a walk have come to.
+-- What a step and a walk have come to (Reached), and of which programs (Fits).
 pub mod Reached
+pub mod Fits

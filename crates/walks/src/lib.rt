@@ -1,5 +1,6 @@
 // One step by its verb, and the walk of an answer, in place.
-// Promised: what each leaves in the state and answers is the step and the walk of rules/specs.
+// Promised: what each leaves in the state and answers is the step and the walk of rules/specs, of every program whose `con` lines name ports
+// up to 15, as lawful ones do: a word does not hold every server's number.
 use instructions::add_check;
 use instructions::add_to;
 use instructions::con_check;
@@ -38,12 +39,13 @@ use words::state::put_done;
 ghost use mathlib.Core.Path.{_≡_};
 ghost use Prim.Native.Nat.{ℕ, _<_, min};
 ghost use Rattle.model.specs.View.{stepsOf};
-ghost use Rattle.rules.specs.Action.{moveAction, actionCheck, effect};
-ghost use Rattle.rules.specs.Step.{actionAt, step};
+ghost use Rattle.rules.specs.Action.{moveAction, effect};
+ghost use Rattle.rules.specs.Step.{actionAt, checkAt, step};
 ghost use Rattle.rules.specs.Walk.{walk};
 ghost use Rattle.words.specs.Words.{tablesIn, programIn, answerIn, stateIn};
 ghost use Rattle.words.specs.Parts.{stepOf};
 ghost use Rattle.walks.specs.Reached.{tally, stepped, walked};
+ghost use Rattle.walks.specs.Fits.{PortFits, PortsFit};
 
 const NO_INSTRUCTION_LEFT: u32 = 10;
 
@@ -55,7 +57,7 @@ pub struct Passed {
 
 // The number of a move, by its verb: an unknown one counts as the last.
 fn move_check(tables: &TableWords, state: &StateWords, verb: u32, i: u32, n: u32) -> u32
-    ensures { λ r. ⌜ ((default : ℕ) → r ≡ actionCheck default (tablesIn (now (tables .entry))) (stateIn (now (state .entry))) (moveAction (stepOf verb i n))) ⌝ }
+    ensures { λ r. ⌜ ((default : ℕ) → r ≡ checkAt default (tablesIn (now (tables .entry))) (stateIn (now (state .entry))) (moveAction (stepOf verb i n))) ⌝ }
 {
     match verb {
         1 => fire_check(tables, state, i, n),
@@ -84,9 +86,10 @@ fn line_check(
     state: &StateWords,
     n: u32,
 ) -> u32
-    ensures value { λ r. ⌜ r ≡ actionCheck default (tablesIn (now (tables .entry))) (stateIn (now (state .entry)))
+    ensures value { λ r. ⌜ r ≡ checkAt default (tablesIn (now (tables .entry))) (stateIn (now (state .entry)))
         (actionAt (programIn (now (program .entry))) n) ⌝ }
-    ensures room { λ r. ⌜ (r ≡ 0 → tally (stateIn (now (state .entry))) (actionAt (programIn (now (program .entry))) n) < 4294967295) ⌝ }
+    ensures room { λ r. ⌜ (PortFits (actionAt (programIn (now (program .entry))) n) → r ≡ 0
+        → tally (stateIn (now (state .entry))) (actionAt (programIn (now (program .entry))) n) < 4294967295) ⌝ }
 {
     let v = instruction_verb(program, n);
     let i = instruction_id(program, n);
@@ -118,7 +121,7 @@ fn line_to(tables: &TableWords, program: &ProgramWords, state: &mut StateWords, 
         1 => del_to(state, i),
         2 => push_to(state, i, m),
         3 => connect(state, i, m, w, q),
-        4 => disconnect(state, i, m, w, q),
+        4 => disconnect(state, i, m),
         _ => {}
     }
 }
@@ -133,8 +136,8 @@ pub fn step(
     i: u32,
     n: u32,
 ) -> u32
-    ensures { λ r. ⌜ stepped r (stateIn (now (state .exit)))
-        ≡ step default (tablesIn (now (tables .entry))) (programIn (now (program .entry))) (stateIn (now (state .entry))) (stepOf verb i n) ⌝ }
+    ensures { λ r. ⌜ (PortsFit (programIn (now (program .entry))) → stepped r (stateIn (now (state .exit)))
+        ≡ step default (tablesIn (now (tables .entry))) (programIn (now (program .entry))) (stateIn (now (state .entry))) (stepOf verb i n)) ⌝ }
 {
     if verb != 0 {
         let refused = move_check(tables, state, verb, i, n);
@@ -173,9 +176,9 @@ pub fn walk(
     answer: &AnswerWords,
     state: &mut StateWords,
 ) -> Passed
-    ensures { λ r. ⌜ walked r (stateIn (now (state .exit)))
+    ensures { λ r. ⌜ (PortsFit (programIn (now (program .entry))) → walked r (stateIn (now (state .exit)))
         ≡ walk default (tablesIn (now (tables .entry))) (programIn (now (program .entry))) (stateIn (now (state .entry)))
-        (stepsOf (answerIn (now (answer .entry)))) ⌝ }
+        (stepsOf (answerIn (now (answer .entry))))) ⌝ }
 {
     let n = step_count(answer);
     let mut k: u32 = 0;

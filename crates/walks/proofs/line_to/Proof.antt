@@ -2,7 +2,7 @@ use mathlib.Core.Path.{_≡_}
 use borrow.Author.Tests.{ne-eqb}
 use Rattle.words.specs.Words.{programIn}
 use Rattle.rules.specs.Action.{effect, instructionAction}
-use Rattle.rules.specs.Step.{actionAt, stepCheck}
+use Rattle.rules.specs.Step.{actionAt}
 use Rattle.model.specs.declared.Instruction.{Instruction}
 use borrow.Author.Needs.{needs}
 use Rattle.walks.proofs.line_to.Statement.{statement}
@@ -44,7 +44,7 @@ returns-5 : tie.Need-returns-5
 unfolding instructionAction effect
 returns-5 c =
     let m = c .before .before in
-    λ room. rw (read (m .before), m .match .keys5) (c .disconnect .ensures)
+    λ room. rw (read (m .before), m .match .keys5) (c .disconnect .ensures _ _)
 
 returns-6 : tie.Need-returns-6
 unfolding instructionAction effect

@@ -6,7 +6,8 @@ use Rattle.model.specs.View.{stepsOf}
 use Rattle.words.specs.Rows.{row}
 use Rattle.words.specs.Words.{tablesIn, stateIn, programIn, answerIn, stepIn}
 use Rattle.model.specs.Empty.{noStep}
-use Rattle.rules.specs.Step.{stepCheck, step}
+use Rattle.rules.specs.Step.{step}
+use Rattle.walks.specs.Fits.{PortsFit}
 use Rattle.walks.proofs.Ahead.{rest, walk-start, walk-end, walk-refused, walk-more}
 use Rattle.model.specs.declared.Step.{Step}
 use Rattle.model.specs.declared.Stepped.{Stepped}
@@ -19,13 +20,13 @@ use Rattle.walks.proofs.walk.Tie as tie
 
 abbrev Inv-loop : tie.InvT-loop
 Inv-loop default tables program answer state₀ n k₀ state k =
-    (k ≤ n) × (walk default (tablesIn tables) (programIn program) (stateIn state₀) (stepsOf (answerIn answer)) ≡ rest default (tablesIn tables) (programIn program) (answerIn answer) k (stateIn state))
+    (k ≤ n) × (PortsFit (programIn program) → walk default (tablesIn tables) (programIn program) (stateIn state₀) (stepsOf (answerIn answer)) ≡ rest default (tablesIn tables) (programIn program) (answerIn answer) k (stateIn state))
 
 abbrev μ-loop : tie.MeasureT-loop
 μ-loop default tables program answer state₀ n k₀ state k = n - k
 
 loop-holds : tie.Need-loop-holds Inv-loop μ-loop
-loop-holds c = (search needs, walk-start _ _ _ _ _)
+loop-holds c = (search needs, λ fits. walk-start _ _ _ _ _)
 
 full : (ws : List ℕ) → length (answerIn ws .steps) ≡ 1024
 unfolding answerIn
@@ -48,19 +49,20 @@ read n = rw (n .step-number .ensures, n .before .step-id .ensures, n .before .be
 due : (s : tie.After-step Inv-loop μ-loop)
     → let l = turn s .before in
     let a = l .before .before .args in
-    came s ≡ step (a .default) (tablesIn (a .tables .now)) (programIn (a .program .now)) (stateIn (l .loop .state)) (getD (answerIn (a .answer .now) .steps) (l .loop .k) noStep)
-due s =
+    PortsFit (programIn (a .program .now))
+    → came s ≡ step (a .default) (tablesIn (a .tables .now)) (programIn (a .program .now)) (stateIn (l .loop .state)) (getD (answerIn (a .answer .now) .steps) (l .loop .k) noStep)
+due s fits =
     let l = turn s .before in
     let a = l .before .before .args in
-    s .step .ensures ∙ ap (step (a .default) (tablesIn (a .tables .now)) (programIn (a .program .now)) (stateIn (l .loop .state))) (read (s .before .before))
+    s .step .ensures fits ∙ ap (step (a .default) (tablesIn (a .tables .now)) (programIn (a .program .now)) (stateIn (l .loop .state))) (read (s .before .before))
 
 returns : tie.Need-returns Inv-loop μ-loop
-returns c =
+returns c = λ fits.
     let s = c .before in
     let l = turn s .before in
     let a = l .before .before .args in
-    sym (l .loop .inv .1
-    ∙ walk-refused (a .default) (tablesIn (a .tables .now)) (programIn (a .program .now)) (answerIn (a .answer .now)) (stateIn (l .loop .state)) (full (a .answer .now)) (l .loop .k) (came s) (omega (arith, l .before .step-count .ensures, turn s .loop-test .taken)) (due s) (c .if1 .taken))
+    sym (l .loop .inv .1 fits
+    ∙ walk-refused (a .default) (tablesIn (a .tables .now)) (programIn (a .program .now)) (answerIn (a .answer .now)) (stateIn (l .loop .state)) (full (a .answer .now)) (l .loop .k) (came s) (omega (arith, l .before .step-count .ensures, turn s .loop-test .taken)) (due s fits) (c .if1 .taken))
 
 loop-again : tie.Need-loop-again Inv-loop μ-loop
 loop-again c =
@@ -68,15 +70,16 @@ loop-again c =
     let l = turn s .before in
     let a = l .before .before .args in (
       search needs,
-      l .loop .inv .1
-          ∙ walk-more (a .default) (tablesIn (a .tables .now)) (programIn (a .program .now)) (answerIn (a .answer .now)) (stateIn (l .loop .state)) (full (a .answer .now)) (l .loop .k) (came s) (omega (arith, l .before .step-count .ensures, turn s .loop-test .taken)) (due s) (c .if1 .left),
+      λ fits.
+          l .loop .inv .1 fits
+          ∙ walk-more (a .default) (tablesIn (a .tables .now)) (programIn (a .program .now)) (answerIn (a .answer .now)) (stateIn (l .loop .state)) (full (a .answer .now)) (l .loop .k) (came s) (omega (arith, l .before .step-count .ensures, turn s .loop-test .taken)) (due s fits) (c .if1 .left),
     )
 
 returns-2 : tie.Need-returns-2 Inv-loop μ-loop
-returns-2 c =
+returns-2 c = λ fits.
     let l = c .before in
     let a = l .before .before .args in
-    sym (l .loop .inv .1
+    sym (l .loop .inv .1 fits
     ∙ walk-end (a .default) (tablesIn (a .tables .now)) (programIn (a .program .now)) (answerIn (a .answer .now)) (stateIn (l .loop .state)) (full (a .answer .now)) (l .loop .k) (omega (arith, l .before .step-count .ensures, c .loop-test .left)))
 
 pub walk-spec : {M : Type 1} → statement M
