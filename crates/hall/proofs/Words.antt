@@ -6,17 +6,21 @@ use mathlib.Core.Bool.{Bool, true, false, not, cond}
 use mathlib.Core.List.{List}
 use Prim.Native.Nat.{ℕ, suc}
 use borrow.Author.Tests.{not-true, not-false}
+use Rattle.forms.proofs.Tests.{and-left, and-right}
 use Rattle.model.specs.declared.Tables.{Tables}
 use Rattle.model.specs.declared.Program.{Program}
 use Rattle.model.specs.declared.Step.{Step}
 use Rattle.model.specs.declared.Configuration.{Configuration}
 use Rattle.model.specs.declared.Stepped.{Stepped}
 use Rattle.model.proofs.View.{length-list}
+use Rattle.reading.specs.Lawful.{tablesLawful, programLawful}
 use Rattle.rules.specs.Step.{isNext, action, step}
 use Rattle.judged.specs.Course.{defaultDepth}
 use Rattle.words.specs.Words.{tablesIn, programIn, stateIn}
 use Rattle.words.proofs.Whole.{state-words}
 use Rattle.walks.specs.Reached.{stepped}
+use Rattle.walks.specs.Fits.{PortsFit, LawfulPortsFit}
+use Rattle.walks.proofs.Fits.{lawful-ports-fit}
 use Rattle.hall.specs.Screen.{limitBroken, lentLawful, hallStep, Left}
 use Rattle.hall.specs.Agree.{RefusedLeaves}
 use Rattle.hall.specs.Slots.{slots, Holds, Whole, EverySlot}
@@ -30,9 +34,14 @@ module _ (t : Tables) (p : Program) (c : Configuration) (s : Step) where
     unfolding hallStep
     broken-left e = rw (sym says ∙ not-true lawful e) (refl, refl)
 
-    pub ruled-left : not lawful ≡ false → (n : ℕ) (d : Configuration) → stepped n d ≡ step defaultDepth t p c s → Left t p c s n d
+    -- the ports that a lawful program names fit the words
+    fit : not lawful ≡ false → PortsFit p
+    unfolding lentLawful LawfulPortsFit
+    fit e = lawful-ports-fit (t .count) p (and-left (programLawful (t .count) p) _ (and-right (tablesLawful t) _ (sym says ∙ not-false lawful e)))
+
+    pub ruled-left : not lawful ≡ false → (n : ℕ) (d : Configuration) → (PortsFit p → stepped n d ≡ step defaultDepth t p c s) → Left t p c s n d
     unfolding hallStep
-    ruled-left e n d is = rw (sym says ∙ not-false lawful e) (ap (λ (m : Stepped). m .refused) is, ap (λ (m : Stepped). m .configuration) is)
+    ruled-left e n d is = rw (sym says ∙ not-false lawful e) (ap (λ (m : Stepped). m .refused) (is (fit e)), ap (λ (m : Stepped). m .configuration) (is (fit e)))
 
 -- what is left after a refusal is what was lent, so that to store it or not is one
 module _ (t : Tables) (p : Program) (c d : Configuration) (s : Step) (n : ℕ) (left : Left t p c s n d) where

@@ -17,7 +17,7 @@ use Rattle.report.specs.Report.{connectionText, connectionLine}
 use Rattle.report.proofs.Lines.{lineAt, lines-in-turn}
 use Rattle.inks.proofs.Laws.{length-written}
 use Rattle.words.specs.Words.{stateIn}
-use Rattle.words.proofs.InState.{servers-many}
+use Rattle.words.proofs.InState.{servers-length}
 use Rattle.writers.proofs.Parts.{Turns, turns-none, turns-more, turns-empty, all-written}
 use borrow.Author.Needs.{needs}
 use Rattle.writers.proofs.write_connection_lines.Statement.{statement}
@@ -42,7 +42,7 @@ last c =
     (λ h.
     let e : l .loop .s ≡ 512 = omega arith in
     let all = rw e at (l .loop .inv .1) in
-    absurd (omega (arith, all, l .before .before .pre, count-is (stateIn ws .servers) (servers-many ws))))
+    absurd (omega (arith, all, l .before .before .pre, count-is (stateIn ws .servers) (servers-length ws))))
 
 -- a use port that is free has no line
 silent : (x : List ℕ) (s : ℕ) → isServed x s ≡ false → lineAt x s ≡ []
@@ -70,9 +70,9 @@ returns c =
     let l = c .before in
     let ws = l .before .before .args .state .now in
     let x = stateIn ws .servers in
-    let all : tally 512 (isServed x) ≡ tally (l .loop .s) (isServed x) = omega (arith, l .loop .inv .1, l .before .before .pre, count-is x (servers-many ws)) in
+    let all : tally 512 (isServed x) ≡ tally (l .loop .s) (isServed x) = omega (arith, l .loop .inv .1, l .before .before .pre, count-is x (servers-length ws)) in
     let same = all-written (isServed x) (lineAt x) (silent x) (l .loop .s) 512 (l .loop .inv .0) all in
-    rw (lines-in-turn (stateIn ws) (servers-many ws), same) (l .loop .inv .2 .written)
+    rw (lines-in-turn (stateIn ws) (servers-length ws), same) (l .loop .inv .2 .written)
 
 same-length : tie.Need-same-length Inv-loop μ-loop
 same-length c = length-written (returns c)

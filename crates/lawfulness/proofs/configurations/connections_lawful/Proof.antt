@@ -4,7 +4,7 @@ use Prim.Native.Nat.{_-_}
 use borrow.Author.Tests.{lt-leb, le-leb}
 use Rattle.sets.specs.Test.{allBelow}
 use Rattle.words.specs.Words.{tablesIn, stateIn}
-use Rattle.words.proofs.InState.{servers-many}
+use Rattle.words.proofs.InState.{servers-length}
 use Rattle.lawfulness.specs.Lawful.{connectionsLawful}
 use Rattle.lawfulness.proofs.Loops.{Passed, none-yet, one-fails, one-more, all-passed}
 use Rattle.lawfulness.proofs.Servers.{lawfulAt, lawful-all}
@@ -30,7 +30,7 @@ each : (e : tie.Else1 Inv-loop μ-loop) (r : Bool)
 unfolding connectionsLawful
 each e r is =
     let s = e .before .before .args in
-    rw (← e .before .entries .ensures .0, le-leb _ _ (e .if1 .left)) (is ∙ sym (lawful-all (tablesIn (s .tables .now)) (stateIn (s .state .now)) _ (servers-many _)))
+    rw (← e .before .entries .ensures .0, le-leb _ _ (e .if1 .left)) (is ∙ sym (lawful-all (tablesIn (s .tables .now)) (stateIn (s .state .now)) _ (servers-length _)))
 
 loop-holds : tie.Need-loop-holds Inv-loop μ-loop
 loop-holds c = none-yet _ _
