@@ -24,7 +24,8 @@ use Rattle.rules.specs.Fire.{fireCheck, fireTo}
 use Rattle.rules.specs.Enter.{enterCheck, enterTo}
 use Rattle.rules.specs.Finish.{mayLeave, finishRow, finishCheck}
 use Rattle.rules.specs.Action.{Action, add, del, pushb, con, dcon, wait, fire, end, enter, finish, actionCheck, effect}
-use Rattle.rules.specs.Step.{stepCheck, stepTo, step}
+use Rattle.rules.specs.Step.{stepCheckWith, stepTo, step}
+use Rattle.rules.specs.Standing.{Standing, standing}
 use Rattle.rules.specs.Walk.{walkBy, walk}
 
 -- the tables with the depth d
@@ -33,18 +34,18 @@ deep d t = record { depth = d; count = t .count; types = t .types; transitions =
 
 -- ---- a walk
 module _ (d e x : ℕ) (t : Tables) (same : depthOf d t ≡ depthOf e (deep x t)) where
-  check-same : (c : Configuration) (a : Action) → actionCheck d t c a ≡ actionCheck e (deep x t) c a
+  check-same : (y : Standing) (c : Configuration) (a : Action) → actionCheck d t y c a ≡ actionCheck e (deep x t) y c a
   unfolding actionCheck pushbCheck conCheck isUsePort isProvidePort dconCheck fireCheck enterCheck finishCheck finishRow mayLeave portCheck failsUnserved failsRefusing failsInUse serves blocks employs refusing wouldLeave active leaving entering current
-  check-same c (add i k) = refl
-  check-same c (del i) = refl
-  check-same c (pushb i b) = rw same
-  check-same c (con k) = refl
-  check-same c (dcon k) = refl
-  check-same c (wait i) = refl
-  check-same c (fire i p) = refl
-  check-same c (end i p) = refl
-  check-same c (enter i p) = refl
-  check-same c (finish i) = refl
+  check-same y c (add i k) = refl
+  check-same y c (del i) = refl
+  check-same y c (pushb i b) = rw same
+  check-same y c (con k) = refl
+  check-same y c (dcon k) = refl
+  check-same y c (wait i) = refl
+  check-same y c (fire i p) = refl
+  check-same y c (end i p) = refl
+  check-same y c (enter i p) = refl
+  check-same y c (finish i) = refl
 
   effect-same : (c : Configuration) (a : Action) → effect t c a ≡ effect (deep x t) c a
   unfolding effect added fireTo enterTo leaving entering current
@@ -60,8 +61,8 @@ module _ (d e x : ℕ) (t : Tables) (same : depthOf d t ≡ depthOf e (deep x t)
   effect-same c (finish i) = refl
 
   step-same : (p : Program) (c : Configuration) (s : Step) → step d t p c s ≡ step e (deep x t) p c s
-  unfolding step stepCheck stepTo
-  step-same p c s = rw (check-same c, effect-same c)
+  unfolding step stepCheckWith stepTo
+  step-same p c s = rw (check-same (standing c) c, effect-same c)
 
   pub walk-same : (p : Program) (ss : List Step) (c : Configuration) → walk d t p c ss ≡ walk e (deep x t) p c ss
   unfolding walk
