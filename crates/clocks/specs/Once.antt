@@ -29,8 +29,8 @@ pub record Promised (default : ℕ) (t : Tables) (p : Program) (a : Answer) (ts 
 unfoldable pub NoOtherTimedWalk : Type 0
 NoOtherTimedWalk =
     (default : ℕ) (t : Tables) (p : Program) (a : Answer) (ts : Times) (r q : TimedWalk) (ws vs : List ℕ)
-    → (length ws ≡ 675) × (word ws 0 < 2 ^ 32)
-    → (length vs ≡ 675) × (word vs 0 < 2 ^ 32)
+    → (length ws ≡ 930) × (word ws 0 < 2 ^ 32)
+    → (length vs ≡ 930) × (word vs 0 < 2 ^ 32)
     → Promised default t p a ts r (stateIn ws)
     → Promised default t p a ts q (stateIn vs)
     → (r ≡ q) × (ws ≡ vs)

@@ -18,7 +18,7 @@ use Rattle.model.specs.declared.Text.the-variants as text
 use Rattle.model.specs.Empty.{start, noTables, noProgram, noAnswer}
 use Rattle.model.specs.View.{stepsOf}
 use Rattle.reading.specs.Limits.{stepsOk}
-use Rattle.reading.specs.Lawful.{answerLawful, AnswersAreLawful}
+use Rattle.reading.specs.Lawful.{answerLawful, Lawful, AnswersAreLawful}
 use Rattle.reading.specs.Lines.{Run, Lines, on, stop}
 use Rattle.reading.specs.Texts.{sheet, answer}
 use Rattle.reading.proofs.Rests.{StopsAt}
@@ -29,11 +29,13 @@ use Rattle.runs.specs.Whole.{Whole, outcome, whole}
 use Rattle.sheets.specs.Sheet.{sheetRead}
 use Rattle.answers.specs.Answer.{answerRead}
 use Rattle.judged.specs.Course.{Course, faulty, reached, goOn, short, read, defaultDepth, both, course}
-use Rattle.judged.proofs.Read.{both-read}
+use Rattle.judged.proofs.Read.{both-lawful, both-read}
 use Rattle.judged.proofs.Room.{read-fits}
 use Rattle.words.specs.Words.{stateIn}
 use Rattle.walks.specs.declared.Passed.{Passed}
 use Rattle.walks.specs.Reached.{walked}
+use Rattle.walks.specs.Fits.{PortsFit, LawfulPortsFit}
+use Rattle.walks.proofs.Fits.{lawful-ports-fit}
 use Rattle.judging.specs.declared.pairs.Outcome.{Outcome}
 use Rattle.judging.specs.declared.pairs.Outcome.the-variants.{InSheet, InAnswer, Reached}
 use Rattle.judging.specs.declared.pairs.Seen.{Seen}
@@ -116,12 +118,18 @@ module _ (s a : List ℕ) where
         → came o (r .value .0, r .value .1, y .value) ≡ both s a
     outcome-comes e f = rw (is, also) (h s a (rw is at e) (rw also at f))
 
+  -- the ports that a program names fit where its sheet is read
+  ports-fit : (t : Tables) (p : Program) (y : Answer) → reached (t, p, y) ≡ both s a → PortsFit p
+  unfolding Lawful LawfulPortsFit
+  ports-fit t p y e = lawful-ports-fit (t .count) p (both-lawful s a (t, p, y) (sym e) .1)
+
   -- the course goes on with the walk of what they say
-  pub outcome-walks : (o : Outcome) (t : Tables) (p : Program) (y : Answer) {w : Walked} → came o (t, p, y) ≡ both s a → w ≡ walkAnswer defaultDepth t p y → came o w ≡ course s a
+  pub outcome-walks : (o : Outcome) (t : Tables) (p : Program) (y : Answer) {w : Walked} → came o (t, p, y) ≡ both s a
+      → (PortsFit p → w ≡ walkAnswer defaultDepth t p y) → came o w ≡ course s a
   unfolding course
   outcome-walks (InSheet n at) t p y e f = rw (← e)
   outcome-walks (InAnswer n at) t p y e f = rw (← e)
-  outcome-walks Reached t p y e f = rw (← e, f)
+  outcome-walks Reached t p y e f = rw (← e, f (ports-fit t p y e))
 
 -- ---- what is known of a walk, and of a fault
 

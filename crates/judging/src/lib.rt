@@ -82,7 +82,7 @@ fn judge_walk(w: Passed, state: &StateWords, answer: &[u8], lent: &mut [u8]) -> 
 pub fn judge_and_place(sheet: &[u8], answer: &[u8], report: &mut [u8]) -> Judged
     ensures { λ r. ⌜ Promised (now (sheet .entry)) (now (answer .entry)) (now (report .entry)) (r .verdict) (now (report .exit)) (r .place) ⌝ }
 {
-    let mut state = [0u32; 675];
+    let mut state = [0u32; 930];
     let came = walk_texts(sheet, answer, &mut state);
     let outcome = came.outcome;
     let passed = came.passed;
@@ -104,7 +104,7 @@ pub fn judge(sheet: &[u8], answer: &[u8], report: &mut [u8]) -> Verdict
 pub fn place(sheet: &[u8], answer: &[u8], room: usize) -> Place
     ensures { λ r. ⌜ Places (now (sheet .entry)) (now (answer .entry)) room r ⌝ }
 {
-    let mut state = [0u32; 675];
+    let mut state = [0u32; 930];
     let came = walk_texts(sheet, answer, &mut state);
     let outcome = came.outcome;
     let passed = came.passed;

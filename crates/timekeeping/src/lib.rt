@@ -186,7 +186,7 @@ fn after_walk(w: TimedWalk, state: &StateWords, lent: &mut [u8]) -> Timed
 pub fn timed(sheet: &[u8], answer: &[u8], times: &[u8], report: &mut [u8]) -> Timed
     ensures { λ r. ⌜ PromisedAnswer (now (sheet .entry)) (now (answer .entry)) (now (times .entry)) (now (report .entry)) r (now (report .exit)) ⌝ }
 {
-    let mut state = [0u32; 675];
+    let mut state = [0u32; 930];
     let ended = course(sheet, answer, times, &mut state);
     let outcome = ended.outcome;
     let walk = ended.walk;
@@ -207,7 +207,7 @@ pub fn timed(sheet: &[u8], answer: &[u8], times: &[u8], report: &mut [u8]) -> Ti
 pub fn timed_place(sheet: &[u8], answer: &[u8], times: &[u8], room: usize) -> Place
     ensures { λ r. ⌜ PromisedPlace (now (sheet .entry)) (now (answer .entry)) (now (times .entry)) room r ⌝ }
 {
-    let mut state = [0u32; 675];
+    let mut state = [0u32; 930];
     let ended = course(sheet, answer, times, &mut state);
     let outcome = ended.outcome;
     let walk = ended.walk;
