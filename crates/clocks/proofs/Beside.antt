@@ -24,17 +24,27 @@ use Rattle.clocks.specs.Paced.{mostSeconds, Past, Paced}
 use Rattle.clocks.specs.Once.{Promised}
 use Rattle.clocks.proofs.Pace.{start-past}
 
+-- before step i the clock is k, whatever the steps were
+pub record Going (i : ℕ) (k : Clock) : Type 0 where
+  pub slow : k .now ≤ i * mostSeconds
+  pub past : Past k
+
+pub going-start : Going 0 atStart
+unfolding atStart
+going-start = record { slow = omega arith; past = start-past }
+
+pub going-on : {i : ℕ} {k l : Clock} → Going i k → Paced mostSeconds k l → Going (i + 1) l
+going-on h g = record { slow = omega (arith, h .slow, g .slow); past = g .past }
+
 module _ (default : ℕ) (t : Tables) (p : Program) (a : Answer) (ts : Times) where
   -- the walk has come to step i and to c, and the clock to k
   pub record Beside (i : ℕ) (c : Configuration) (k : Clock) : Type 0 where
     pub walk-is : walkAnswer default t p a ≡ rest default t p a i c
     pub clock-is : clockOf default t p a ts ≡ clockFrom default t p ts c (drop i (stepsOf a)) k .now
-    pub slow : k .now ≤ i * mostSeconds
-    pub past : Past k
 
   pub at-start : Beside 0 start atStart
   unfolding walkAnswer clockOf atStart
-  at-start = record { walk-is = walk-start default t p a start; clock-is = refl; slow = omega arith; past = start-past }
+  at-start = record { walk-is = walk-start default t p a start; clock-is = refl }
 
   module _ (full : length (a .steps) ≡ 1024) {i : ℕ} {c : Configuration} {k : Clock} (here : Beside i c k) where
     module _ (m : Stepped) (within : i < min (a .count) 1024) (is : m ≡ step default t p c (getD (a .steps) i noStep)) where
@@ -44,13 +54,10 @@ module _ (default : ℕ) (t : Tables) (p : Program) (a : Answer) (ts : Times) wh
       unfolding clockFrom
       clock-more e = rw (one-left a full i within, besideBy, ← is, eq-eqb (m .refused) 0 e, ← is, add-one)
 
-      pub one-further : m .refused ≡ 0 → (l : Clock) → l ≡ tick ts c (m .configuration) (getD (a .steps) i noStep) k → Paced mostSeconds k l
-          → Beside (i + 1) (m .configuration) l
-      one-further e l ticked g = record {
+      pub one-further : m .refused ≡ 0 → (l : Clock) → l ≡ tick ts c (m .configuration) (getD (a .steps) i noStep) k → Beside (i + 1) (m .configuration) l
+      one-further e l ticked = record {
         walk-is = here .walk-is ∙ walk-more default t p a c full i m within is e;
         clock-is = here .clock-is ∙ rw (clock-more e, ← ticked);
-        slow = omega (arith, here .slow, g .slow);
-        past = g .past;
       }
 
       pub at-refusal : m .refused ≢ 0

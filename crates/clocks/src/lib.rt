@@ -1,5 +1,6 @@
 // The clock of an answer beside its walk, and the mark that it comes to.
-// Promised: the walk is that of rules/specs, and the mark that of timed/specs, for every table, program, answer and times.
+// Promised: the walk is that of rules/specs, and the mark that of timed/specs, for every table, answer and times, and every
+// program whose ports fit (walks/specs/Fits).
 use model::mask_at;
 use model::smaller;
 use sets::member;
@@ -28,6 +29,7 @@ ghost use Rattle.timed.specs.Clock.{started, notes};
 ghost use Rattle.timed.specs.Mark.{markOf};
 ghost use Rattle.words.specs.Words.{tablesIn, programIn, answerIn, stateIn};
 ghost use Rattle.words.specs.Parts.{stepOf};
+ghost use Rattle.walks.specs.Fits.{PortsFit};
 ghost use Rattle.clocks.specs.Once.{Promised, timesIn};
 ghost use Rattle.clocks.specs.Paced.{clockAt, longest, InTime, Ticks};
 
@@ -139,8 +141,9 @@ pub fn walk_timed(
     par: u32,
     seconds: &[u32; 1024],
 ) -> TimedWalk
-    ensures { λ r. ⌜ ((listed : List ℕ) → Promised default (tablesIn (now (tables .entry))) (programIn (now (program .entry)))
-        (answerIn (now (answer .entry))) (timesIn par listed (now (seconds .entry))) r (stateIn (now (state .exit)))) ⌝ }
+    ensures { λ r. ⌜ ((listed : List ℕ) → PortsFit (programIn (now (program .entry)))
+        → Promised default (tablesIn (now (tables .entry))) (programIn (now (program .entry))) (answerIn (now (answer .entry)))
+        (timesIn par listed (now (seconds .entry))) r (stateIn (now (state .exit)))) ⌝ }
 {
     clear_state(state);
     let n = step_count(answer);

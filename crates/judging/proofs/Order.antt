@@ -119,7 +119,7 @@ module _ (s a : List ℕ) where
     outcome-comes e f = rw (is, also) (h s a (rw is at e) (rw also at f))
 
   -- the ports that a program names fit where its sheet is read
-  ports-fit : (t : Tables) (p : Program) (y : Answer) → reached (t, p, y) ≡ both s a → PortsFit p
+  pub ports-fit : (t : Tables) (p : Program) (y : Answer) → reached (t, p, y) ≡ both s a → PortsFit p
   unfolding Lawful LawfulPortsFit
   ports-fit t p y e = lawful-ports-fit (t .count) p (both-lawful s a (t, p, y) (sym e) .1)
 

@@ -30,6 +30,7 @@ ghost use Rattle.judging.specs.Counts.{Counts};
 ghost use Rattle.times.specs.Refusal.{timesNumber};
 ghost use Rattle.timed.specs.Timed.{clocked, timedCourse, numbered, markInRoom};
 ghost use Rattle.timed.specs.Once.{PromisedAnswer, PromisedPlace};
+ghost use Rattle.walks.specs.Fits.{PortsFit};
 ghost use Rattle.timekeeping.specs.Came.{came, markedIn, inRoomOf};
 ghost use Rattle.timekeeping.specs.Part.{PromisedPart};
 ghost use Rattle.timekeeping.specs.Once.{PromisedPrint};
@@ -72,8 +73,8 @@ fn clock_pair(
     times: &[u8],
     state: &mut StateWords,
 ) -> Ended
-    ensures { λ r. ⌜ came (r .outcome) (r .walk) (stateIn (now (state .exit)))
-        ≡ clocked (tablesIn (now (tables .entry))) (programIn (now (program .entry))) (answerIn (now (steps .entry))) (now (times .entry)) ⌝ }
+    ensures { λ r. ⌜ (PortsFit (programIn (now (program .entry))) → came (r .outcome) (r .walk) (stateIn (now (state .exit)))
+        ≡ clocked (tablesIn (now (tables .entry))) (programIn (now (program .entry))) (answerIn (now (steps .entry))) (now (times .entry))) ⌝ }
 {
     let read = time_rows::read_times(times);
     if read.refused != 0 {

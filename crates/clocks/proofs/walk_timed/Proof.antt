@@ -1,6 +1,6 @@
 -- Before each step the walk has come to the step's number, with the clock beside it.
 use mathlib.Core.Path.{_≡_, sym, ap, _∙_}
-use mathlib.Core.List.{List, []}
+use mathlib.Core.List.{List}
 use Prim.Native.Nat.{ℕ, _≤_, _<_, _-_, min}
 use native.Mathlib.Omega.{arith}
 use lib.ListN.{length, getD}
@@ -13,17 +13,18 @@ use Rattle.timed.specs.Clock.{atStart, started, tick}
 use Rattle.words.specs.Rows.{row}
 use Rattle.words.specs.Words.{tablesIn, programIn, answerIn, stateIn, stepIn}
 use Rattle.words.specs.Parts.{stepOf}
+use Rattle.walks.specs.Fits.{PortsFit}
 use Rattle.clocks.specs.Once.{timesIn}
 use Rattle.clocks.specs.Paced.{clockAt}
-use Rattle.clocks.proofs.Beside.{Beside, at-start, one-further, at-refusal, at-end}
+use Rattle.clocks.proofs.Beside.{Going, going-start, going-on, Beside, at-start, one-further, at-refusal, at-end}
 use borrow.Author.Needs.{needs}
 use Rattle.clocks.proofs.walk_timed.Statement.{statement}
 use Rattle.clocks.proofs.walk_timed.Tie as tie
 
 abbrev Inv-loop : tie.InvT-loop
 Inv-loop default tables program answer state₀ par seconds n noted₀ clock₀ k₀ state noted clock k =
-    (k ≤ n) × (length noted ≡ 1024)
-    × ((listed : List ℕ) → Beside default (tablesIn tables) (programIn program) (answerIn answer) (timesIn par listed seconds) k (stateIn state) (clockAt clock noted))
+    (k ≤ n) × (length noted ≡ 1024) × Going k (clockAt clock noted)
+    × ((listed : List ℕ) → PortsFit (programIn program) → Beside default (tablesIn tables) (programIn program) (answerIn answer) (timesIn par listed seconds) k (stateIn state) (clockAt clock noted))
 
 abbrev μ-loop : tie.MeasureT-loop
 μ-loop default tables program answer state₀ par seconds n noted₀ clock₀ k₀ state noted clock k = n - k
@@ -34,7 +35,7 @@ full ws = length-list 1024 (λ k. stepIn k (row ws 0 3 k))
 
 loop-holds : tie.Need-loop-holds Inv-loop μ-loop
 unfolding atStart
-loop-holds c = (search needs, search needs, λ listed. rw (c .before .clear-state .ensures) (at-start _ _ _ _ _))
+loop-holds c = (search needs, search needs, going-start, λ listed fits. rw (c .before .clear-state .ensures) (at-start _ _ _ _ _))
 
 -- the step that the turn reads
 read : (n : tie.After-step-number Inv-loop μ-loop)
@@ -50,26 +51,26 @@ came s = record { refused = s .step .result; configuration = stateIn (s .step .l
 due : (s : tie.After-step Inv-loop μ-loop)
     → let l = s .before .before .before .before .before .before .before .before in
     let a = l .before .before .before .before .args in
-    came s ≡ step (a .default) (tablesIn (a .tables .now)) (programIn (a .program .now)) (stateIn (l .loop .state)) (getD (answerIn (a .answer .now) .steps) (l .loop .k) noStep)
-due s =
+    PortsFit (programIn (a .program .now)) → came s ≡ step (a .default) (tablesIn (a .tables .now)) (programIn (a .program .now)) (stateIn (l .loop .state)) (getD (answerIn (a .answer .now) .steps) (l .loop .k) noStep)
+due s fits =
     let l = s .before .before .before .before .before .before .before .before in
     let a = l .before .before .before .before .args in
-    s .step .ensures ∙ ap (step (a .default) (tablesIn (a .tables .now)) (programIn (a .program .now)) (stateIn (l .loop .state))) (read (s .before .before .before .before))
+    s .step .ensures fits ∙ ap (step (a .default) (tablesIn (a .tables .now)) (programIn (a .program .now)) (stateIn (l .loop .state))) (read (s .before .before .before .before))
 
 within : (t : tie.In-loop Inv-loop μ-loop) → t .before .loop .k < min (answerIn (t .before .before .before .before .before .args .answer .now) .count) 1024
 within t = omega (arith, t .before .before .step-count .ensures, t .loop-test .taken)
 
 returns : tie.Need-returns Inv-loop μ-loop
-returns c listed =
+returns c listed fits =
     let s = c .before in
     let l = s .before .before .before .before .before .before .before .before in
     let a = l .before .before .before .before .args in
-    at-refusal (a .default) (tablesIn (a .tables .now)) (programIn (a .program .now)) (answerIn (a .answer .now)) (timesIn (a .par) listed (a .seconds .now)) (full (a .answer .now)) (l .loop .inv .2 listed) (came s) (within (s .before .before .before .before .before .before .before)) (due s) (c .if1 .taken)
+    at-refusal (a .default) (tablesIn (a .tables .now)) (programIn (a .program .now)) (answerIn (a .answer .now)) (timesIn (a .par) listed (a .seconds .now)) (full (a .answer .now)) (l .loop .inv .3 listed fits) (came s) (within (s .before .before .before .before .before .before .before)) (due s fits) (c .if1 .taken)
 
 tick-requires : tie.Need-tick-requires Inv-loop μ-loop
 tick-requires c κs =
     let t = c .before .before .before .before .before .before .before .before .before .before .before .before .before in
-    let h = t .before .loop .inv .2 [] in
+    let h = t .before .loop .inv .2 in
     record { small = omega (arith, h .slow, t .loop-test .taken, t .before .before .step-count .ensures); past = h .past }
 
 loop-again : tie.Need-loop-again Inv-loop μ-loop
@@ -85,23 +86,24 @@ loop-again c =
     let e = c .before .tick .ensures before after starts in (
       omega (arith, s .before .before .before .before .before .before .before .loop-test .taken),
       search needs,
-      λ listed.
+      going-on (l .loop .inv .2) (e .pace),
+      λ listed fits.
           let ts = timesIn (a .par) listed (a .seconds .now) in
-          one-further (a .default) (tablesIn (a .tables .now)) (programIn (a .program .now)) (answerIn (a .answer .now)) ts (full (a .answer .now)) (l .loop .inv .2 listed) (came s) (within (s .before .before .before .before .before .before .before)) (due s) (c .before .before .before .before .before .before .before .if1 .left) _
-          (e .value ∙ ap (λ (x : Step). tick ts before after x (clockAt (l .loop .clock) (l .loop .noted))) (read (s .before .before .before .before))) (e .pace),
+          one-further (a .default) (tablesIn (a .tables .now)) (programIn (a .program .now)) (answerIn (a .answer .now)) ts (full (a .answer .now)) (l .loop .inv .3 listed fits) (came s) (within (s .before .before .before .before .before .before .before)) (due s fits) (c .before .before .before .before .before .before .before .if1 .left) _
+          (e .value ∙ ap (λ (x : Step). tick ts before after x (clockAt (l .loop .clock) (l .loop .noted))) (read (s .before .before .before .before))),
     )
 
 mark-requires : tie.Need-mark-requires Inv-loop μ-loop
 mark-requires c κs =
     let h = c .before .loop .inv in
-    omega (arith, h .2 [] .slow, h .0, c .before .before .step-count .ensures)
+    omega (arith, h .2 .slow, h .0, c .before .before .step-count .ensures)
 
 returns-2 : tie.Need-returns-2 Inv-loop μ-loop
-returns-2 c listed =
+returns-2 c listed fits =
     let g = c .before in
     let l = g .before in
     let a = l .before .before .before .before .args in
-    let met = at-end (a .default) (tablesIn (a .tables .now)) (programIn (a .program .now)) (answerIn (a .answer .now)) (timesIn (a .par) listed (a .seconds .now)) (full (a .answer .now)) (l .loop .inv .2 listed) (omega (arith, l .before .step-count .ensures, g .loop-test .left)) in
+    let met = at-end (a .default) (tablesIn (a .tables .now)) (programIn (a .program .now)) (answerIn (a .answer .now)) (timesIn (a .par) listed (a .seconds .now)) (full (a .answer .now)) (l .loop .inv .3 listed fits) (omega (arith, l .before .step-count .ensures, g .loop-test .left)) in
     record { walked-is = met .walked-is; mark-is = c .mark .ensures ∙ met .mark-is }
 
 pub walk-timed-spec : {M : Type 1} → statement M

@@ -1,5 +1,6 @@
 use mathlib.Core.Path.{_∙_}
 use Rattle.model.specs.declared.Text.the-variants as text
+use Rattle.judging.proofs.Order.{ports-fit}
 use Rattle.timekeeping.proofs.Order.{pair-fault, pair-said}
 use borrow.Author.Needs.{needs}
 use Rattle.timekeeping.proofs.course.Statement.{statement}
@@ -18,7 +19,8 @@ returns-2 c =
 returns-3 : tie.Need-returns-3
 returns-3 c =
     let d = c .before .before .before .before .before in
-    c .clock-pair .ensures ∙ pair-said _ _ _ _ _ _ (rw (d .enum-told .given .1) at (d .before .before .read-both .ensures .same))
+    let said = rw (d .enum-told .given .1) at (d .before .before .read-both .ensures .same) in
+    c .clock-pair .ensures (ports-fit _ _ _ _ _ said) ∙ pair-said _ _ _ _ _ _ said
 
 pub course-spec : {M : Type 1} → statement M
 course-spec =
