@@ -27,7 +27,7 @@ use Rattle.rules.specs.Finish.{mayLeave, finishRow, finishCheck, finished}
 use Rattle.rules.specs.Fire.{fireRow, fireCheck, fireTo}
 use Rattle.rules.specs.Instance.{active, current, endsAt, leaving, entering, fired, endedBy, entered, withQueued}
 use Rattle.rules.specs.Standing.{entries, inTable}
-use Rattle.rules.specs.Ports.{wouldLeave, refusing, serves, blocks, employs, failsUnserved, failsRefusing, failsInUse, portCheck}
+use Rattle.rules.specs.Ports.{wouldLeave, wouldEnter, refusing, serves, blocks, employs, failsUnserved, failsRefusing, failsInUse, portCheck}
 use Rattle.rules.specs.PushB.{pushbCheck, pushed}
 use Rattle.rules.specs.Step.{actionAt, action, stepCheckWith, stepTo, step}
 use Rattle.rules.specs.Wait.{waitCheck}
@@ -61,9 +61,9 @@ pub record Computed : Type 0 where
   pub short : SixWhereShort
 
 pub computed : Computed
-unfolding member collect allBelow anyBelow noTables noProgram noAnswer start isServed entries inTable listOf queueOf put withQueue withServers withDone key digit numberFrom membersFrom list oneForm twoForm fourForm listForm listsForm digitsIn numberText membersBelow moreText listText maskText inTurn oneText twoText threeText fourText headed withType withTransition withPort programOf withInstruction answerOf withStep dueLine countLineIn initialLine tranLine behaviorLine group portLine doId doNumber doEnds doLine stepId stepNumber stepLine each upToLf lfs lineNumber lineStart tranAt behaviorAt portAt typeLines instructionAt sheet stepAt answer instructionAction moveAction actionCheck effect addCheck added down closed zeroed renewed isOf isUsePort isProvidePort conCheck connected sameConnection dconCheck disconnected namedBy delCheck deleted endCheck endTo enterRow enterCheck enterTo mayLeave finishRow finishCheck finished fireRow fireCheck fireTo active current endsAt leaving entering fired endedBy entered withQueued wouldLeave refusing serves blocks employs failsUnserved failsRefusing failsInUse portCheck pushbCheck pushed actionAt action stepCheckWith stepTo step waitCheck oneMore walk walkAnswer textText faultText tally countText instanceText connectionText instanceAt connectionLine linesFrom instancesText connectionsText reportWith report nexts short read both course faultLine faultPlace afterFault noRoom stepPlace afterWalk inRoom ending judged over printing printed countOn countingCourse stepsSaid SixWhereShort
+unfolding member collect allBelow anyBelow noTables noProgram noAnswer start isServed entries inTable listOf queueOf put withQueue withServers withDone key digit numberFrom membersFrom list oneForm twoForm fourForm listForm listsForm digitsIn numberText membersBelow moreText listText maskText inTurn oneText twoText threeText fourText headed withType withTransition withPort programOf withInstruction answerOf withStep dueLine countLineIn initialLine tranLine behaviorLine group portLine doId doNumber doEnds doLine stepId stepNumber stepLine each upToLf lfs lineNumber lineStart tranAt behaviorAt portAt typeLines instructionAt sheet stepAt answer instructionAction moveAction actionCheck effect addCheck added down closed zeroed renewed isOf isUsePort isProvidePort conCheck connected sameConnection dconCheck disconnected namedBy delCheck deleted endCheck endTo enterRow enterCheck enterTo mayLeave finishRow finishCheck finished fireRow fireCheck fireTo active current endsAt leaving entering fired endedBy entered withQueued wouldLeave wouldEnter refusing serves blocks employs failsUnserved failsRefusing failsInUse portCheck pushbCheck pushed actionAt action stepCheckWith stepTo step waitCheck oneMore walk walkAnswer textText faultText tally countText instanceText connectionText instanceAt connectionLine linesFrom instancesText connectionsText reportWith report nexts short read both course faultLine faultPlace afterFault noRoom stepPlace afterWalk inRoom ending judged over printing printed countOn countingCourse stepsSaid SixWhereShort
 computed = record {
-  marked = (refl, (refl, ((refl, refl), ((refl, refl), ((refl, refl), ((refl, refl), ((refl, refl), ((refl, refl), ((refl, refl), ((refl, refl), ((refl, refl), tt)))))))))));
+  marked = (refl, (refl, ((refl, refl), ((refl, refl), ((refl, refl), ((refl, refl), ((refl, refl), ((refl, refl), ((refl, refl), ((refl, refl), ((refl, refl), ((refl, refl), ((refl, refl), ((refl, refl), tt))))))))))))));
   none = record { accepted-is = refl; refused-is = refl; digit-is = λ old. refl; prints = refl };
   six = record { accepted-is = refl; refused-is = refl; digit-is = λ old. refl; prints = refl };
   all = record { accepted-is = refl; refused-is = refl; digit-is = λ old. refl; prints = refl };

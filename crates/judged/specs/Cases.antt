@@ -7,20 +7,24 @@ use Rattle.forms.specs.Reader.{bytes}
 use Rattle.forms.specs.Write.{oneText}
 use Rattle.judged.specs.Judged.{judged, printed, lentBytes}
 
--- the pair used in examples, then the program
-abbrev pub pair : List ℕ
-pair = bytes "sheet=1\ndepth=0\ntypes=2\n"
-    ++ bytes "type=0\nplaces=2\ninitial=0\ntransitions=2\ntran=0,1\ntran=1,0\nbehaviors=2\nbehavior=0\nbehavior=1\nports=1\nport=provide,1,-\n"
+-- the pair used in examples, where the provide port has this group
+abbrev pub pairWith : String → List ℕ
+pairWith group = bytes "sheet=1\ndepth=0\ntypes=2\n"
+    ++ bytes "type=0\nplaces=2\ninitial=0\ntransitions=2\ntran=0,1\ntran=1,0\nbehaviors=2\nbehavior=0\nbehavior=1\nports=1\nport=provide," ++ bytes group ++ bytes "\n"
     ++ bytes "type=1\nplaces=2\ninitial=0\ntransitions=2\ntran=0,1\ntran=1,0\nbehaviors=2\nbehavior=0\nbehavior=1\nports=1\nport=use,1,0\n"
 
 abbrev pub five : List ℕ
 five = bytes "do=add,0,0\ndo=add,1,1\ndo=con,1,0,0,0\ndo=pushb,0,0\ndo=pushb,1,0\n"
 
+-- then the program
+abbrev pub programP : String → List ℕ
+programP group = pairWith group ++ bytes "program=5\n" ++ five
+
 abbrev pub P : List ℕ
-P = pair ++ bytes "program=5\n" ++ five
+P = programP "1,-"
 
 abbrev pub P+ : List ℕ
-P+ = pair ++ bytes "program=6\n" ++ five ++ bytes "do=pushb,0,1\n"
+P+ = pairWith "1,-" ++ bytes "program=6\n" ++ five ++ bytes "do=pushb,0,1\n"
 
 -- n times `next`
 unfoldable pub nexts : ℕ → List ℕ
@@ -60,6 +64,10 @@ table =
     ∷ case P (answerWith 6 5 "step=end,0,0\n") (ends 5 31)
     ∷ case P (answerWith 6 5 "step=enter,0,1\n") (ends 5 31)
     ∷ case P (answerWith 6 5 "step=enter,0,0\n") (ends 5 32)
+    -- 02, C-13: a provider with its action ended, "and nothing left but to enter a place outside the group"; its action still runs; the place is of the group
+    ∷ case (programP "-,0") (answerWith 8 5 "step=fire,0,0\nstep=end,0,0\nstep=fire,1,0\n") (ends 7 35)
+    ∷ case (programP "-,0") (answerWith 7 5 "step=fire,0,0\nstep=fire,1,0\n") (ends 7 0)
+    ∷ case (programP "1,0") (answerWith 8 5 "step=fire,0,0\nstep=end,0,0\nstep=fire,1,0\n") (ends 8 0)
     ∷ []
 
 -- a case is met

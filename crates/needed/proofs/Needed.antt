@@ -38,7 +38,7 @@ use Rattle.rules.specs.Finish.{mayLeave, finishRow, finishCheck, finished}
 use Rattle.rules.specs.Fire.{fireRow, fireCheckBy, fireCheck, fireTo}
 use Rattle.rules.specs.Instance.{active, current, endsAt, leaving, entering, fired, endedBy, entered, withQueued}
 use Rattle.rules.specs.Standing.{Standing, entries, inTable, standing, someConnection}
-use Rattle.rules.specs.Ports.{wouldLeave, refusing, serves, blocks, employs, failsUnserved, failsRefusing, failsInUse, PortCheck, portCheck}
+use Rattle.rules.specs.Ports.{wouldLeave, wouldEnter, refusing, serves, blocks, employs, failsUnserved, failsRefusing, failsInUse, PortCheck, portCheck}
 use Rattle.rules.specs.PushB.{pushbCheck, pushed}
 use Rattle.rules.specs.Step.{actionAt, action, numberBy, stepCheckWith, stepTo, step}
 use Rattle.rules.specs.Wait.{waitCheck}
@@ -104,7 +104,7 @@ record Computed : Type 0 where
   tokens : TokensAloneIsNeeded
 
 computed : Computed
-unfolding member collect allBelow anyBelow noTables noProgram noAnswer start isServed entries inTable listOf queueOf put withQueue withServers withDone key digit numberFrom membersFrom list oneForm twoForm fourForm listForm listsForm digitsIn numberText membersBelow moreText listText maskText inTurn oneText headed withType withTransition withPort programOf withInstruction answerOf withStep dueLine countLineIn initialLine tranLine behaviorLine group portLine doId doNumber doEnds doLine stepId stepNumber stepLine each tranAt behaviorAt portAt typeLines instructionAt sheet stepAt answer instructionAction moveAction actionCheck effect addCheck added down closed zeroed renewed isOf isUsePort isProvidePort conCheck connected endCheck endTo enterRow enterTo mayLeave finishRow finishCheck finished fireRow fireTo active current endsAt leaving entering fired endedBy entered withQueued wouldLeave refusing serves blocks employs failsUnserved failsRefusing failsInUse portCheck pushbCheck pushed actionAt action stepCheckWith stepTo step waitCheck oneMore walk walkAnswer tally countText instanceText instanceAt connectionLine linesFrom instancesText connectionsText reportWith report nexts short read both course afterWalk inRoom ending judged printing printed deeds between portCheckBy sheetTables sheetProgram answerSteps TokensAloneIsNeeded
+unfolding member collect allBelow anyBelow noTables noProgram noAnswer start isServed entries inTable listOf queueOf put withQueue withServers withDone key digit numberFrom membersFrom list oneForm twoForm fourForm listForm listsForm digitsIn numberText membersBelow moreText listText maskText inTurn oneText headed withType withTransition withPort programOf withInstruction answerOf withStep dueLine countLineIn initialLine tranLine behaviorLine group portLine doId doNumber doEnds doLine stepId stepNumber stepLine each tranAt behaviorAt portAt typeLines instructionAt sheet stepAt answer instructionAction moveAction actionCheck effect addCheck added down closed zeroed renewed isOf isUsePort isProvidePort conCheck connected endCheck endTo enterRow enterTo mayLeave finishRow finishCheck finished fireRow fireTo active current endsAt leaving entering fired endedBy entered withQueued wouldLeave wouldEnter refusing serves blocks employs failsUnserved failsRefusing failsInUse portCheck pushbCheck pushed actionAt action stepCheckWith stepTo step waitCheck oneMore walk walkAnswer tally countText instanceText instanceAt connectionLine linesFrom instancesText connectionsText reportWith report nexts short read both course afterWalk inRoom ending judged printing printed deeds between portCheckBy sheetTables sheetProgram answerSteps TokensAloneIsNeeded
 computed = record {
   in-use = record { ruled = refl; allows = refl; present = refl; port = refl; fails = refl };
   ended = record { ruled = refl; allows = refl; present = refl; port = refl; fails = refl };

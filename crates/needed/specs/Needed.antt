@@ -20,9 +20,9 @@ use Rattle.model.specs.View.{isUse, groupPlaces, groupTransitions, instance}
 use Rattle.rules.specs.Refusal.{_⇒_∣_, allowed, unserved, providerRefusing, serviceInUse, settle}
 use Rattle.rules.specs.Instance.{active, portsOf}
 use Rattle.rules.specs.Standing.{Standing, standing, someConnection}
-use Rattle.rules.specs.Ports.{behavior, wouldLeave, refusing, PortCheck, portCheck}
+use Rattle.rules.specs.Ports.{behavior, wouldLeave, wouldEnter, refusing, PortCheck, portCheck}
 use Rattle.rules.specs.Fire.{afterFire, fireCheckBy}
-use Rattle.rules.specs.Enter.{enterCheckBy}
+use Rattle.rules.specs.Enter.{afterEnter, enterCheckBy}
 use Rattle.rules.specs.Action.{Action, add, del, pushb, con, dcon, wait, fire, end, enter, finish, checkBy}
 use Rattle.rules.specs.Step.{numberBy, stepTo}
 use Rattle.rules.specs.Walk.{walkBy, walk}
@@ -148,14 +148,15 @@ WaitIsNeeded =
     × ((i : ℕ) → withoutWaits (projectionOn addWait (onward 1) i) ≡ withoutWaits (projectionOn addWait (onward 2) i))
     × (printed addWait (onward 1) ≢ printed addWait (onward 2))
 
--- ---- with a provider refusing only where its firing would pass 34 to 36 too
+-- ---- with a provider refusing only where its firing or entering would pass 34 to 36 too
 
 abbrev pub refusingIfAllowed : Variant
 refusingIfAllowed = record {
   active = active;
   refusing = λ t c j q.
       active t (instance c j) q
-      && anyBelow 16 (λ p. wouldLeave t (instance c j) (behavior t c j) q p && eqb (portCheck t (standing c) c j (instance c j) (afterFire t c j p)) allowed);
+      && (anyBelow 16 (λ p. wouldLeave t (instance c j) (behavior t c j) q p && eqb (portCheck t (standing c) c j (instance c j) (afterFire t c j p)) allowed)
+      || anyBelow 16 (λ p. wouldEnter t (instance c j) (behavior t c j) q p && eqb (portCheck t (standing c) c j (instance c j) (afterEnter t c j p)) allowed));
   third = true;
 }
 

@@ -43,7 +43,7 @@ passes true n e = absurd (omega arith)
 passes false n e = (refl, e)
 
 -- a negated test
-meets : (b : Bool) (n : ℕ) {m : ℕ} → (not b ⇒ suc n ∣ m) ≡ 0 → (b ≡ true) × (m ≡ 0)
+pub meets : (b : Bool) (n : ℕ) {m : ℕ} → (not b ⇒ suc n ∣ m) ≡ 0 → (b ≡ true) × (m ≡ 0)
 meets true n e = (refl, e)
 meets false n e = absurd (omega arith)
 

@@ -12,3 +12,4 @@ pub mod Proper
 pub mod Chains
 pub mod Same
 pub mod Listed
+pub mod Holding

@@ -22,3 +22,4 @@ pub mod Walk
 pub mod Listed
 pub mod Refused
 pub mod Proper
+pub mod Holding

@@ -1,10 +1,10 @@
 -- The three checks of ports, 34, 35 and 36, where instance i goes from v to w and the connections x stand.
-use mathlib.Core.Bool.{Bool, not, _&&_}
+use mathlib.Core.Bool.{Bool, not, _&&_, _||_}
 use Prim.Native.Nat.{ℕ, _<_}
 use mathlib.Core.Path.{_≡_}
 use lib.Dec.{eqb}
 use Rattle.sets.specs.Test.{anyBelow}
-use Rattle.sets.specs.Mask.{member, collect, overlaps}
+use Rattle.sets.specs.Mask.{member, collect, overlaps, within}
 use Rattle.model.specs.declared.Tables.{Tables}
 use Rattle.model.specs.declared.Instance.{Instance}
 use Rattle.model.specs.declared.Connection.{Connection}
@@ -12,7 +12,7 @@ use Rattle.model.specs.declared.Configuration.{Configuration}
 use Rattle.model.specs.View.{isUse, instance, queueHead}
 use Rattle.rules.specs.Refusal.{_⇒_∣_, allowed, unserved, providerRefusing, serviceInUse}
 use Rattle.rules.specs.Standing.{Standing}
-use Rattle.rules.specs.Instance.{held, active, portsOf, current, leaving, fired}
+use Rattle.rules.specs.Instance.{held, active, portsOf, current, leaving, entering, fired, entered}
 
 -- the current behavior of instance i
 abbrev pub behavior : Tables → Configuration → ℕ → ℕ
@@ -24,9 +24,15 @@ wouldLeave t v m q p =
     member p (v .marked) && (not (eqb (leaving t (v .kind) m p) 0)
     && (not (overlaps (leaving t (v .kind) m p) (held v)) && not (active t (fired v p (leaving t (v .kind) m p)) q)))
 
--- "A provide port is *refusing* when it is active and" one of the 16 places is such a place
+-- "some place [p] could be entered by the rules for tokens, its ports aside, and entering it would make the port [q] inactive"
+unfoldable pub wouldEnter : Tables → Instance → ℕ → ℕ → ℕ → Bool
+wouldEnter t v m q p =
+    not (eqb (entering t (v .kind) m p) 0) && (within (entering t (v .kind) m p) (v .ended)
+    && (not (member p (v .marked)) && not (active t (entered v p (entering t (v .kind) m p)) q)))
+
+-- "A provide port is *refusing* when it is active and" one of the 16 places would be left so, or entered so
 unfoldable pub refusing : Tables → Instance → ℕ → ℕ → Bool
-refusing t v m q = active t v q && anyBelow 16 (wouldLeave t v m q)
+refusing t v m q = active t v q && (anyBelow 16 (wouldLeave t v m q) || anyBelow 16 (wouldEnter t v m q))
 
 -- the connection joins the use port q of i to an active provide port; to a refusing one
 unfoldable pub serves : Tables → Configuration → ℕ → ℕ → Connection → Bool
