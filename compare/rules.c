@@ -172,17 +172,28 @@ static void carry_out(const struct tables *tables, struct configuration *c, cons
 
 /* "some marked place of its instance has leaving transitions in the current behavior, none held, whose firing would
    make the port inactive": one firing, judged on tokens alone. */
-static bool refusing(const struct type *type, const struct instance *instance, const struct port *port)
+static bool would_leave(const struct type *type, const struct instance *instance, const struct port *port, unsigned p)
 {
     struct tokens now = tokens_of(instance);
-    uint32_t behavior = current(type, instance);
-    if (behavior == 0 || !active(port, now)) return false;
-    for (unsigned p = 0; p < type->places; p++) {
-        if ((now.marked & bit(p)) == 0) continue;
-        uint32_t leaving = at_place(type->source, behavior, p);
-        struct tokens fired = { now.marked & ~bit(p), now.held | leaving };
-        if (leaving != 0 && (leaving & now.held) == 0 && !active(port, fired)) return true;
-    }
+    uint32_t leaving = at_place(type->source, current(type, instance), p);
+    struct tokens fired = { now.marked & ~bit(p), now.held | leaving };
+    return (now.marked & bit(p)) != 0 && leaving != 0 && (leaving & now.held) == 0 && !active(port, fired);
+}
+
+/* C-13: "some place could be entered by the rules for tokens, its ports aside, and entering it would make the port inactive" */
+static bool would_enter(const struct type *type, const struct instance *instance, const struct port *port, unsigned p)
+{
+    struct tokens now = tokens_of(instance);
+    uint32_t leading = at_place(type->destination, current(type, instance), p);
+    struct tokens entered = { now.marked | bit(p), now.held & ~leading };
+    return leading != 0 && (leading & ~instance->ended) == 0 && (now.marked & bit(p)) == 0 && !active(port, entered);
+}
+
+static bool refusing(const struct type *type, const struct instance *instance, const struct port *port)
+{
+    if (!port_active(port, instance)) return false;
+    for (unsigned p = 0; p < type->places; p++)
+        if (would_leave(type, instance, port, p) || would_enter(type, instance, port, p)) return true;
     return false;
 }
 

@@ -226,6 +226,12 @@ class State:
                 gone = Instance(instance.kind, instance.marked - {place}, instance.running | leaving, instance.ended, instance.queue)
                 if not self.active(gone, port):
                     return True
+        for place in range(16):
+            entering = self.current(instance, place, 1)
+            if entering and entering <= instance.ended and place not in instance.marked:
+                come = Instance(instance.kind, instance.marked | {place}, instance.running - entering, instance.ended - entering, instance.queue)
+                if not self.active(come, port):
+                    return True
         return False
 
     def is_port(self, identity, port, use):
