@@ -13,10 +13,11 @@ use words::tables::group_places;
 use words::tables::group_transitions;
 use words::tables::source;
 ghost use mathlib.Core.Path.{_≡_};
+ghost use Rattle.sets.specs.Test.{anyBelow};
 ghost use Rattle.sets.specs.Mask.{collect};
 ghost use Rattle.model.specs.View.{instance};
 ghost use Rattle.rules.specs.Instance.{held, active, endsAt, leaving, entering};
-ghost use Rattle.rules.specs.Ports.{behavior};
+ghost use Rattle.rules.specs.Ports.{behavior, wouldLeave, wouldEnter};
 ghost use Rattle.words.specs.Words.{tablesIn, stateIn};
 ghost use Rattle.ports.specs.Turns.{endOf, activeWith, leavesBy, refusingAt};
 
@@ -110,14 +111,32 @@ fn would_leave(tables: &TableWords, state: &StateWords, i: u32, m: u32, q: u32, 
     !active_with(tables, k, marks, holds, q)
 }
 
-// Provide port q of instance i refuses.
-pub fn refusing(tables: &TableWords, state: &StateWords, i: u32, q: u32) -> bool
-    ensures { λ r. ⌜ r ≡ refusingAt (tablesIn (now (tables .entry))) (stateIn (now (state .entry))) i q ⌝ }
+// The unmarked place p could be entered by tokens alone, and entering it would make port q inactive.
+fn would_enter(tables: &TableWords, state: &StateWords, i: u32, m: u32, q: u32, p: u32) -> bool
+    ensures { λ r. ⌜ r ≡ wouldEnter (tablesIn (now (tables .entry))) (instance (stateIn (now (state .entry))) i) m q p ⌝ }
 {
-    if !active(tables, state, i, q) {
+    let k = kind(state, i);
+    let xs = entering(tables, k, m, p);
+    if xs == 0 {
         return false;
     }
-    let m = behavior(tables, state, i);
+    let ends = ended(state, i);
+    if !sets::within(xs, ends) {
+        return false;
+    }
+    let marks = marked(state, i);
+    if sets::member(marks, p) {
+        return false;
+    }
+    let runs = sets::without(running(state, i), xs);
+    let holds = sets::joined(runs, sets::without(ends, xs));
+    !active_with(tables, k, sets::with(marks, p), holds, q)
+}
+
+// Some place would be left so.
+fn some_leaves(tables: &TableWords, state: &StateWords, i: u32, m: u32, q: u32) -> bool
+    ensures { λ r. ⌜ r ≡ anyBelow 16 (wouldLeave (tablesIn (now (tables .entry))) (instance (stateIn (now (state .entry))) i) m q) ⌝ }
+{
     let mut rest = marked(state, i);
     while rest != 0 {
         let p = sets::least(rest);
@@ -127,4 +146,35 @@ pub fn refusing(tables: &TableWords, state: &StateWords, i: u32, q: u32) -> bool
         rest = sets::without(rest, sets::only(p));
     }
     false
+}
+
+// Some place would be entered so.
+fn some_enters(tables: &TableWords, state: &StateWords, i: u32, m: u32, q: u32) -> bool
+    ensures { λ r. ⌜ r ≡ anyBelow 16 (wouldEnter (tablesIn (now (tables .entry))) (instance (stateIn (now (state .entry))) i) m q) ⌝ }
+{
+    let mut p: u32 = 0;
+    while p < 16 {
+        if would_enter(tables, state, i, m, q, p) {
+            return true;
+        }
+        p += 1;
+    }
+    false
+}
+
+// Provide port q of instance i refuses. Where no transition has ended no place can be entered, so that few look at the places twice.
+pub fn refusing(tables: &TableWords, state: &StateWords, i: u32, q: u32) -> bool
+    ensures { λ r. ⌜ r ≡ refusingAt (tablesIn (now (tables .entry))) (stateIn (now (state .entry))) i q ⌝ }
+{
+    if !active(tables, state, i, q) {
+        return false;
+    }
+    let m = behavior(tables, state, i);
+    if some_leaves(tables, state, i, m, q) {
+        return true;
+    }
+    if ended(state, i) == 0 {
+        return false;
+    }
+    some_enters(tables, state, i, m, q)
 }

@@ -1,78 +1,41 @@
--- None of the marked places that are behind is one.
-use mathlib.Core.Path.{_≡_, sym, ap, _∙_}
-use mathlib.Core.Bool.{Bool, true, false, _&&_}
-use borrow.Author.Needs.{needs}
+use mathlib.Core.Path.{sym, _∙_}
 use borrow.Author.Tests.{not-true, not-false}
-use Rattle.sets.specs.Test.{anyBelow}
-use Rattle.sets.specs.Mask.{member, least}
-use Rattle.sets.proofs.Members.{later, Rest, rest-start, rest-later, left, left-less, behind, none-start, members-hit, members-more, none-end}
 use Rattle.model.specs.View.{instance}
 use Rattle.rules.specs.Ports.{refusing}
 use Rattle.words.specs.Words.{tablesIn, stateIn}
-use Rattle.ports.specs.Turns.{leavesBy, refusingAt}
-use Rattle.ports.proofs.Ports.{marked-leaves}
+use borrow.Author.Needs.{needs}
+use Rattle.ports.proofs.Ended.{none-entered}
 use Rattle.ports.proofs.instance.refusing.Statement.{statement}
 use Rattle.ports.proofs.instance.refusing.Tie as tie
 
-abbrev Inv-loop : tie.InvT-loop
-Inv-loop tables state i q m rest₀ rest = Rest rest₀ rest × (anyBelow 32 (behind rest₀ (leavesBy (tablesIn tables) (instance (stateIn state) i) m q) rest) ≡ false)
-
-abbrev μ-loop : tie.MeasureT-loop
-μ-loop tables state i q m rest₀ rest = left rest
-
-returns : tie.Need-returns Inv-loop μ-loop
+returns : tie.Need-returns
 unfolding refusing
 returns c = rw (← c .before .active .ensures, not-true (c .before .active .result) (c .if1 .taken))
 
-loop-holds : tie.Need-loop-holds Inv-loop μ-loop
-loop-holds c = (rest-start (c .marked .result) (c .marked .ok), none-start (c .marked .result) _)
-
--- where the port is active, the search over the marked places tells
-told : (c : tie.After-marked Inv-loop μ-loop) (b : Bool)
-    → let a = c .before .before .before .before .args in
-    anyBelow 32 (λ p. member p (c .marked .result) && leavesBy (tablesIn (a .tables .now)) (instance (stateIn (a .state .now)) (a .i)) (c .before .behavior .result) (a .q) p) ≡ b
-    → b ≡ refusingAt (tablesIn (a .tables .now)) (stateIn (a .state .now)) (a .i) (a .q)
+returns-2 : tie.Need-returns-2
 unfolding refusing
-told c b e =
-    let g = c .before .before in
-    rw (← g .before .active .ensures, not-false (g .before .active .result) (g .if1 .left), ← c .before .behavior .ensures)
-    (sym e ∙ rw (c .marked .ensures) (marked-leaves _ _ _ _))
-
--- the place looked at
-own : (e : tie.After-would-leave Inv-loop μ-loop) (b : Bool) → e .would-leave .result ≡ b
-    → let l = e .before .before .before in
-    let a = l .before .before .before .before .before .args in
-    leavesBy (tablesIn (a .tables .now)) (instance (stateIn (a .state .now)) (a .i)) (l .before .before .behavior .result) (a .q) (least (l .loop .rest)) ≡ b
-own e b h = rw (← e .before .least .ensures) (sym (e .would-leave .ensures) ∙ h)
-
-returns-2 : tie.Need-returns-2 Inv-loop μ-loop
 returns-2 c =
-    let e = c .before in
-    let l = e .before .before .before in
-    told (l .before) true (members-hit _ _ (l .loop .rest) (l .loop .inv .0) (e .before .before .loop-test .taken) (own e true (c .if2 .taken)))
+    let b = c .before .before in
+    let a = b .before .before in
+    rw (← a .active .ensures, not-false (a .active .result) (b .before .if1 .left), ← b .behavior .ensures, ← c .before .some-leaves .ensures, c .if2 .taken)
 
-next : (c : tie.After-without Inv-loop μ-loop) → c .without .result ≡ later (c .before .before .before .before .before .before .loop .rest)
-next c = c .without .ensures ∙ rw (c .before .only .ensures, c .before .before .before .before .least .ensures)
+returns-3 : tie.Need-returns-3
+unfolding refusing
+returns-3 c =
+    let e = c .before .before in
+    let b = e .before .before in
+    let a = b .before .before in
+    let s = a .before .args in
+    rw (← a .active .ensures, not-false (a .active .result) (b .before .if1 .left), ← b .behavior .ensures, ← e .before .some-leaves .ensures, e .if2 .left)
+    (sym (none-entered (tablesIn (s .tables .now)) (instance (stateIn (s .state .now)) (s .i)) (b .behavior .result) (s .q) (sym (c .before .ended .ensures) ∙ c .if3 .taken)))
 
-loop-less : tie.Need-loop-less Inv-loop μ-loop
-loop-less c =
-    let t = c .before .before .before .before .before in
-    rw (next c) (left-less _ (t .before .loop .rest) (t .before .loop .inv .0) (t .loop-test .taken))
-
-loop-again : tie.Need-loop-again Inv-loop μ-loop
-loop-again c =
+returns-4 : tie.Need-returns-4
+unfolding refusing
+returns-4 c =
     let e = c .before .before .before in
-    let t = e .before .before in
-    let l = t .before .loop in
-    let some = t .loop-test .taken in
-    rw (next c)
-    (rest-later _ (l .rest) (l .inv .0) some, members-more _ _ (l .rest) (l .inv .0) some (l .inv .1) (own e false (c .before .before .if2 .left)))
-
-returns-3 : tie.Need-returns-3 Inv-loop μ-loop
-returns-3 c = let l = c .before in told (l .before) false (none-end _ _ (l .loop .rest) (c .loop-test .left) (l .loop .inv .1))
+    let b = e .before .before in
+    let a = b .before .before in
+    rw (← a .active .ensures, not-false (a .active .result) (b .before .if1 .left), ← b .behavior .ensures, ← e .before .some-leaves .ensures, e .if2 .left) (c .some-enters .ensures)
 
 pub refusing-spec : {M : Type 1} → statement M
-refusing-spec =
-    tie.close
-    (tie.spec Inv-loop μ-loop (λ c κs. search needs) returns (λ c κs. search needs) (λ c κs. search needs) loop-holds (λ c κs. search needs) (λ c κs. search needs)
-    returns-2 (λ c κs. search needs) (λ c κs. search needs) loop-less loop-again returns-3)
+refusing-spec = tie.close (tie.spec (λ c κs. search needs) returns (λ c κs. search needs) (λ c κs. search needs) returns-2 (λ c κs. search needs) returns-3 (λ c κs. search needs) returns-4)
