@@ -15,7 +15,7 @@ use Rattle.reading.specs.Kinds.{dueLine, countLine, initialLine}
 use Rattle.reading.specs.Fill.{withType}
 use Rattle.reading.specs.Texts.{tranAt, behaviorAt, portAt, typeLines}
 use Rattle.rules.specs.Instance.{active, leaving, entering, current}
-use Rattle.rules.specs.Ports.{wouldLeave, refusing, serves, blocks, employs, failsUnserved, failsRefusing, failsInUse, portCheck}
+use Rattle.rules.specs.Ports.{wouldLeave, refusing, serves, blocks, employs, failsUnserved, failsRefusing, failsInUse, portCheck, wouldEnter}
 use Rattle.rules.specs.PushB.{depthOf, pushbCheck}
 use Rattle.rules.specs.Add.{added}
 use Rattle.rules.specs.Con.{isUsePort, isProvidePort, conCheck}
@@ -35,7 +35,7 @@ deep d t = record { depth = d; count = t .count; types = t .types; transitions =
 -- ---- a walk
 module _ (d e x : ℕ) (t : Tables) (same : depthOf d t ≡ depthOf e (deep x t)) where
   check-same : (y : Standing) (c : Configuration) (a : Action) → actionCheck d t y c a ≡ actionCheck e (deep x t) y c a
-  unfolding actionCheck pushbCheck conCheck isUsePort isProvidePort dconCheck fireCheck enterCheck finishCheck finishRow mayLeave portCheck failsUnserved failsRefusing failsInUse serves blocks employs refusing wouldLeave active leaving entering current
+  unfolding actionCheck pushbCheck conCheck isUsePort isProvidePort dconCheck fireCheck enterCheck finishCheck finishRow mayLeave portCheck failsUnserved failsRefusing failsInUse serves blocks employs refusing wouldLeave wouldEnter active leaving entering current
   check-same y c (add i k) = refl
   check-same y c (del i) = refl
   check-same y c (pushb i b) = rw same
