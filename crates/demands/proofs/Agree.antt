@@ -20,7 +20,7 @@ use Rattle.rules.specs.Walk.{oneMore, walk}
 use Rattle.rules.specs.Proper.{Proper}
 use Rattle.rules.proofs.Tables.{Facts, facts}
 use Rattle.rules.proofs.Local.{Wires, wires, rewired, wiringOf, change, touches, changes, part-wires, rest-after}
-use Rattle.rules.proofs.Walks.{walk-on, allowed-head, allowed-tail, number-facts, after-cases, after-done}
+use Rattle.rules.proofs.Walks.{walk-unnamed, walk-on, allowed-head, allowed-tail, number-facts, after-cases, after-done}
 use Rattle.rules.proofs.Proper.{step-lawfully, step-proper, start-proper, proper-from}
 use Rattle.demands.specs.Agree.{names, deeds, naming, ReportsAgree}
 use Rattle.demands.proofs.Parts.{Part, part, acted, part-after, whole}
@@ -88,9 +88,9 @@ module _ (default : ℕ) (t : Tables) (p : Program) where
       go true = rw (one-add (tally ifNext ss)) refl
       go false = rw (zero-add (tally ifNext ss)) refl
 
-same-walked : (w u : Walked) → w .accepted ≡ u .accepted → w .refused ≡ u .refused → w .configuration ≡ u .configuration
-    → _≡_ {A = Walked} (record { accepted = w .accepted; refused = w .refused; configuration = w .configuration }) u
-same-walked w u a b c = rw (a, b, c)
+same-walked : (w u : Walked) → w .accepted ≡ u .accepted → w .refused ≡ u .refused → w .port ≡ u .port → w .configuration ≡ u .configuration
+    → _≡_ {A = Walked} (record { accepted = w .accepted; refused = w .refused; port = w .port; configuration = w .configuration }) u
+same-walked w u a b k c = rw (a, b, k, c)
 
 -- ---- a component's part after a walk is told by its projection
 
@@ -146,7 +146,8 @@ module _ (default : ℕ) (t : Tables) (p : Program) (law : Facts default t p) wh
   -- ---- the outcome, from any proper configuration
   pub agree-from : (c : Configuration) (ss us : List Step) → Proper default t p c → walk default t p c ss .refused ≡ 0 → walk default t p c us .refused ≡ 0
       → ((i : ℕ) → naming i (deeds p (c .done) ss) ≡ naming i (deeds p (c .done) us)) → walk default t p c ss ≡ walk default t p c us
-  agree-from c ss us now a b same = same-walked (walk default t p c ss) (walk default t p c us) accepted (a ∙ sym b) configuration
+  agree-from c ss us now a b same = same-walked (walk default t p c ss) (walk default t p c us) accepted (a ∙ sym b)
+      (walk-unnamed default t p ss c a ∙ sym (walk-unnamed default t p us c b)) configuration
     where
       accepted : walk default t p c ss .accepted ≡ walk default t p c us .accepted
       accepted = accepted-walk default t p ss c a ∙ same-count p (c .done) ss us same ∙ sym (accepted-walk default t p us c b)

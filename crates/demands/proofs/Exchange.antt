@@ -9,7 +9,6 @@ use native.Mathlib.Omega.{arith}
 use native.Mathlib.Decide.{ℕ-discrete}
 use lib.Dec.{eqb}
 use borrow.Author.Tests.{eqb-true, eq-eqb}
-use Rattle.sets.specs.Test.{anyBelow}
 use Rattle.sets.proofs.Laws.{any-same}
 use Rattle.forms.proofs.Tests.{by-test}
 use Rattle.model.specs.declared.Tables.{Tables}
@@ -24,7 +23,7 @@ use Rattle.model.specs.View.{instance, isServed, connection, queueHead}
 use Rattle.rules.specs.Refusal.{orNumber}
 use Rattle.rules.specs.Instance.{portsOf, current, leaving, entering, fired, entered}
 use Rattle.rules.specs.Standing.{standing, inTable, someConnection}
-use Rattle.rules.specs.Ports.{serves, blocks, employs, failsUnserved, failsRefusing, failsInUse, portCheck}
+use Rattle.rules.specs.Ports.{isOf, serves, blocks, employs, failsUnconnected, failsUnserved, failsRefusing, failsInUse, portCheck}
 use Rattle.rules.specs.Fire.{fireRow, fireCheck}
 use Rattle.rules.specs.End.{endCheck}
 use Rattle.rules.specs.Enter.{enterRow, enterCheck}
@@ -74,10 +73,14 @@ module _ (t : Tables) (c d : Configuration) (j : ℕ) (near : Near c d j) where
   unfolding employs
   employs-same q = some-same (employs t d j q) (employs t c j q) (λ k x. guarded (k .provider) j _ _ (λ e. rw (near .user k x e)))
 
+  linked-same : (q : ℕ) → someConnection d (isOf j q) ≡ someConnection c (isOf j q)
+  linked-same q = ap (λ (x : Wires). inTable x .some (isOf j q)) (near .connections)
+
   ports-same : (v w : Instance) → portCheck t (standing d) d j v w ≡ portCheck t (standing c) c j v w
-  unfolding portCheck failsUnserved failsRefusing failsInUse
+  unfolding portCheck failsUnconnected failsUnserved failsRefusing failsInUse
   ports-same v w =
       rw (
+        any-same (portsOf t v) (failsUnconnected t (standing d) d j w) (failsUnconnected t (standing c) c j w) (λ q h. rw (linked-same q)),
         any-same (portsOf t v) (failsUnserved t (standing d) d j w) (failsUnserved t (standing c) c j w) (λ q h. rw (serves-same q)),
         any-same (portsOf t v) (failsRefusing t (standing d) d j v w) (failsRefusing t (standing c) c j v w) (λ q h. rw (blocks-same q)),
         any-same (portsOf t v) (failsInUse t (standing d) d j v w) (failsInUse t (standing c) c j v w) (λ q h. rw (employs-same q)),

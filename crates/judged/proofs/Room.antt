@@ -21,7 +21,9 @@ use Rattle.reading.specs.Lawful.{Lawful, answerLawful, SheetsAreLawful, Answers
 use Rattle.reading.proofs.Lawful.{sheets-are-lawful, answers-are-lawful}
 use Rattle.rules.specs.Walk.{walk, walkAnswer}
 use Rattle.rules.specs.Proper.{WalksAreProper}
-use Rattle.rules.proofs.Proper.{walks-are-proper}
+use Rattle.rules.proofs.Proper.{start-proper, walks-are-proper}
+use Rattle.rules.proofs.Tables.{facts}
+use Rattle.rules.proofs.Named.{walk-port-small}
 use Rattle.rules.proofs.Numbers.{Numbered, walk-numbers}
 use Rattle.report.specs.Report.{report}
 use Rattle.report.proofs.Bound.{report-le}
@@ -42,7 +44,7 @@ six-in-room w a room h = go (leb (length (report w)) room) refl
     go true e = (λ q. absurd (h q), λ l. absurd (omega (arith, leb-true (length (report w)) room e)))
     go false e = (λ q. leb-false (length (report w)) room e, λ l. refl)
 
--- of 0 and 10 to 37
+-- of 0 and 10 to 38
 in-range : {n : ℕ} → Numbered n → (n < 100) × (n ≢ 6)
 in-range {n} h = ⊎-elim (λ e. (omega arith, omega arith)) (λ e. (omega arith, omega arith)) (h .range)
 
@@ -52,8 +54,11 @@ walk-fits t p y law e =
     let ss = stepsOf y in
     let n = walk-numbers defaultDepth t p ss start in
     let few = leb-true (y .count) 1024 (and-left (stepsOk (y .count)) _ e) in
-    let (small, not-six) = in-range (n .refused) in
-    (report-le defaultDepth t p (walk defaultDepth t p start ss) (omega arith) law (walks-are-proper defaultDepth t p ss (omega arith) law) (omega (arith, n .accepted, length-take (y .count) (y .steps))) small, not-six)
+    let (small, not-six) = in-range (n .refused) in (
+      report-le defaultDepth t p (walk defaultDepth t p start ss) (omega arith) law (walks-are-proper defaultDepth t p ss (omega arith) law) (omega (arith, n .accepted, length-take (y .count) (y .steps))) small
+          (walk-port-small defaultDepth t p (facts defaultDepth t p (omega arith) law) ss start (start-proper defaultDepth t p)),
+      not-six,
+    )
 
 pub read-fits : (s a : List ℕ) (w : Walked) → course s a ≡ reached w → Fits w
 unfolding SheetsAreLawful AnswersAreLawful

@@ -3,6 +3,8 @@ use Prim.Native.Nat.{ℕ, zero, suc}
 use Prim.Native.String.{String}
 use mathlib.Core.List.{List, [], _∷_, _++_}
 use mathlib.Core.Path.{_≡_}
+use Rattle.model.specs.declared.Concerned.{Concerned}
+use Rattle.model.specs.declared.Concerned.the-variants.{NoPort, UsePort}
 use Rattle.forms.specs.Reader.{bytes}
 use Rattle.forms.specs.Write.{oneText}
 use Rattle.judged.specs.Judged.{judged, printed, lentBytes}
@@ -35,10 +37,11 @@ nexts (suc n) = bytes "step=next\n" ++ nexts n
 abbrev pub answerWith : ℕ → ℕ → String → List ℕ
 answerWith k n further = bytes "answer=1\nsteps=" ++ oneText k ++ nexts n ++ bytes further
 
--- what a case must come to: the whole print, or the two counts
+-- what a case must come to: the whole print, or the two counts and no port, or the two counts and this use port
 pub data Expected : Type 0 where
   prints : List ℕ → Expected
   ends : ℕ → ℕ → Expected
+  endsAt : ℕ → ℕ → ℕ → Expected
 
 pub record Case : Type 0 where
   pub sheet : List ℕ
@@ -49,13 +52,13 @@ abbrev pub case : List ℕ → List ℕ → Expected → Case
 case s a e = record { sheet = s; answer = a; expected = e }
 
 abbrev pub wholeReport : List ℕ
-wholeReport = bytes "accepted=13\nrefused=0\nnext=5\ninstances=2\ninstance=0,0,1,-,-,-\ninstance=1,1,1,-,-,-\nconnections=1\nconnection=1,0,0,0\n"
+wholeReport = bytes "accepted=13\nrefused=0\nport=-\nnext=5\ninstances=2\ninstance=0,0,1,-,-,-\ninstance=1,1,1,-,-,-\nconnections=1\nconnection=1,0,0,0\n"
 
 abbrev pub table : List Case
 table =
     case P (answerWith 13 5 "step=fire,0,0\nstep=end,0,0\nstep=enter,0,1\nstep=fire,1,0\nstep=end,1,0\nstep=enter,1,1\nstep=finish,0\nstep=finish,1\n") (prints wholeReport)
     ∷ case P (answerWith 13 5 "step=fire,0,0\nstep=end,0,0\nstep=enter,0,1\nstep=finish,0\nstep=fire,1,0\nstep=end,1,0\nstep=enter,1,1\nstep=finish,1\n") (prints wholeReport)
-    ∷ case P (answerWith 6 5 "step=fire,1,0\n") (ends 5 34)
+    ∷ case P (answerWith 6 5 "step=fire,1,0\n") (endsAt 5 34 0)
     ∷ case P+ (answerWith 11 6 "step=fire,0,0\nstep=end,0,0\nstep=enter,0,1\nstep=finish,0\nstep=fire,1,0\n") (ends 10 35)
     ∷ case P+ (answerWith 12 6 "step=fire,0,0\nstep=end,0,0\nstep=enter,0,1\nstep=fire,1,0\nstep=finish,0\nstep=fire,0,1\n") (ends 11 36)
     ∷ case P (answerWith 6 6 "") (ends 5 10)
@@ -68,12 +71,20 @@ table =
     ∷ case (programP "-,0") (answerWith 8 5 "step=fire,0,0\nstep=end,0,0\nstep=fire,1,0\n") (ends 7 35)
     ∷ case (programP "-,0") (answerWith 7 5 "step=fire,0,0\nstep=fire,1,0\n") (ends 7 0)
     ∷ case (programP "1,0") (answerWith 8 5 "step=fire,0,0\nstep=end,0,0\nstep=fire,1,0\n") (ends 8 0)
+    -- 02, C-11: the program without its `con`
+    ∷ case (pairWith "1,-" ++ bytes "program=4\ndo=add,0,0\ndo=add,1,1\ndo=pushb,0,0\ndo=pushb,1,0\n") (answerWith 5 4 "step=fire,1,0\n") (endsAt 4 38 0)
     ∷ []
+
+-- what the judge comes to
+abbrev pub Comes : List ℕ → List ℕ → ℕ → ℕ → Concerned → Type 0
+Comes s a n k q =
+    (judged s a lentBytes .verdict .accepted ≡ n) × (judged s a lentBytes .verdict .refused ≡ k) × (judged s a lentBytes .verdict .port ≡ q)
 
 -- a case is met
 abbrev pub Met : List ℕ → List ℕ → Expected → Type 0
 Met s a (prints r) = printed s a ≡ r
-Met s a (ends n k) = (judged s a lentBytes .verdict .accepted ≡ n) × (judged s a lentBytes .verdict .refused ≡ k)
+Met s a (ends n k) = Comes s a n k NoPort
+Met s a (endsAt n k q) = Comes s a n k (UsePort q)
 
 abbrev pub AllMet : List Case → Type 0
 AllMet [] = Unit

@@ -7,6 +7,7 @@ use lib.ListN.{length, drop}
 use Rattle.forms.specs.Refusal.{tooLong, bufferShort}
 use Rattle.model.specs.declared.Text.{Text}
 use Rattle.model.specs.declared.Text.the-variants as text
+use Rattle.model.specs.declared.Concerned.the-variants.{NoPort}
 use Rattle.model.specs.declared.Walked.{Walked}
 use Rattle.reading.specs.Place.{upToLf, lineNumber, lineStart}
 use Rattle.report.specs.Report.{report}
@@ -45,7 +46,7 @@ faultPlace x n at s = elim (eqb n tooLong) [ true ↦ emptyAt x 0 | false ↦ li
 -- "After 1 to 6 the counts in the result are 0 and the report buffer holds its old bytes."
 unfoldable pub afterFault : Text → ℕ → ℕ → List ℕ → Judgement
 afterFault x n at s = record {
-  verdict = record { refused = n; accepted = 0; next = 0; written = 0; text = x; line = faultLine n at s };
+  verdict = record { refused = n; port = NoPort; accepted = 0; next = 0; written = 0; text = x; line = faultLine n at s };
   bytes = [];
   place = faultPlace x n at s;
 }
@@ -53,7 +54,7 @@ afterFault x n at s = record {
 -- "for 6, the empty start of the answer"
 unfoldable pub noRoom : Judgement
 noRoom = record {
-  verdict = record { refused = bufferShort; accepted = 0; next = 0; written = 0; text = text.Neither; line = 0 };
+  verdict = record { refused = bufferShort; port = NoPort; accepted = 0; next = 0; written = 0; text = text.Neither; line = 0 };
   bytes = [];
   place = emptyAt text.Answer 0;
 }
@@ -68,9 +69,9 @@ stepPlace refused accepted a =
 
 -- the verdict of a walk whose report has so many bytes
 abbrev pub walkVerdict : Walked → ℕ → Verdict
-walkVerdict w n = record { refused = w .refused; accepted = w .accepted; next = w .configuration .done; written = n; text = text.Neither; line = 0 }
+walkVerdict w n = record { refused = w .refused; port = w .port; accepted = w .accepted; next = w .configuration .done; written = n; text = text.Neither; line = 0 }
 
--- "After 10 to 37 .. the report shows the state before"; the report is r
+-- "After 10 to 37 ..", 38 too, "..  the report shows the state before"; the report is r
 unfoldable pub afterWalk : Walked → List ℕ → List ℕ → Judgement
 afterWalk w r a = record {
   verdict = walkVerdict w (length r);

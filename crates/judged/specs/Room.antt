@@ -18,6 +18,6 @@ ReportsFit = (s a : List ℕ) (w : Walked) → course s a ≡ reached w → leng
 unfoldable pub SixNever : Type 0
 SixNever = (s a : List ℕ) → judged s a lentBytes .verdict .refused ≢ bufferShort
 
--- "a report that doesn't fit gives 6 in place of the steps' number": that of six `next` on P has 116 bytes, and its last step gets 10
+-- "a report that doesn't fit gives 6 in place of the steps' number": that of six `next` on P has 123 bytes, and its last step gets 10
 unfoldable pub SixWhereShort : Type 0
-SixWhereShort = (judged P (answerWith 6 6 "") 116 .verdict .refused ≡ 10) × (judged P (answerWith 6 6 "") 115 .verdict .refused ≡ 6)
+SixWhereShort = (judged P (answerWith 6 6 "") 123 .verdict .refused ≡ 10) × (judged P (answerWith 6 6 "") 122 .verdict .refused ≡ 6)

@@ -11,6 +11,7 @@ use Rattle.model.specs.declared.Tables.{Tables}
 use Rattle.model.specs.declared.Program.{Program}
 use Rattle.model.specs.declared.Step.{Step}
 use Rattle.model.specs.declared.Walked.{Walked}
+use Rattle.model.specs.declared.Concerned.the-variants.{NoPort}
 use Rattle.model.specs.Empty.{start}
 use Rattle.model.specs.View.{stepsOf}
 use Rattle.reading.specs.Lines.{on, stop}
@@ -18,7 +19,7 @@ use Rattle.reading.specs.Texts.{answer}
 use Rattle.rules.specs.Step.{step}
 use Rattle.judged.specs.declared.Verdict.{Verdict}
 use Rattle.judged.specs.declared.Place.{Place}
-use Rattle.judged.specs.Course.{Course, reached, _>>=_, both, defaultDepth}
+use Rattle.judged.specs.Course.{Course, reached, both, defaultDepth, _>>=_}
 use Rattle.judged.specs.Judged.{Judgement, judged, ending, over, printed, lentBytes}
 use Rattle.judged.specs.Once.{Promised}
 
@@ -63,11 +64,11 @@ FixedPrint = (r : List ℕ) → (s : List ℕ) × (a : List ℕ) × (printed s a
 
 -- it walks the first step and then only counts
 unfoldable pub countOn : Tables → Program → List Step → Walked
-countOn t p [] = record { accepted = 0; refused = 0; configuration = start }
+countOn t p [] = record { accepted = 0; refused = 0; port = NoPort; configuration = start }
 countOn t p (s ∷ ss) =
     elim (eqb (step defaultDepth t p start s .refused) 0) [
-      | true ↦ record { accepted = suc (length ss); refused = 0; configuration = step defaultDepth t p start s .configuration }
-      | false ↦ record { accepted = 0; refused = step defaultDepth t p start s .refused; configuration = start }
+      | true ↦ record { accepted = suc (length ss); refused = 0; port = NoPort; configuration = step defaultDepth t p start s .configuration }
+      | false ↦ record { accepted = 0; refused = step defaultDepth t p start s .refused; port = step defaultDepth t p start s .port; configuration = start }
     ]
 
 unfoldable pub countingCourse : List ℕ → List ℕ → Course Walked

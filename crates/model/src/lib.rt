@@ -90,9 +90,16 @@ pub struct Configuration {
     pub done: usize,
 }
 
-// What a step answers: the number of the refusal, or 0, and the configuration after it.
+// The use port that a verdict is about: the lowest that failed, for 34 and 38 alone.
+pub enum Concerned {
+    NoPort,
+    UsePort(u8),
+}
+
+// What a step answers: the number of the refusal, or 0, the use port concerned, and the configuration after it.
 pub struct Stepped {
     pub refused: u8,
+    pub port: Concerned,
     pub configuration: Configuration,
 }
 
@@ -100,6 +107,7 @@ pub struct Stepped {
 pub struct Walked {
     pub accepted: usize,
     pub refused: u8,
+    pub port: Concerned,
     pub configuration: Configuration,
 }
 

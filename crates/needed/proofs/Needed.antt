@@ -1,7 +1,7 @@
 -- Each variant of a rule fails a demand on its example, and with the rules' own notions the variant is the rule.
 -- Assumes nothing.
 use Prim.Native.Nat.{ℕ, _<_}
-use mathlib.Core.Bool.{true, false, not, _&&_, true≢false}
+use mathlib.Core.Bool.{true, not, _&&_, true≢false}
 use mathlib.Core.List.{List, [], _∷_}
 use mathlib.Core.Path.{_≡_, refl, ap}
 use native.Mathlib.Omega.{arith}
@@ -16,9 +16,8 @@ use Rattle.model.specs.declared.Step.{Step}
 use Rattle.model.specs.declared.Instance.{Instance}
 use Rattle.model.specs.declared.Configuration.{Configuration}
 use Rattle.model.specs.declared.Stepped.{Stepped}
-use Rattle.model.specs.declared.Walked.{Walked}
 use Rattle.sets.specs.Mask.{member, collect}
-use Rattle.sets.specs.Test.{allBelow, anyBelow, tally}
+use Rattle.sets.specs.Test.{allBelow, anyBelow, lowest, tally}
 use Rattle.model.specs.Empty.{noTables, noProgram, noAnswer, start}
 use Rattle.model.specs.View.{isServed, listOf, queueOf, put, withQueue, withServers, withDone}
 use Rattle.forms.specs.Reader.{byte}
@@ -28,27 +27,27 @@ use Rattle.reading.specs.Fill.{headed, withType, withTransition, withPort, prog
 use Rattle.reading.specs.Kinds.{dueLine, countLineIn, initialLine, tranLine, behaviorLine, group, portLine, doId, doNumber, doEnds, doLine, stepId, stepNumber, stepLine}
 use Rattle.reading.specs.Lines.{each}
 use Rattle.reading.specs.Texts.{tranAt, behaviorAt, portAt, typeLines, instructionAt, sheet, stepAt, answer}
-use Rattle.rules.specs.Action.{instructionAction, moveAction, checkBy, actionCheck, effect}
+use Rattle.rules.specs.Action.{instructionAction, moveAction, checkBy, actionCheck, effect, concern}
 use Rattle.rules.specs.Add.{addCheck, added}
 use Rattle.rules.specs.Closing.{down, closed, zeroed, renewed}
-use Rattle.rules.specs.Con.{isOf, isUsePort, isProvidePort, conCheck, connected}
+use Rattle.rules.specs.Con.{isUsePort, isProvidePort, conCheck, connected}
 use Rattle.rules.specs.End.{endCheck, endTo}
 use Rattle.rules.specs.Enter.{enterRow, enterCheckBy, enterCheck, enterTo}
 use Rattle.rules.specs.Finish.{mayLeave, finishRow, finishCheck, finished}
 use Rattle.rules.specs.Fire.{fireRow, fireCheckBy, fireCheck, fireTo}
 use Rattle.rules.specs.Instance.{active, current, endsAt, leaving, entering, fired, endedBy, entered, withQueued}
 use Rattle.rules.specs.Standing.{Standing, entries, inTable, standing, someConnection}
-use Rattle.rules.specs.Ports.{wouldLeave, wouldEnter, refusing, serves, blocks, employs, failsUnserved, failsRefusing, failsInUse, PortCheck, portCheck}
+use Rattle.rules.specs.Ports.{isOf, wouldLeave, wouldEnter, refusing, serves, blocks, employs, failsUnconnected, failsUnserved, failsRefusing, failsInUse, PortCheck, portCheck, concerned}
 use Rattle.rules.specs.PushB.{pushbCheck, pushed}
 use Rattle.rules.specs.Step.{actionAt, action, numberBy, stepCheckWith, stepTo, step}
 use Rattle.rules.specs.Wait.{waitCheck}
 use Rattle.rules.specs.Walk.{oneMore, walkBy, walk, walkAnswer}
-use Rattle.report.specs.Report.{countText, instanceText, instanceAt, connectionLine, linesFrom, instancesText, connectionsText, reportWith, report}
+use Rattle.report.specs.Report.{countText, portText, instanceText, instanceAt, connectionLine, linesFrom, instancesText, connectionsText, reportWith, report}
 use Rattle.judged.specs.Cases.{nexts}
 use Rattle.judged.specs.Course.{short, read, both, course}
 use Rattle.judged.specs.Judged.{afterWalk, inRoom, ending, judged, printing, printed}
 use Rattle.rules.specs.Refusal.{serviceInUse, settle}
-use Rattle.rules.specs.Action.{Action, add, del, pushb, con, dcon, wait, fire, end, enter, finish}
+use Rattle.rules.specs.Action.{Action, add, wait}
 use Rattle.model.specs.View.{isUse, instance, connection}
 use Rattle.rules.specs.Instance.{portsOf}
 use Rattle.judged.specs.Cases.{P+}
@@ -61,7 +60,7 @@ use Rattle.needed.specs.Needed.{Variant, portCheckBy, variantStep, varia
 -- ---- with the rules' own notions
 
 port-check-as-ruled : (t : Tables) (y : Standing) (c : Configuration) (i : ℕ) (v w : Instance) → portCheckBy asRuled t y c i v w ≡ portCheck t y c i v w
-unfolding portCheckBy portCheck failsUnserved failsRefusing failsInUse serves blocks employs
+unfolding portCheckBy portCheck failsUnconnected failsUnserved failsRefusing failsInUse serves blocks employs
 port-check-as-ruled t y c i v w = refl
 
 -- so the two step and walk alike
@@ -70,7 +69,7 @@ unfolding step stepCheckWith actionCheck fireCheck enterCheck
 step-as-ruled default t p = ap by (λ i t y c j v w. port-check-as-ruled t y c j v w i)
   where
     by : PortCheck → Configuration → Step → Stepped
-    by x c s = settle (numberBy (checkBy (fireCheckBy x t (standing c) c) (enterCheckBy x t (standing c) c) default t (standing c) c) p c s) c (stepTo t p c s)
+    by x c s = settle (numberBy (checkBy (fireCheckBy x t (standing c) c) (enterCheckBy x t (standing c) c) default t (standing c) c) p c s) (concern t (standing c) c (action p c s)) c (stepTo t p c s)
 
 walk-as-ruled : (default : ℕ) (t : Tables) (p : Program) (c : Configuration) (ss : List Step) → variantWalk asRuled default t p c ss ≡ walk default t p c ss
 unfolding walk
@@ -104,7 +103,7 @@ record Computed : Type 0 where
   tokens : TokensAloneIsNeeded
 
 computed : Computed
-unfolding member collect allBelow anyBelow noTables noProgram noAnswer start isServed entries inTable listOf queueOf put withQueue withServers withDone key digit numberFrom membersFrom list oneForm twoForm fourForm listForm listsForm digitsIn numberText membersBelow moreText listText maskText inTurn oneText headed withType withTransition withPort programOf withInstruction answerOf withStep dueLine countLineIn initialLine tranLine behaviorLine group portLine doId doNumber doEnds doLine stepId stepNumber stepLine each tranAt behaviorAt portAt typeLines instructionAt sheet stepAt answer instructionAction moveAction actionCheck effect addCheck added down closed zeroed renewed isOf isUsePort isProvidePort conCheck connected endCheck endTo enterRow enterTo mayLeave finishRow finishCheck finished fireRow fireTo active current endsAt leaving entering fired endedBy entered withQueued wouldLeave wouldEnter refusing serves blocks employs failsUnserved failsRefusing failsInUse portCheck pushbCheck pushed actionAt action stepCheckWith stepTo step waitCheck oneMore walk walkAnswer tally countText instanceText instanceAt connectionLine linesFrom instancesText connectionsText reportWith report nexts short read both course afterWalk inRoom ending judged printing printed deeds between portCheckBy sheetTables sheetProgram answerSteps TokensAloneIsNeeded
+unfolding member collect allBelow anyBelow noTables noProgram noAnswer start isServed entries inTable listOf queueOf put withQueue withServers withDone key digit numberFrom membersFrom list oneForm twoForm fourForm listForm listsForm digitsIn numberText membersBelow moreText listText maskText inTurn oneText headed withType withTransition withPort programOf withInstruction answerOf withStep dueLine countLineIn initialLine tranLine behaviorLine group portLine doId doNumber doEnds doLine stepId stepNumber stepLine each tranAt behaviorAt portAt typeLines instructionAt sheet stepAt answer instructionAction moveAction actionCheck effect concern addCheck added down closed zeroed renewed isOf isUsePort isProvidePort conCheck connected endCheck endTo enterRow enterTo mayLeave finishRow finishCheck finished fireRow fireTo active current endsAt leaving entering fired endedBy entered withQueued wouldLeave wouldEnter refusing serves blocks employs failsUnconnected failsUnserved failsRefusing failsInUse portCheck lowest concerned pushbCheck pushed actionAt action stepCheckWith stepTo step waitCheck oneMore walk walkAnswer tally countText portText instanceText instanceAt connectionLine linesFrom instancesText connectionsText reportWith report nexts short read both course afterWalk inRoom ending judged printing printed deeds between portCheckBy sheetTables sheetProgram answerSteps TokensAloneIsNeeded
 computed = record {
   in-use = record { ruled = refl; allows = refl; present = refl; port = refl; fails = refl };
   ended = record { ruled = refl; allows = refl; present = refl; port = refl; fails = refl };

@@ -17,14 +17,14 @@ use Rattle.model.specs.declared.Stepped.{Stepped}
 use Rattle.model.specs.declared.Walked.{Walked}
 use Rattle.model.specs.Empty.{start}
 use Rattle.model.specs.View.{isUse, groupPlaces, groupTransitions, instance}
-use Rattle.rules.specs.Refusal.{_⇒_∣_, allowed, unserved, providerRefusing, serviceInUse, settle}
+use Rattle.rules.specs.Refusal.{_⇒_∣_, allowed, unserved, providerRefusing, serviceInUse, unconnected, settle}
 use Rattle.rules.specs.Instance.{active, portsOf}
 use Rattle.rules.specs.Standing.{Standing, standing, someConnection}
-use Rattle.rules.specs.Ports.{behavior, wouldLeave, wouldEnter, refusing, PortCheck, portCheck}
+use Rattle.rules.specs.Ports.{isOf, behavior, wouldLeave, wouldEnter, refusing, PortCheck, portCheck}
 use Rattle.rules.specs.Fire.{afterFire, fireCheckBy}
 use Rattle.rules.specs.Enter.{afterEnter, enterCheckBy}
-use Rattle.rules.specs.Action.{Action, add, del, pushb, con, dcon, wait, fire, end, enter, finish, checkBy}
-use Rattle.rules.specs.Step.{numberBy, stepTo}
+use Rattle.rules.specs.Action.{Action, add, del, pushb, con, dcon, wait, fire, end, enter, finish, checkBy, concern}
+use Rattle.rules.specs.Step.{action, numberBy, stepTo}
 use Rattle.rules.specs.Walk.{walkBy, walk}
 use Rattle.judged.specs.Cases.{P+, answerWith}
 use Rattle.judged.specs.Course.{defaultDepth}
@@ -55,18 +55,19 @@ portCheckBy x t y c i v w =
     let before : ℕ → Bool = x .active t v in
     let after : ℕ → Bool = x .active t w in
     let active : ℕ → ℕ → Bool = λ j. x .active t (instance c j) in
-    anyBelow (portsOf t v) (λ q. uses q && (after q && not (someProvider y i q active))) ⇒ unserved
+    anyBelow (portsOf t v) (λ q. uses q && (after q && not (y .some (isOf i q)))) ⇒ unconnected
+    ∣ anyBelow (portsOf t v) (λ q. uses q && (after q && not (someProvider y i q active))) ⇒ unserved
     ∣ anyBelow (portsOf t v) (λ q. uses q && (after q && (not (before q) && someProvider y i q (x .refusing t c)))) ⇒ providerRefusing
     ∣ x .third && anyBelow (portsOf t v) (λ q. not (uses q) && (before q && (not (after q) && someUser y i q active))) ⇒ serviceInUse
     ∣ allowed
 
--- the rules' own walk with that check in the place of 34, 35 and 36
+-- the rules' own walk with that check in the place of 38, 34, 35 and 36
 abbrev pub variantCheck : Variant → ℕ → Tables → Configuration → Action → ℕ
 variantCheck x default t c a =
     let y : Standing = standing c in checkBy (fireCheckBy (portCheckBy x) t y c) (enterCheckBy (portCheckBy x) t y c) default t y c a
 
 abbrev pub variantStep : Variant → ℕ → Tables → Program → Configuration → Step → Stepped
-variantStep x default t p c s = settle (numberBy (variantCheck x default t c) p c s) c (stepTo t p c s)
+variantStep x default t p c s = settle (numberBy (variantCheck x default t c) p c s) (concern t (standing c) c (action p c s)) c (stepTo t p c s)
 
 abbrev pub variantWalk : Variant → ℕ → Tables → Program → Configuration → List Step → Walked
 variantWalk x default t p c ss = walkBy (variantStep x default t p) c ss

@@ -3,8 +3,9 @@
 use Prim.Native.Nat.{ℕ, zero, suc, _+_, _*_, _^_, _<_, _≤_}
 use mathlib.Core.List.{List}
 use mathlib.Core.Bool.{true}
-use mathlib.Core.Path.{_≡_, ap}
+use mathlib.Core.Path.{_≡_, ap, refl}
 use native.Mathlib.Omega.{arith}
+use lib.Dec.{lit≤}
 use lib.ListN.{length, length-append}
 use Rattle.sets.specs.Test.{tally}
 use Rattle.sets.proofs.Tally.{tally-le}
@@ -15,6 +16,8 @@ use Rattle.model.specs.declared.Tables.{Tables}
 use Rattle.model.specs.declared.Program.{Program}
 use Rattle.model.specs.declared.Connection.{Connection}
 use Rattle.model.specs.declared.Configuration.{Configuration}
+use Rattle.model.specs.declared.Concerned.{Concerned}
+use Rattle.model.specs.declared.Concerned.the-variants.{NoPort, UsePort}
 use Rattle.model.specs.declared.Walked.{Walked}
 use Rattle.model.specs.View.{typeOf, instance, isServed, connection, slot, queueOf}
 use Rattle.reading.specs.Lawful.{Lawful}
@@ -23,7 +26,7 @@ use Rattle.rules.specs.Proper.{Joins, Proper}
 use Rattle.rules.proofs.Allowed.{present-in}
 use Rattle.rules.proofs.Connections.{count-is}
 use Rattle.rules.proofs.Tables.{Facts, facts}
-use Rattle.report.specs.Report.{countText, instanceText, connectionText, instanceAt, connectionLine, instancesText, reportWith, report}
+use Rattle.report.specs.Report.{countText, portText, instanceText, connectionText, instanceAt, connectionLine, instancesText, reportWith, report}
 use Rattle.report.proofs.Sums.{length-inTurn, sum-le}
 use Rattle.report.proofs.Lines.{lineAt, lines-in-turn}
 use Rattle.report.proofs.Widths.{number-le, places-le, apart-le, queue-le}
@@ -32,6 +35,12 @@ use Rattle.report.proofs.Widths.{number-le, places-le, apart-le, queue-
 pub count-le : (k : List ℕ) (n v : ℕ) → v < 10 ^ suc n → length (countText k v) ≤ length k + suc n + 1
 unfolding countText oneText
 count-le k n v h = simp length-append (omega (arith, number-le n v h))
+
+-- the line of a port of two digits
+port-le : (k : Concerned) → ((q : ℕ) → k ≡ UsePort q → q < 16) → length (portText k) ≤ 8
+unfolding portText
+port-le NoPort h = lit≤ tt
+port-le (UsePort q) h = count-le (bytes "port=") 1 q (omega (arith, h q refl))
 
 module _ (default : ℕ) (t : Tables) (p : Program) (c : Configuration) (f : Facts default t p) (w : Proper default t p c) where
   -- ---- instances
@@ -84,15 +93,16 @@ module _ (default : ℕ) (t : Tables) (p : Program) (c : Configuration) (f : Fac
 
 -- ---- the whole
 pub report-le : (default : ℕ) (t : Tables) (p : Program) (w : Walked)
-    → default ≤ 8 → Lawful t p → Proper default t p (w .configuration) → w .accepted ≤ 1024 → w .refused < 100 → length (report w) ≤ 8182
+    → default ≤ 8 → Lawful t p → Proper default t p (w .configuration) → w .accepted ≤ 1024 → w .refused < 100 → ((q : ℕ) → w .port ≡ UsePort q → q < 16) → length (report w) ≤ 8182
 unfolding report reportWith
-report-le default t p w small law proper accepted refused =
+report-le default t p w small law proper accepted refused port =
     let c = w .configuration in
     let f = facts default t p small law in
     simp length-append (omega (
       arith,
       count-le (bytes "accepted=") 3 (w .accepted) (omega arith),
       count-le (bytes "refused=") 1 (w .refused) refused,
+      port-le (w .port) port,
       count-le (bytes "next=") 2 (c .done) (omega (arith, proper .done, f .program)),
       count-le (bytes "instances=") 1 (tally 32 (λ i. instance c i .present)) (omega (arith, tally-le 32 (λ i. instance c i .present))),
       instances-le default t p c f proper,

@@ -23,7 +23,7 @@ linksText x = inTurn (λ u. inTurn (linkAt x (x .count) u) 16) 32
 
 -- all but the connections
 abbrev pub unlistedWalked : ListedWalked → Walked
-unlistedWalked v = record { accepted = v .accepted; refused = v .refused; configuration = unlisted (v .outcome) }
+unlistedWalked v = record { accepted = v .accepted; refused = v .refused; port = v .port; configuration = unlisted (v .outcome) }
 
 unfoldable pub listedReport : ListedWalked → List ℕ
 listedReport v = reportWith (unlistedWalked v) (v .outcome .connections .count) (linksText (v .outcome .connections))

@@ -9,6 +9,8 @@ use Rattle.forms.specs.Write.{onlyIf, numberText, listText, maskText, inTurn, o
 use Rattle.model.specs.declared.Instance.{Instance}
 use Rattle.model.specs.declared.Connection.{Connection}
 use Rattle.model.specs.declared.Configuration.{Configuration}
+use Rattle.model.specs.declared.Concerned.{Concerned}
+use Rattle.model.specs.declared.Concerned.the-variants.{NoPort, UsePort}
 use Rattle.model.specs.declared.Walked.{Walked}
 use Rattle.model.specs.Empty.{noServer}
 use Rattle.model.specs.View.{instance, connectionOf, queueOf}
@@ -27,6 +29,11 @@ instanceText i w q =
 -- `connection=user,useport,provider,provideport`
 unfoldable pub connectionText : Connection → List ℕ
 connectionText k = bytes "connection=" ++ fourText (k .user) (k .useport) (k .provider) (k .provideport)
+
+-- "in a line `port=` after `refused=`; it is `-`" where no use port is concerned
+unfoldable pub portText : Concerned → List ℕ
+portText NoPort = bytes "port=-\n"
+portText (UsePort q) = countText (bytes "port=") q
 
 -- instance i's line, nothing where it is absent
 unfoldable pub instanceAt : Configuration → ℕ → List ℕ
@@ -48,11 +55,11 @@ instancesText c = inTurn (instanceAt c) 32
 unfoldable pub connectionsText : Configuration → List ℕ
 connectionsText c = linesFrom 0 (c .servers)
 
--- "`accepted=` (steps allowed), `refused=` (0 or the number), `next=` (instructions done), `instances=`, .. `connections=`, ..": there are n
+-- "`accepted=` (steps allowed), `refused=` (0 or the number)", `port=`, "`next=` (instructions done), `instances=`, .. `connections=`, ..": there are n
 -- connections, and their lines are ls
 unfoldable pub reportWith : Walked → ℕ → List ℕ → List ℕ
 reportWith w n ls =
-    countText (bytes "accepted=") (w .accepted) ++ countText (bytes "refused=") (w .refused)
+    countText (bytes "accepted=") (w .accepted) ++ countText (bytes "refused=") (w .refused) ++ portText (w .port)
     ++ countText (bytes "next=") (w .configuration .done)
     ++ countText (bytes "instances=") (tally 32 (λ i. instance (w .configuration) i .present)) ++ instancesText (w .configuration)
     ++ countText (bytes "connections=") n ++ ls

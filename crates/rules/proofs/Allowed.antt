@@ -21,11 +21,11 @@ use Rattle.model.specs.View.{typeOf, isUse, instance}
 use Rattle.rules.specs.Refusal.{_⇒_∣_, allowed, idAbsent, queueEmpty, noTransition, notReady, heldOrMarked, orNumber}
 use Rattle.rules.specs.Instance.{held, active, portsOf}
 use Rattle.rules.specs.Standing.{standing, someConnection}
-use Rattle.rules.specs.Ports.{serves, employs, failsUnserved, failsRefusing, failsInUse, portCheck}
+use Rattle.rules.specs.Ports.{isOf, serves, blocks, employs, failsUnconnected, failsUnserved, failsRefusing, failsInUse, portCheck}
 use Rattle.rules.specs.Add.{addCheck}
 use Rattle.rules.specs.Del.{namedBy, delCheck}
 use Rattle.rules.specs.PushB.{depthOf, pushbCheck}
-use Rattle.rules.specs.Con.{isOf, isUsePort, isProvidePort, conCheck}
+use Rattle.rules.specs.Con.{isUsePort, isProvidePort, conCheck}
 use Rattle.rules.specs.DCon.{sameConnection, dconCheck}
 use Rattle.rules.specs.Fire.{fireRow, fireCheck, leavers, afterFire}
 use Rattle.rules.specs.End.{endCheck}
@@ -194,22 +194,36 @@ finish-facts t c i e =
 
 -- ---- the port checks
 
+pub record PortsPass (t : Tables) (c : Configuration) (i : ℕ) (v w : Instance) : Type 0 where
+  pub connected : anyBelow (portsOf t v) (failsUnconnected t (standing c) c i w) ≡ false
+  pub served : anyBelow (portsOf t v) (failsUnserved t (standing c) c i w) ≡ false
+  pub welcome : anyBelow (portsOf t v) (failsRefusing t (standing c) c i v w) ≡ false
+  pub unused : anyBelow (portsOf t v) (failsInUse t (standing c) c i v w) ≡ false
+
+ports-pass : (t : Tables) (c : Configuration) (i : ℕ) (v w : Instance) → portCheck t (standing c) c i v w ≡ 0 → PortsPass t c i v w
+unfolding portCheck
+ports-pass t c i v w ok =
+    let (connected, e₁) = passes (anyBelow (portsOf t v) (failsUnconnected t (standing c) c i w)) _ ok in
+    let (served, e₂) = passes (anyBelow (portsOf t v) (failsUnserved t (standing c) c i w)) _ e₁ in
+    let (welcome, e₃) = passes (anyBelow (portsOf t v) (failsRefusing t (standing c) c i v w)) _ e₂ in
+    let (unused, _) = passes (anyBelow (portsOf t v) (failsInUse t (standing c) c i v w)) _ e₃ in
+    record { connected = connected; served = served; welcome = welcome; unused = unused }
+
 module _ (t : Tables) (c : Configuration) (i : ℕ) (v w : Instance) (ok : portCheck t (standing c) c i v w ≡ 0) (q : ℕ) (h : q < portsOf t v) where
   -- 34: a use port active after is served
   pub served : isUse t (w .kind) q ≡ true → active t w q ≡ true → someConnection c (serves t c i q) ≡ true
-  unfolding portCheck failsUnserved
-  served u a =
-      let (none, _) = passes (anyBelow (portsOf t v) (failsUnserved t (standing c) c i w)) _ ok in
-      not-false (someConnection c (serves t c i q)) (rw (u, a) at (any-none (portsOf t v) (failsUnserved t (standing c) c i w) none q h))
+  unfolding failsUnserved
+  served u a = not-false (someConnection c (serves t c i q)) (rw (u, a) at (any-none _ _ (ports-pass t c i v w ok .served) q h))
+
+  -- 35: a use port that falls active is not connected to a refusing provide port
+  pub welcome : isUse t (w .kind) q ≡ true → active t v q ≡ false → active t w q ≡ true → someConnection c (blocks t c i q) ≡ false
+  unfolding failsRefusing
+  welcome u off on = rw (u, on, off) at (any-none _ _ (ports-pass t c i v w ok .welcome) q h)
 
   -- 36: no active use port is connected to a provide port that falls inactive
   pub unused : isUse t (w .kind) q ≡ false → active t v q ≡ true → active t w q ≡ false → someConnection c (employs t c i q) ≡ false
-  unfolding portCheck failsInUse
-  unused u a b =
-      let (_, e₁) = passes (anyBelow (portsOf t v) (failsUnserved t (standing c) c i w)) _ ok in
-      let (_, e₂) = passes (anyBelow (portsOf t v) (failsRefusing t (standing c) c i v w)) _ e₁ in
-      let (none, _) = passes (anyBelow (portsOf t v) (failsInUse t (standing c) c i v w)) _ e₂ in
-      rw (u, a, b) at (any-none (portsOf t v) (failsInUse t (standing c) c i v w) none q h)
+  unfolding failsInUse
+  unused u a b = rw (u, a, b) at (any-none _ _ (ports-pass t c i v w ok .unused) q h)
 
 -- ---- who is present
 

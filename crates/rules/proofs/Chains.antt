@@ -2,20 +2,20 @@
 -- Assumes nothing.
 use mathlib.Core.Path.{_≡_, refl, sym, ap, _∙_}
 use mathlib.Core.Logic.{_⊎_, inl, inr, _≢_, by-cases}
-use mathlib.Core.Bool.{Bool, true, false, cond, false≢true}
-use Prim.Native.Nat.{ℕ, zero, suc, _-_, _≤_, _<_}
+use mathlib.Core.Bool.{Bool, true, false, false≢true}
+use Prim.Native.Nat.{ℕ, suc, _-_, _≤_, _<_}
 use native.Mathlib.Omega.{arith}
 use native.Mathlib.Decide.{decLt}
 use lib.ListN.{length}
 use lib.Seq.{getD-set-same, getD-set-other}
 use borrow.Author.Tests.{eq-eqb}
-use Rattle.sets.specs.Test.{anyBelow}
 use Rattle.sets.proofs.Laws.{any-none, any-some}
+use Rattle.sets.proofs.Lowest.{lowest-holds}
 use Rattle.model.specs.declared.Connection.{Connection}
 use Rattle.model.specs.Empty.{noConnection}
-use Rattle.rules.specs.Con.{isOf}
+use Rattle.rules.specs.Ports.{isOf}
 use Rattle.rules.specs.DCon.{sameConnection}
-use Rattle.rules.specs.Listed.{Chain, linked, inList, firstBelow, placeOf, appended, removed, InList}
+use Rattle.rules.specs.Listed.{Chain, linked, inList, placeOf, appended, removed, InList}
 use Rattle.rules.proofs.Closing.{closed-outside, closed-inside}
 use Rattle.rules.proofs.Connections.{same-is}
 
@@ -79,15 +79,6 @@ module _ (x : Chain) (k : Connection) where
 
 -- ---- removed
 
-first-is : (n : ℕ) (p : ℕ → Bool) → anyBelow n p ≡ true → (firstBelow n p < n) × (p (firstBelow n p) ≡ true)
-unfolding anyBelow firstBelow
-first-is zero p e = absurd (false≢true e)
-first-is (suc n) p e = go (anyBelow n p) refl (first-is n p)
-  where
-    go : (b : Bool) → anyBelow n p ≡ b → (anyBelow n p ≡ true → (firstBelow n p < n) × (p (firstBelow n p) ≡ true)) → (cond b (firstBelow n p) n < suc n) × (p (cond b (firstBelow n p) n) ≡ true)
-    go true q f = let r = f q in let h = r .0 in (omega arith, r .1)
-    go false q f = (omega arith, rw q at e)
-
 -- l is where m goes when the gap at `at` is closed
 abbrev Moved : ℕ → ℕ → ℕ → Type 0
 Moved at l m = ((l < at) × (m ≡ l)) ⊎ ((at ≤ l) × (m ≡ suc l))
@@ -95,11 +86,11 @@ Moved at l m = ((l < at) × (m ≡ l)) ⊎ ((at ≤ l) × (m ≡ suc l))
 module _ (x : Chain) (k : Connection) (stands : inList x .some (sameConnection k) ≡ true) (fits : x .count ≤ length (x .list)) where
   place-in : placeOf x k < x .count
   unfolding inList
-  place-in = first-is (x .count) (λ l. sameConnection k (linked x l)) stands .0
+  place-in = lowest-holds (x .count) (λ l. sameConnection k (linked x l)) stands .below
 
   place-is : linked x (placeOf x k) ≡ k
   unfolding inList
-  place-is = same-is k (linked x (placeOf x k)) (first-is (x .count) (λ l. sameConnection k (linked x l)) stands .1)
+  place-is = same-is k (linked x (placeOf x k)) (lowest-holds (x .count) (λ l. sameConnection k (linked x l)) stands .passes)
 
   pub place-stands : InList x k
   place-stands = (placeOf x k, place-in, place-is)

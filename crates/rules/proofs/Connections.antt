@@ -25,8 +25,9 @@ use Rattle.forms.proofs.Tests.{by-test, and-left, and-right}
 use Rattle.rules.specs.Standing.{entries, inTable, standing, someConnection}
 use Rattle.rules.specs.Instance.{portsOf, fired, endedBy, entered, withQueued}
 use Rattle.rules.specs.Del.{namedBy}
-use Rattle.rules.specs.Con.{isOf, isUsePort, isProvidePort, connected}
+use Rattle.rules.specs.Con.{isUsePort, isProvidePort, connected}
 use Rattle.rules.specs.DCon.{sameConnection, disconnected}
+use Rattle.rules.specs.Ports.{isOf}
 use Rattle.rules.specs.Action.{Action, add, del, pushb, con, dcon, wait, fire, end, enter, finish, actionCheck, effect}
 use Rattle.rules.specs.Step.{checkAt}
 use Rattle.rules.specs.Proper.{Joins, WellFormed, SlotIsItsPort, EntriesAreSmall}

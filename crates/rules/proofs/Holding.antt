@@ -1,32 +1,32 @@
 -- A port that is ready to be cut refuses, so no new user comes to hold it.
 -- Assumes nothing.
-use mathlib.Core.Path.{_≡_, refl, sym, ap, _∙_}
+use mathlib.Core.Path.{_≡_, refl, sym, _∙_}
 use mathlib.Core.Logic.{_⊎_, inl, inr, _≢_, ⊎-elim, by-cases}
-use mathlib.Core.Bool.{Bool, true, false, not, _&&_, _||_, or-true, and-eq-true-iff, false≢true, true≢false}
-use Prim.Native.Nat.{ℕ, _<_}
+use mathlib.Core.Bool.{Bool, true, false, not, or-true, and-eq-true-iff, true≢false, _||_}
+use Prim.Native.Nat.{ℕ}
 use native.Mathlib.Omega.{arith}
 use native.Mathlib.Decide.{ℕ-discrete, decLt}
 use lib.Dec.{eqb}
 use lib.ListN.{length}
-use borrow.Author.Tests.{eqb-true, eq-eqb, not-true, not-false}
+use borrow.Author.Tests.{eqb-true, eq-eqb, not-true}
 use Rattle.sets.specs.Test.{anyBelow}
 use Rattle.sets.specs.Mask.{member, collect, overlaps, within}
-use Rattle.sets.proofs.Laws.{any-hit, any-some, any-none, collect-same, member-past}
+use Rattle.sets.proofs.Laws.{any-hit, any-some, collect-same, member-past}
 use Rattle.forms.proofs.Tests.{by-test}
 use Rattle.model.specs.declared.Tables.{Tables}
 use Rattle.model.specs.declared.Instance.{Instance}
 use Rattle.model.specs.declared.Connection.{Connection}
 use Rattle.model.specs.declared.Configuration.{Configuration}
-use Rattle.model.specs.View.{source, destination, isUse, instance, queueHead, put}
+use Rattle.model.specs.View.{source, destination, instance, queueHead, put}
 use Rattle.model.proofs.View.{put-same, put-other, put-past}
 use Rattle.rules.specs.Standing.{standing, someConnection}
-use Rattle.rules.specs.Instance.{held, active, portsOf, current, endsAt, leaving, entering, fired, entered}
-use Rattle.rules.specs.Ports.{behavior, wouldLeave, wouldEnter, refusing, blocks, employs, failsUnserved, failsRefusing, portCheck}
+use Rattle.rules.specs.Instance.{held, active, current, endsAt, leaving, entering}
+use Rattle.rules.specs.Ports.{behavior, wouldLeave, wouldEnter, refusing, blocks, employs, portCheck}
 use Rattle.rules.specs.Fire.{fireRow, leavers, afterFire}
 use Rattle.rules.specs.Enter.{enterRow, enterers, afterEnter}
 use Rattle.rules.specs.Proper.{WellFormed}
 use Rattle.rules.specs.Holding.{Ready, ReadyToCut, ReadyIsRefusing, RefusingIsReady, NewUsersHoldNobody}
-use Rattle.rules.proofs.Allowed.{passes, meets}
+use Rattle.rules.proofs.Allowed.{passes, meets, welcome}
 use Rattle.rules.proofs.Connections.{Joined, some-joined, joined-none, joined-joins}
 
 module _ (t : Tables) (c : Configuration) (j p q : ℕ) where
@@ -117,15 +117,6 @@ refusing-is-ready t c j q here e =
     let (row, off) = enter-ready t c j q p here is in
     record { place = p; small = h; next = afterEnter t c j p; ready = inr (row, refl); before = on; after = off })
     (either (anyBelow 16 (wouldLeave t (instance c j) m q)) _ some)
-
--- 35: a use port that falls active is not connected to a refusing provide port
-welcome : (t : Tables) (c : Configuration) (i : ℕ) (v w : Instance) → portCheck t (standing c) c i v w ≡ 0 → (q : ℕ) → q < portsOf t v
-    → isUse t (w .kind) q ≡ true → active t v q ≡ false → active t w q ≡ true → someConnection c (blocks t c i q) ≡ false
-unfolding portCheck failsRefusing
-welcome t c i v w ok q h u off on =
-    let (_, e₁) = passes (anyBelow (portsOf t v) (failsUnserved t (standing c) c i w)) _ ok in
-    let (none, _) = passes (anyBelow (portsOf t v) (failsRefusing t (standing c) c i v w)) _ e₁ in
-    rw (u, on, off) at (any-none (portsOf t v) (failsRefusing t (standing c) c i v w) none q h)
 
 module _ (t : Tables) (c : Configuration) (i j q : ℕ) (w : Instance) (formed : WellFormed t c) (kind : w .kind ≡ instance c i .kind)
     (ok : portCheck t (standing c) c i (instance c i) w ≡ 0) (ready : ReadyToCut t c j q) (unused : someConnection c (employs t c j q) ≡ false) where

@@ -13,3 +13,4 @@ pub mod Chains
 pub mod Same
 pub mod Listed
 pub mod Holding
+pub mod Named

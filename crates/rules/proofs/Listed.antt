@@ -1,6 +1,6 @@
 -- The walk over the table and the walk over the list go together, step by step.
 -- Assumes nothing.
-use mathlib.Core.Path.{_≡_, refl, sym, ap, _∙_, subst}
+use mathlib.Core.Path.{_≡_, refl, sym, ap, ap₂, _∙_, subst}
 use mathlib.Core.Logic.{_≢_}
 use mathlib.Core.Bool.{_&&_, cond}
 use mathlib.Core.List.{List, [], _∷_}
@@ -12,14 +12,15 @@ use Rattle.model.specs.declared.Tables.{Tables}
 use Rattle.model.specs.declared.Program.{Program}
 use Rattle.model.specs.declared.Step.{Step}
 use Rattle.model.specs.declared.Configuration.{Configuration}
+use Rattle.model.specs.declared.Concerned.{Concerned}
 use Rattle.model.specs.declared.Walked.{Walked}
 use Rattle.model.specs.Empty.{start}
 use Rattle.model.specs.View.{put, withQueue, withServers, withDone}
 use Rattle.reading.specs.Lawful.{Lawful}
 use Rattle.rules.specs.Refusal.{noInstructionLeft}
-use Rattle.rules.specs.Standing.{Standing, inTable}
+use Rattle.rules.specs.Standing.{Standing, inTable, standing}
 use Rattle.rules.specs.Closing.{renewed}
-use Rattle.rules.specs.Ports.{serves, blocks, employs, failsUnserved, failsRefusing, failsInUse, portCheck}
+use Rattle.rules.specs.Ports.{serves, blocks, employs, failsUnconnected, failsUnserved, failsRefusing, failsInUse, portCheck, concerned}
 use Rattle.rules.specs.Add.{addCheck, added}
 use Rattle.rules.specs.Del.{delCheck, deleted}
 use Rattle.rules.specs.PushB.{pushbCheck, pushed}
@@ -30,11 +31,11 @@ use Rattle.rules.specs.Fire.{fireCheck, fireTo}
 use Rattle.rules.specs.End.{endCheck, endTo}
 use Rattle.rules.specs.Enter.{enterCheck, enterTo}
 use Rattle.rules.specs.Finish.{finishCheck, finished}
-use Rattle.rules.specs.Action.{Action, add, del, pushb, con, dcon, wait, fire, end, enter, finish, actionCheck, effect}
+use Rattle.rules.specs.Action.{Action, add, del, pushb, con, dcon, wait, fire, end, enter, finish, actionCheck, effect, concern}
 use Rattle.rules.specs.Step.{isNext, actionAt, action, stepCheckWith, checkAt, stepCheck, stepTo}
 use Rattle.rules.specs.Walk.{oneMore, walk}
 use Rattle.rules.specs.Proper.{Proper}
-use Rattle.rules.specs.Listed.{Chain, Listed, listed, unlisted, listedStart, inList, relinked, listedCheck, listedTo, ListedWalked, oneMoreListed, listedWalk, Agrees, TableAndListAgree}
+use Rattle.rules.specs.Listed.{Chain, Listed, listed, unlisted, listedStart, inList, relinked, listedCheck, listedPort, listedTo, ListedWalked, oneMoreListed, listedWalk, Agrees, TableAndListAgree}
 use Rattle.rules.proofs.Tables.{Facts, facts}
 use Rattle.rules.proofs.Allowed.{con-facts, dcon-facts}
 use Rattle.rules.proofs.Walks.{walk-cases, number-facts, after-cases}
@@ -45,7 +46,7 @@ use Rattle.rules.proofs.Same.{Same, asked-same, start-same, con-same, d
 -- ---- no rule looks at the table but through what stands
 
 check-free : (default : ℕ) (t : Tables) (z : Standing) (c : Configuration) (y : Chain) (a : Action) → actionCheck default t z (unlisted (listed c y)) a ≡ actionCheck default t z c a
-unfolding actionCheck addCheck delCheck pushbCheck conCheck isUsePort isProvidePort dconCheck waitCheck fireCheck endCheck enterCheck finishCheck portCheck failsUnserved failsRefusing failsInUse serves blocks employs
+unfolding actionCheck addCheck delCheck pushbCheck conCheck isUsePort isProvidePort dconCheck waitCheck fireCheck endCheck enterCheck finishCheck portCheck failsUnconnected failsUnserved failsRefusing failsInUse serves blocks employs
 check-free default t z c y (add i k) = refl
 check-free default t z c y (del i) = refl
 check-free default t z c y (pushb i b) = refl
@@ -56,6 +57,19 @@ check-free default t z c y (fire i p) = refl
 check-free default t z c y (end i x) = refl
 check-free default t z c y (enter i p) = refl
 check-free default t z c y (finish i) = refl
+
+concern-free : (t : Tables) (z : Standing) (c : Configuration) (y : Chain) (a : Action) (n : ℕ) → concern t z (unlisted (listed c y)) a n ≡ concern t z c a n
+unfolding concern concerned failsUnconnected failsUnserved serves
+concern-free t z c y (add i k) n = refl
+concern-free t z c y (del i) n = refl
+concern-free t z c y (pushb i b) n = refl
+concern-free t z c y (con k) n = refl
+concern-free t z c y (dcon k) n = refl
+concern-free t z c y (wait i) n = refl
+concern-free t z c y (fire i p) n = refl
+concern-free t z c y (end i x) n = refl
+concern-free t z c y (enter i p) n = refl
+concern-free t z c y (finish i) n = refl
 
 effect-free : (t : Tables) (c : Configuration) (y z : Chain) (a : Action) → listed (effect t (unlisted (listed c y)) a) z ≡ listed (effect t c a) z
 unfolding effect added deleted renewed pushed connected disconnected fireTo endTo enterTo finished put withQueue withServers
@@ -78,6 +92,10 @@ module _ (default : ℕ) (t : Tables) (p : Program) (c : Configuration) (y : Cha
   number-same same s =
       ap (λ (n : ℕ). cond (isNext s && leb (p .count) (c .done)) noInstructionLeft n)
       (check-free default t (inList y) c y (action p c s) ∙ ap (λ (z : Standing). actionCheck default t z c (action p c s)) (sym (asked-same (c .servers) y same)))
+
+  port-same : Same (c .servers) y → (s : Step) (n : ℕ) → listedPort t p (listed c y) s n ≡ concern t (standing c) c (action p c s) n
+  unfolding listedPort action
+  port-same same s n = concern-free t (inList y) c y (action p c s) n ∙ ap (λ (z : Standing). concern t z c (action p c s) n) (sym (asked-same (c .servers) y same))
 
   after-same : (s : Step) → listedTo t p (listed c y) s ≡ listed (stepTo t p c s) (relinked (action p c s) y)
   unfolding listedTo stepTo action withDone
@@ -117,7 +135,7 @@ module _ (default : ℕ) (t : Tables) (p : Program) (c : Configuration) (y : Cha
 -- v is w with a list that holds the same
 pub record Beside (w : Walked) (v : ListedWalked) : Type 0 where
   pub chain : Chain
-  pub is : v ≡ record { accepted = w .accepted; refused = w .refused; outcome = listed (w .configuration) chain }
+  pub is : v ≡ record { accepted = w .accepted; refused = w .refused; port = w .port; outcome = listed (w .configuration) chain }
   pub same : Same (w .configuration .servers) chain
 
 module _ (default : ℕ) (t : Tables) (p : Program) where
@@ -127,7 +145,7 @@ module _ (default : ℕ) (t : Tables) (p : Program) where
   listed-on l s ss e = rw (listedWalk, eq-eqb (listedCheck default t p l s) 0 e) refl
 
   listed-stop : (l : Listed) (s : Step) (ss : List Step) → listedCheck default t p l s ≢ 0
-      → listedWalk default t p l (s ∷ ss) ≡ record { accepted = 0; refused = listedCheck default t p l s; outcome = l }
+      → listedWalk default t p l (s ∷ ss) ≡ record { accepted = 0; refused = listedCheck default t p l s; port = listedPort t p l s (listedCheck default t p l s); outcome = l }
   unfolding listedWalk
   listed-stop l s ss n = rw (listedWalk, ne-eqb (listedCheck default t p l s) 0 n) refl
 
@@ -152,9 +170,12 @@ module _ (default : ℕ) (t : Tables) (p : Program) where
         let q = number-same default t p c y same s in
         record {
           chain = y;
-          is = listed-stop (listed c y) s ss (λ e. n (sym q ∙ e)) ∙ ap (λ (m : ℕ). record { accepted = 0; refused = m; outcome = listed c y }) q;
+          is = listed-stop (listed c y) s ss (λ e. n (sym q ∙ e)) ∙ ap₂ stopped q (ap (listedPort t p (listed c y) s) q ∙ port-same default t p c y same s (stepCheck default t p c s));
           same = same;
         })
+      where
+        stopped : ℕ → Concerned → ListedWalked
+        stopped m k = record { accepted = 0; refused = m; port = k; outcome = listed c y }
 
 start-listed : listedStart ≡ listed start (listedStart .connections)
 unfolding listedStart start
@@ -173,6 +194,7 @@ beside-agrees w v b =
     (record {
       accepted = refl;
       refused = refl;
+      port = refl;
       instances = refl;
       queue = refl;
       done = refl;

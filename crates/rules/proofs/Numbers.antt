@@ -1,4 +1,4 @@
--- A step's number is 0 or from 10 to 37, and a walk accepts no more steps than there are.
+-- A step's number is 0 or from 10 to 38, and a walk accepts no more steps than there are.
 -- Assumes nothing.
 use mathlib.Core.Path.{_≡_, refl}
 use mathlib.Core.Logic.{_⊎_, inl, inr}
@@ -33,12 +33,12 @@ use Rattle.rules.proofs.Walks.{walk-cases}
 
 -- 01's numbers of a step
 pub record Numbered (n : ℕ) : Type 0 where
-  pub range : (n ≡ 0) ⊎ ((10 ≤ n) × (n ≤ 37))
+  pub range : (n ≡ 0) ⊎ ((10 ≤ n) × (n ≤ 38))
 
 none : Numbered 0
 none = record { range = inl refl }
 
-row : (b : Bool) (n m : ℕ) → T (leb 10 n) → T (leb n 37) → Numbered m → Numbered (b ⇒ n ∣ m)
+row : (b : Bool) (n m : ℕ) → T (leb 10 n) → T (leb n 38) → Numbered m → Numbered (b ⇒ n ∣ m)
 row true n m h g f = record { range = inr (lit≤ h, lit≤ g) }
 row false n m h g f = f
 

@@ -14,7 +14,7 @@ use Rattle.model.specs.Empty.{noConnection, noServer, start}
 use Rattle.model.specs.View.{isServed}
 use Rattle.model.proofs.View.{start-lengths, start-unserved}
 use Rattle.rules.specs.Standing.{Standing, inTable}
-use Rattle.rules.specs.Con.{isOf}
+use Rattle.rules.specs.Ports.{isOf}
 use Rattle.rules.specs.DCon.{sameConnection}
 use Rattle.rules.specs.Listed.{Chain, placeOf, inList, appended, removed, InList, listedStart}
 use Rattle.rules.proofs.Closing.{length-closed}

@@ -14,10 +14,12 @@ use Rattle.model.specs.declared.Program.{Program}
 use Rattle.model.specs.declared.Step.{Step}
 use Rattle.model.specs.declared.Configuration.{Configuration}
 use Rattle.model.specs.declared.Stepped.{Stepped}
+use Rattle.model.specs.declared.Concerned.the-variants.{NoPort}
 use Rattle.model.specs.declared.Walked.{Walked}
 use Rattle.model.specs.View.{withDone}
 use Rattle.forms.proofs.Tests.{by-test}
-use Rattle.rules.specs.Action.{effect}
+use Rattle.rules.specs.Standing.{standing}
+use Rattle.rules.specs.Action.{concern, effect}
 use Rattle.rules.specs.Step.{isNext, action, stepCheckWith, checkAt, stepCheck, stepTo, step}
 use Rattle.rules.specs.Walk.{oneMore, walk}
 use Rattle.rules.specs.Refused.{RefusedChangesNothing, WalkIsItsAcceptedPart}
@@ -25,12 +27,12 @@ use Rattle.rules.proofs.Local.{rest-after}
 use Rattle.rules.proofs.Allowed.{passes}
 
 module _ (default : ℕ) (t : Tables) (p : Program) where
-  pub step-on : (c : Configuration) (s : Step) → stepCheck default t p c s ≡ 0 → step default t p c s ≡ record { refused = 0; configuration = stepTo t p c s }
+  pub step-on : (c : Configuration) (s : Step) → stepCheck default t p c s ≡ 0 → step default t p c s ≡ record { refused = 0; port = NoPort; configuration = stepTo t p c s }
   unfolding step
   step-on c s e = rw (eq-eqb (stepCheck default t p c s) 0 e)
 
   pub step-stop : (c : Configuration) (s : Step) → stepCheck default t p c s ≢ 0
-      → step default t p c s ≡ record { refused = stepCheck default t p c s; configuration = c }
+      → step default t p c s ≡ record { refused = stepCheck default t p c s; port = concern t (standing c) c (action p c s) (stepCheck default t p c s); configuration = c }
   unfolding step
   step-stop c s n = rw (ne-eqb (stepCheck default t p c s) 0 n)
 
@@ -39,7 +41,7 @@ module _ (default : ℕ) (t : Tables) (p : Program) where
   onward ss m =
       elim (eqb (m .refused) 0) [
         | true ↦ oneMore (walk default t p (m .configuration) ss)
-        | false ↦ record { accepted = 0; refused = m .refused; configuration = m .configuration }
+        | false ↦ record { accepted = 0; refused = m .refused; port = m .port; configuration = m .configuration }
       ]
 
   pub walk-on : (c : Configuration) (s : Step) (ss : List Step) → stepCheck default t p c s ≡ 0
@@ -48,14 +50,14 @@ module _ (default : ℕ) (t : Tables) (p : Program) where
   walk-on c s ss e = ap (onward ss) (step-on c s e)
 
   pub walk-stop : (c : Configuration) (s : Step) (ss : List Step) → stepCheck default t p c s ≢ 0
-      → walk default t p c (s ∷ ss) ≡ record { accepted = 0; refused = stepCheck default t p c s; configuration = c }
+      → walk default t p c (s ∷ ss) ≡ record { accepted = 0; refused = stepCheck default t p c s; port = concern t (standing c) c (action p c s) (stepCheck default t p c s); configuration = c }
   unfolding walk onward
   walk-stop c s ss n = ap (onward ss) (step-stop c s n) ∙ rw (ne-eqb (stepCheck default t p c s) 0 n, onward)
 
   -- a claim on walks, by their first steps
   pub walk-cases : (P : Walked → Type 0) (c : Configuration) (s : Step) (ss : List Step)
       → (stepCheck default t p c s ≡ 0 → P (oneMore (walk default t p (stepTo t p c s) ss)))
-      → (stepCheck default t p c s ≢ 0 → P (record { accepted = 0; refused = stepCheck default t p c s; configuration = c }))
+      → (stepCheck default t p c s ≢ 0 → P (record { accepted = 0; refused = stepCheck default t p c s; port = concern t (standing c) c (action p c s) (stepCheck default t p c s); configuration = c }))
       → P (walk default t p c (s ∷ ss))
   walk-cases P c s ss on stop =
       by-cases (ℕ-discrete (stepCheck default t p c s) 0) (λ e. subst⁻¹ P (walk-on c s ss e) (on e)) (λ n. subst⁻¹ P (walk-stop c s ss n) (stop n))
@@ -76,13 +78,20 @@ module _ (default : ℕ) (t : Tables) (p : Program) where
   allowed-tail c s ss =
       walk-cases (λ w. w .refused ≡ 0 → walk default t p (stepTo t p c s) ss .refused ≡ 0) c s ss (λ e q. q) (λ n q. absurd (n q))
 
+  -- an allowed walk names no port
+  pub walk-unnamed : (ss : List Step) (c : Configuration) → walk default t p c ss .refused ≡ 0 → walk default t p c ss .port ≡ NoPort
+  unfolding walk oneMore
+  walk-unnamed [] c = λ e. refl
+  walk-unnamed (s ∷ ss) c =
+      walk-cases (λ w. w .refused ≡ 0 → w .port ≡ NoPort) c s ss (λ _ e. walk-unnamed ss (stepTo t p c s) e) (λ n e. absurd (n e))
+
   walk-part : (ss : List Step) (c : Configuration)
       → walk default t p c (take (walk default t p c ss .accepted) ss)
-      ≡ record { accepted = walk default t p c ss .accepted; refused = 0; configuration = walk default t p c ss .configuration }
+      ≡ record { accepted = walk default t p c ss .accepted; refused = 0; port = NoPort; configuration = walk default t p c ss .configuration }
   unfolding walk oneMore
   walk-part [] c = refl
   walk-part (s ∷ ss) c =
-      walk-cases (λ w. walk default t p c (take (w .accepted) (s ∷ ss)) ≡ record { accepted = w .accepted; refused = 0; configuration = w .configuration }) c s ss
+      walk-cases (λ w. walk default t p c (take (w .accepted) (s ∷ ss)) ≡ record { accepted = w .accepted; refused = 0; port = NoPort; configuration = w .configuration }) c s ss
       (λ e. walk-on c s (take (walk default t p (stepTo t p c s) ss .accepted) ss) e ∙ ap oneMore (walk-part ss (stepTo t p c s)))
       (λ n. refl)
 

@@ -7,17 +7,21 @@ use Rattle.model.specs.declared.Instruction.{Instruction}
 use Rattle.model.specs.declared.Step.{Step}
 use Rattle.model.specs.declared.Connection.{Connection}
 use Rattle.model.specs.declared.Configuration.{Configuration}
+use Rattle.model.specs.declared.Concerned.{Concerned}
+use Rattle.model.specs.declared.Concerned.the-variants.{NoPort}
+use Rattle.model.specs.View.{instance}
 use Rattle.model.specs.Verb.{addVerb, delVerb, pushbVerb, conVerb, dconVerb, fireVerb, endVerb, enterVerb}
 use Rattle.rules.specs.Standing.{Standing}
+use Rattle.rules.specs.Ports.{concerned}
 use Rattle.rules.specs.Add.{addCheck, added}
 use Rattle.rules.specs.Del.{delCheck, deleted}
 use Rattle.rules.specs.PushB.{pushbCheck, pushed}
 use Rattle.rules.specs.Con.{conCheck, connected}
 use Rattle.rules.specs.DCon.{dconCheck, disconnected}
 use Rattle.rules.specs.Wait.{waitCheck}
-use Rattle.rules.specs.Fire.{fireCheck, fireTo}
+use Rattle.rules.specs.Fire.{fireCheck, fireTo, afterFire}
 use Rattle.rules.specs.End.{endCheck, endTo}
-use Rattle.rules.specs.Enter.{enterCheck, enterTo}
+use Rattle.rules.specs.Enter.{enterCheck, enterTo, afterEnter}
 use Rattle.rules.specs.Finish.{finishCheck, finished}
 
 pub data Action : Type 0 where
@@ -81,3 +85,16 @@ effect t c (fire i p) = fireTo t c i p
 effect t c (end i x) = endTo c i x
 effect t c (enter i p) = enterTo t c i p
 effect t c (finish i) = finished c i
+
+-- the use port that the number n of the action is about
+unfoldable pub concern : Tables → Standing → Configuration → Action → ℕ → Concerned
+concern t x c (fire i p) n = concerned t x c i (instance c i) (afterFire t c i p) n
+concern t x c (enter i p) n = concerned t x c i (instance c i) (afterEnter t c i p) n
+concern t x c (add i k) n = NoPort
+concern t x c (del i) n = NoPort
+concern t x c (pushb i b) n = NoPort
+concern t x c (con k) n = NoPort
+concern t x c (dcon k) n = NoPort
+concern t x c (wait i) n = NoPort
+concern t x c (end i y) n = NoPort
+concern t x c (finish i) n = NoPort

@@ -12,10 +12,7 @@ use Rattle.model.specs.View.{isUse, instance, portNumber, serverNumber, withSer
 use Rattle.rules.specs.Refusal.{_⇒_∣_, allowed, idAbsent, noSuch, oneInstance, alreadyConnected, noMoreConnections}
 use Rattle.rules.specs.Instance.{portsOf}
 use Rattle.rules.specs.Standing.{Standing}
-
--- the connection is that of the use port q of i
-unfoldable pub isOf : ℕ → ℕ → Connection → Bool
-isOf i q k = eqb (k .user) i && eqb (k .useport) q
+use Rattle.rules.specs.Ports.{isOf}
 
 unfoldable pub isUsePort : Tables → Configuration → ℕ → ℕ → Bool
 isUsePort t c i q = ltb q (portsOf t (instance c i)) && isUse t (instance c i .kind) q

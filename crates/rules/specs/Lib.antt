@@ -23,3 +23,4 @@ pub mod Listed
 pub mod Refused
 pub mod Proper
 pub mod Holding
+pub mod Named

@@ -1,19 +1,21 @@
 -- The connections as they were kept before, in a list in the order in which they were made: the old side of `TableAndListAgree`. It has the
 -- same rules with another value of `Standing`, its own start, and its own effect of `con` and `dcon`.
-use mathlib.Core.Bool.{Bool, true, false, cond}
+use mathlib.Core.Bool.{true, false}
 use mathlib.Core.Logic.{_↔_}
 use mathlib.Core.List.{List, [], _∷_}
 use mathlib.Core.Path.{_≡_}
-use Prim.Native.Nat.{ℕ, zero, suc, _-_, _≤_, _<_}
+use Prim.Native.Nat.{ℕ, suc, _-_, _≤_, _<_}
 use lib.Dec.{eqb}
 use lib.ListN.{getD, set, replicate}
-use Rattle.sets.specs.Test.{anyBelow}
+use Rattle.sets.specs.Test.{anyBelow, lowest}
 use Rattle.model.specs.declared.Tables.{Tables}
 use Rattle.model.specs.declared.Program.{Program}
 use Rattle.model.specs.declared.Step.{Step}
 use Rattle.model.specs.declared.Instance.{Instance}
 use Rattle.model.specs.declared.Connection.{Connection}
 use Rattle.model.specs.declared.Configuration.{Configuration}
+use Rattle.model.specs.declared.Concerned.{Concerned}
+use Rattle.model.specs.declared.Concerned.the-variants.{NoPort}
 use Rattle.model.specs.declared.Walked.{Walked}
 use Rattle.model.specs.Empty.{absent, noConnection, start}
 use Rattle.model.specs.View.{isServed, connection}
@@ -21,7 +23,7 @@ use Rattle.reading.specs.Lawful.{Lawful}
 use Rattle.rules.specs.Closing.{closed}
 use Rattle.rules.specs.Standing.{Standing, standing}
 use Rattle.rules.specs.DCon.{sameConnection}
-use Rattle.rules.specs.Action.{Action, add, del, pushb, con, dcon, wait, fire, end, enter, finish}
+use Rattle.rules.specs.Action.{Action, add, del, pushb, con, dcon, wait, fire, end, enter, finish, concern}
 use Rattle.rules.specs.Step.{action, stepCheckWith, stepTo}
 use Rattle.rules.specs.Walk.{walk}
 
@@ -58,13 +60,8 @@ linked x l = getD (x .list) l noConnection
 unfoldable pub inList : Chain → Standing
 inList x = record { some = λ test. anyBelow (x .count) (λ l. test (linked x l)); count = x .count }
 
--- the first number below n that passes the test, where one does
-unfoldable pub firstBelow : ℕ → (ℕ → Bool) → ℕ
-firstBelow zero p = 0
-firstBelow (suc n) p = cond (anyBelow n p) (firstBelow n p) n
-
 abbrev pub placeOf : Chain → Connection → ℕ
-placeOf x k = firstBelow (x .count) (λ l. sameConnection k (linked x l))
+placeOf x k = lowest (x .count) (λ l. sameConnection k (linked x l))
 
 -- "`con` appends to the list"; "`dcon` and `finish` close the gap and zero the slot freed"
 unfoldable pub appended : Chain → Connection → Chain
@@ -88,23 +85,27 @@ relinked (finish i) x = x
 unfoldable pub listedCheck : ℕ → Tables → Program → Listed → Step → ℕ
 listedCheck default t p l s = stepCheckWith default t p (inList (l .connections)) (unlisted l) s
 
+unfoldable pub listedPort : Tables → Program → Listed → Step → ℕ → Concerned
+listedPort t p l s n = concern t (inList (l .connections)) (unlisted l) (action p (unlisted l) s) n
+
 unfoldable pub listedTo : Tables → Program → Listed → Step → Listed
 listedTo t p l s = listed (stepTo t p (unlisted l) s) (relinked (action p (unlisted l) s) (l .connections))
 
 pub record ListedWalked : Type 0 where
   pub accepted : ℕ
   pub refused : ℕ
+  pub port : Concerned
   pub outcome : Listed
 
 unfoldable pub oneMoreListed : ListedWalked → ListedWalked
-oneMoreListed w = record { accepted = suc (w .accepted); refused = w .refused; outcome = w .outcome }
+oneMoreListed w = record { accepted = suc (w .accepted); refused = w .refused; port = w .port; outcome = w .outcome }
 
 unfoldable pub listedWalk : ℕ → Tables → Program → Listed → List Step → ListedWalked
-listedWalk default t p l [] = record { accepted = 0; refused = 0; outcome = l }
+listedWalk default t p l [] = record { accepted = 0; refused = 0; port = NoPort; outcome = l }
 listedWalk default t p l (s ∷ ss) =
     elim (eqb (listedCheck default t p l s) 0) [
       | true ↦ oneMoreListed (listedWalk default t p (listedTo t p l s) ss)
-      | false ↦ record { accepted = 0; refused = listedCheck default t p l s; outcome = l }
+      | false ↦ record { accepted = 0; refused = listedCheck default t p l s; port = listedPort t p l s (listedCheck default t p l s); outcome = l }
     ]
 
 -- ---- what is shown of the two
@@ -119,6 +120,7 @@ InList x k = (l : ℕ) × (l < x .count) × (linked x l ≡ k)
 pub record Agrees (w : Walked) (v : ListedWalked) : Type 0 where
   pub accepted : w .accepted ≡ v .accepted
   pub refused : w .refused ≡ v .refused
+  pub port : w .port ≡ v .port
   pub instances : w .configuration .instances ≡ v .outcome .instances
   pub queue : w .configuration .queue ≡ v .outcome .queue
   pub done : w .configuration .done ≡ v .outcome .done

@@ -1,16 +1,18 @@
--- The three checks of ports, 34, 35 and 36, where instance i goes from v to w and the connections x stand.
-use mathlib.Core.Bool.{Bool, not, _&&_, _||_}
+-- The four checks of ports, 38, 34, 35 and 36, where instance i goes from v to w and the connections x stand.
+use mathlib.Core.Bool.{Bool, not, _&&_, cond, _||_}
 use Prim.Native.Nat.{ℕ, _<_}
 use mathlib.Core.Path.{_≡_}
 use lib.Dec.{eqb}
-use Rattle.sets.specs.Test.{anyBelow}
+use Rattle.sets.specs.Test.{anyBelow, lowest}
 use Rattle.sets.specs.Mask.{member, collect, overlaps, within}
 use Rattle.model.specs.declared.Tables.{Tables}
 use Rattle.model.specs.declared.Instance.{Instance}
 use Rattle.model.specs.declared.Connection.{Connection}
 use Rattle.model.specs.declared.Configuration.{Configuration}
+use Rattle.model.specs.declared.Concerned.{Concerned}
+use Rattle.model.specs.declared.Concerned.the-variants.{NoPort, UsePort}
 use Rattle.model.specs.View.{isUse, instance, queueHead}
-use Rattle.rules.specs.Refusal.{_⇒_∣_, allowed, unserved, providerRefusing, serviceInUse}
+use Rattle.rules.specs.Refusal.{_⇒_∣_, allowed, unserved, providerRefusing, serviceInUse, unconnected}
 use Rattle.rules.specs.Standing.{Standing}
 use Rattle.rules.specs.Instance.{held, active, portsOf, current, leaving, entering, fired, entered}
 
@@ -46,6 +48,14 @@ blocks t c i q k =
 unfoldable pub employs : Tables → Configuration → ℕ → ℕ → Connection → Bool
 employs t c i q k = eqb (k .provider) i && (eqb (k .provideport) q && active t (instance c (k .user)) (k .useport))
 
+-- the connection is that of the use port q of i
+unfoldable pub isOf : ℕ → ℕ → Connection → Bool
+isOf i q k = eqb (k .user) i && eqb (k .useport) q
+
+-- "38, unconnected use port, tested over all ports right before 34"
+unfoldable pub failsUnconnected : Tables → Standing → Configuration → ℕ → Instance → ℕ → Bool
+failsUnconnected t x c i w q = isUse t (w .kind) q && (active t w q && not (x .some (isOf i q)))
+
 -- "Each use port active after must be connected to an active provide port"
 unfoldable pub failsUnserved : Tables → Standing → Configuration → ℕ → Instance → ℕ → Bool
 failsUnserved t x c i w q = isUse t (w .kind) q && (active t w q && not (x .some (serves t c i q)))
@@ -66,13 +76,20 @@ inUse t x c i = collect 32 (λ q. x .some (employs t c i q))
 abbrev pub PortCheck : Type 0
 PortCheck = Tables → Standing → Configuration → ℕ → Instance → Instance → ℕ
 
--- "Only the moving instance's own ports are tested"; "Checks 34, 35 and 36 each run over all ports before the next"
+-- "Only the moving instance's own ports are tested"; "Checks 34, 35 and 36 each run over all ports before the next", and 38 "right before 34"
 unfoldable pub portCheck : PortCheck
 portCheck t x c i v w =
-    anyBelow (portsOf t v) (failsUnserved t x c i w) ⇒ unserved
+    anyBelow (portsOf t v) (failsUnconnected t x c i w) ⇒ unconnected
+    ∣ anyBelow (portsOf t v) (failsUnserved t x c i w) ⇒ unserved
     ∣ anyBelow (portsOf t v) (failsRefusing t x c i v w) ⇒ providerRefusing
     ∣ anyBelow (portsOf t v) (failsInUse t x c i v w) ⇒ serviceInUse
     ∣ allowed
+
+-- "the use port concerned, the lowest one that fails .. it is `-` for every verdict but 34 and 38": by the number n
+unfoldable pub concerned : Tables → Standing → Configuration → ℕ → Instance → Instance → ℕ → Concerned
+concerned t x c i v w n =
+    cond (eqb n unconnected) (UsePort (lowest (portsOf t v) (failsUnconnected t x c i w)))
+    (cond (eqb n unserved) (UsePort (lowest (portsOf t v) (failsUnserved t x c i w))) NoPort)
 
 -- 36 by the set of the ports in use: one set serves all ports
 unfoldable pub InUseByTheSet : Type 0

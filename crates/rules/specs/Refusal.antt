@@ -4,6 +4,8 @@ use Prim.Native.Nat.{ℕ}
 use lib.Dec.{eqb}
 use Rattle.model.specs.declared.Configuration.{Configuration}
 use Rattle.model.specs.declared.Stepped.{Stepped}
+use Rattle.model.specs.declared.Concerned.{Concerned}
+use Rattle.model.specs.declared.Concerned.the-variants.{NoPort}
 
 infixr 5 _⇒_∣_
 -- a row of checks: the first test that holds gives its number, else what follows
@@ -77,7 +79,7 @@ noTransition = 32
 abbrev pub heldOrMarked : ℕ
 heldOrMarked = 33
 
--- a use port unconnected or its provider inactive
+-- a use port's provider is inactive
 abbrev pub unserved : ℕ
 unserved = 34
 
@@ -93,10 +95,15 @@ serviceInUse = 36
 abbrev pub tooEarly : ℕ
 tooEarly = 37
 
+-- a use port unconnected
+abbrev pub unconnected : ℕ
+unconnected = 38
+
 -- the number a, or b where a is none
 abbrev pub orNumber : ℕ → ℕ → ℕ
 orNumber a b = cond (eqb a allowed) b a
 
--- refused with n and nothing changed, or with 0 the new configuration
-abbrev pub settle : ℕ → Configuration → Configuration → Stepped
-settle n old new = cond (eqb n allowed) (record { refused = 0; configuration = new }) (record { refused = n; configuration = old })
+-- refused with n, the port that n is about, and nothing changed; or with 0 the new configuration
+abbrev pub settle : ℕ → (ℕ → Concerned) → Configuration → Configuration → Stepped
+settle n about old new =
+    cond (eqb n allowed) (record { refused = 0; port = NoPort; configuration = new }) (record { refused = n; port = about n; configuration = old })

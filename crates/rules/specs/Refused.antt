@@ -8,6 +8,7 @@ use Rattle.model.specs.declared.Tables.{Tables}
 use Rattle.model.specs.declared.Program.{Program}
 use Rattle.model.specs.declared.Step.{Step}
 use Rattle.model.specs.declared.Configuration.{Configuration}
+use Rattle.model.specs.declared.Concerned.the-variants.{NoPort}
 use Rattle.rules.specs.Step.{step}
 use Rattle.rules.specs.Walk.{walk}
 
@@ -22,4 +23,4 @@ unfoldable pub WalkIsItsAcceptedPart : Type 0
 WalkIsItsAcceptedPart =
     (default : ℕ) (t : Tables) (p : Program) (c : Configuration) (ss : List Step)
     → walk default t p c (take (walk default t p c ss .accepted) ss)
-    ≡ record { accepted = walk default t p c ss .accepted; refused = 0; configuration = walk default t p c ss .configuration }
+    ≡ record { accepted = walk default t p c ss .accepted; refused = 0; port = NoPort; configuration = walk default t p c ss .configuration }

@@ -13,7 +13,7 @@ use Rattle.model.specs.View.{withDone}
 use Rattle.model.specs.Verb.{nextVerb}
 use Rattle.rules.specs.Refusal.{noInstructionLeft, settle}
 use Rattle.rules.specs.Standing.{Standing, standing}
-use Rattle.rules.specs.Action.{Action, instructionAction, moveAction, actionCheck, effect}
+use Rattle.rules.specs.Action.{Action, instructionAction, moveAction, actionCheck, effect, concern}
 
 abbrev pub isNext : Step → Bool
 isNext s = eqb (s .verb) nextVerb
@@ -45,4 +45,4 @@ unfoldable pub stepTo : Tables → Program → Configuration → Step → Config
 stepTo t p c s = cond (isNext s) (withDone (effect t c (action p c s)) (suc (c .done))) (effect t c (action p c s))
 
 unfoldable pub step : ℕ → Tables → Program → Configuration → Step → Stepped
-step default t p c s = settle (stepCheck default t p c s) c (stepTo t p c s)
+step default t p c s = settle (stepCheck default t p c s) (concern t (standing c) c (action p c s)) c (stepTo t p c s)

@@ -10,20 +10,21 @@ use Rattle.model.specs.declared.Answer.{Answer}
 use Rattle.model.specs.declared.Configuration.{Configuration}
 use Rattle.model.specs.declared.Stepped.{Stepped}
 use Rattle.model.specs.declared.Walked.{Walked}
+use Rattle.model.specs.declared.Concerned.the-variants.{NoPort}
 use Rattle.model.specs.Empty.{start}
 use Rattle.model.specs.View.{stepsOf}
 use Rattle.rules.specs.Step.{step}
 
 unfoldable pub oneMore : Walked → Walked
-oneMore w = record { accepted = suc (w .accepted); refused = w .refused; configuration = w .configuration }
+oneMore w = record { accepted = suc (w .accepted); refused = w .refused; port = w .port; configuration = w .configuration }
 
 -- the steps by a machine that answers each of them, to their end or to the first that it refuses
 abbrev pub walkBy : (Configuration → Step → Stepped) → Configuration → List Step → Walked
-walkBy answers c [] = record { accepted = 0; refused = 0; configuration = c }
+walkBy answers c [] = record { accepted = 0; refused = 0; port = NoPort; configuration = c }
 walkBy answers c (s ∷ ss) =
     elim (eqb (answers c s .refused) 0) [
       | true ↦ oneMore (walkBy answers (answers c s .configuration) ss)
-      | false ↦ record { accepted = 0; refused = answers c s .refused; configuration = answers c s .configuration }
+      | false ↦ record { accepted = 0; refused = answers c s .refused; port = answers c s .port; configuration = answers c s .configuration }
     ]
 
 -- what goes on beside it: at each allowed step, from c to d

@@ -19,11 +19,11 @@ use Rattle.reading.specs.Lines.{each}
 use Rattle.reading.specs.Place.{upToLf, lfs, lineNumber, lineStart}
 use Rattle.reading.specs.Texts.{tranAt, behaviorAt, portAt, typeLines, instructionAt, sheet, stepAt, answer}
 use Rattle.report.specs.Faults.{textText, faultText}
-use Rattle.report.specs.Report.{countText, instanceText, connectionText, instanceAt, connectionLine, linesFrom, instancesText, connectionsText, reportWith, report}
-use Rattle.rules.specs.Action.{Action, add, pushb, fire, end, instructionAction, moveAction, actionCheck, effect}
+use Rattle.report.specs.Report.{countText, portText, instanceText, connectionText, instanceAt, connectionLine, linesFrom, instancesText, connectionsText, reportWith, report}
+use Rattle.rules.specs.Action.{Action, add, pushb, fire, end, instructionAction, moveAction, actionCheck, effect, concern}
 use Rattle.rules.specs.Add.{addCheck, added}
 use Rattle.rules.specs.Closing.{down, closed, zeroed, renewed}
-use Rattle.rules.specs.Con.{isOf, isUsePort, isProvidePort, conCheck, connected}
+use Rattle.rules.specs.Con.{isUsePort, isProvidePort, conCheck, connected}
 use Rattle.rules.specs.DCon.{sameConnection, dconCheck, disconnected}
 use Rattle.rules.specs.Del.{namedBy, delCheck, deleted}
 use Rattle.rules.specs.End.{endCheck, endTo}
@@ -32,20 +32,20 @@ use Rattle.rules.specs.Finish.{mayLeave, finishRow, finishCheck, finished}
 use Rattle.rules.specs.Fire.{fireRow, fireCheck, fireTo}
 use Rattle.rules.specs.Instance.{active, current, endsAt, leaving, entering, fired, endedBy, entered, withQueued}
 use Rattle.rules.specs.Standing.{entries, inTable}
-use Rattle.rules.specs.Ports.{wouldLeave, wouldEnter, refusing, serves, blocks, employs, failsUnserved, failsRefusing, failsInUse, portCheck}
+use Rattle.rules.specs.Ports.{isOf, wouldLeave, wouldEnter, refusing, serves, blocks, employs, failsUnconnected, failsUnserved, failsRefusing, failsInUse, portCheck, concerned}
 use Rattle.rules.specs.PushB.{pushbCheck, pushed}
 use Rattle.rules.specs.Step.{actionAt, action, stepCheckWith, stepTo, step}
 use Rattle.rules.specs.Wait.{waitCheck}
 use Rattle.rules.specs.Walk.{oneMore, walk, walkAnswer}
 use Rattle.sets.specs.Mask.{member, collect}
-use Rattle.sets.specs.Test.{allBelow, anyBelow, tally}
+use Rattle.sets.specs.Test.{allBelow, anyBelow, lowest, tally}
 use Rattle.demands.specs.Agree.{names, deeds, naming}
 use Rattle.demands.specs.OnTexts.{sheetTables, sheetProgram, answerSteps, AllAllowed}
 use Rattle.timed.specs.Order.{OrderMayAlterTheMark}
 use Rattle.timed.specs.Cases.{twins, together, oneByOne, seconds, timedTable, AllTimedMet}
 use Rattle.timed.specs.Clock.{atStart, notes, tick, clockFrom, clockOf}
 use Rattle.timed.specs.Mark.{nearest, markOf, markAfter}
-use Rattle.timed.specs.Shams.{Marking, markedAsRuled, clockBy, courseBy, timedBy, alwaysFull, halvesUp, roundsEachStep, ToldApart, ShamsToldApart, RoundingLifts, MarkedAsRuledIsTheRule}
+use Rattle.timed.specs.Shams.{Marking, clockBy, courseBy, timedBy, alwaysFull, halvesUp, roundsEachStep, ToldApart, ShamsToldApart, RoundingLifts, MarkedAsRuledIsTheRule}
 use Rattle.timed.specs.declared.Timed.{Timed}
 use Rattle.timed.specs.Timed.{clocked, timedCourse, markedReport, markInRoom, timedEnding, timed, timedPrinting, timedPrinted}
 use Rattle.times.specs.Refusal.{timesNumber}
@@ -115,7 +115,7 @@ record Computed : Type 0 where
   each-step : Marks roundsEachStep oneByOne underAPass 464 650
 
 computed : Computed
-unfolding member collect allBelow anyBelow noTables noProgram noAnswer start isServed entries inTable listOf queueOf put withQueue withServers withDone key digit numberFrom membersFrom list oneForm twoForm threeForm fourForm listForm listsForm digitsIn numberText membersBelow moreText listText maskText inTurn oneText twoText threeText fourText headed withType withTransition withPort programOf withInstruction answerOf withStep dueLine countLineIn initialLine tranLine behaviorLine group portLine doId doNumber doEnds doLine stepId stepNumber stepLine each upToLf lfs lineNumber lineStart tranAt behaviorAt portAt typeLines instructionAt sheet stepAt answer instructionAction moveAction actionCheck effect addCheck added down closed zeroed renewed isOf isUsePort isProvidePort conCheck connected sameConnection dconCheck disconnected namedBy delCheck deleted endCheck endTo enterRow enterCheck enterTo mayLeave finishRow finishCheck finished fireRow fireCheck fireTo active current endsAt leaving entering fired endedBy entered withQueued wouldLeave wouldEnter refusing serves blocks employs failsUnserved failsRefusing failsInUse portCheck pushbCheck pushed actionAt action stepCheckWith stepTo step waitCheck oneMore walk walkAnswer textText faultText tally countText instanceText connectionText instanceAt connectionLine linesFrom instancesText connectionsText reportWith report short read both course faultLine faultPlace afterFault noRoom stepPlace afterWalk inRoom ending judged over printing printed timesNumber timeLine time times timesOf withTime atStart notes tick clockFrom clockOf nearest markOf markAfter clockBy courseBy timedBy clocked timedCourse markedReport markInRoom timedEnding timed timedPrinting timedPrinted names deeds naming sheetTables sheetProgram answerSteps
+unfolding member collect allBelow anyBelow noTables noProgram noAnswer start isServed entries inTable listOf queueOf put withQueue withServers withDone key digit numberFrom membersFrom list oneForm twoForm threeForm fourForm listForm listsForm digitsIn numberText membersBelow moreText listText maskText inTurn oneText twoText threeText fourText headed withType withTransition withPort programOf withInstruction answerOf withStep dueLine countLineIn initialLine tranLine behaviorLine group portLine doId doNumber doEnds doLine stepId stepNumber stepLine each upToLf lfs lineNumber lineStart tranAt behaviorAt portAt typeLines instructionAt sheet stepAt answer instructionAction moveAction actionCheck effect concern addCheck added down closed zeroed renewed isOf isUsePort isProvidePort conCheck connected sameConnection dconCheck disconnected namedBy delCheck deleted endCheck endTo enterRow enterCheck enterTo mayLeave finishRow finishCheck finished fireRow fireCheck fireTo active current endsAt leaving entering fired endedBy entered withQueued wouldLeave wouldEnter refusing serves blocks employs failsUnconnected failsUnserved failsRefusing failsInUse portCheck lowest concerned pushbCheck pushed actionAt action stepCheckWith stepTo step waitCheck oneMore walk walkAnswer textText faultText tally countText portText instanceText connectionText instanceAt connectionLine linesFrom instancesText connectionsText reportWith report short read both course faultLine faultPlace afterFault noRoom stepPlace afterWalk inRoom ending judged over printing printed timesNumber timeLine time times timesOf withTime atStart notes tick clockFrom clockOf nearest markOf markAfter clockBy courseBy timedBy clocked timedCourse markedReport markInRoom timedEnding timed timedPrinting timedPrinted names deeds naming sheetTables sheetProgram answerSteps
 computed = record {
   cases = ((refl, refl), ((refl, refl), ((refl, refl), ((refl, refl), ((refl, refl), ((refl, refl), ((refl, refl), ((refl, refl), ((refl, refl), ((refl, refl), ((refl, refl), ((refl, refl), ((refl, refl), ((refl, refl), ((refl, refl), ((refl, refl), tt))))))))))))))));
   order = record { first = refl; second = refl; together-does = refl; one-by-one-does = refl; quick = refl; slow = refl };

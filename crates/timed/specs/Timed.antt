@@ -14,7 +14,7 @@ use Rattle.model.specs.declared.Walked.{Walked}
 use Rattle.rules.specs.Walk.{walkAnswer}
 use Rattle.report.specs.Report.{countText, report}
 use Rattle.report.specs.Faults.{faultText}
-use Rattle.judged.specs.Course.{Course, faulty, reached, _>>=_, _>>_, short, read, defaultDepth, both}
+use Rattle.judged.specs.Course.{Course, faulty, reached, short, read, defaultDepth, both, _>>=_, _>>_}
 use Rattle.judged.specs.Judged.{Judgement, textOf, afterFault, inRoom, over, lentBytes}
 use Rattle.times.specs.Text.{times}
 use Rattle.times.specs.Refusal.{timesNumber}
@@ -57,6 +57,7 @@ abbrev pub numbered : ℕ → Judgement → Judgement
 numbered n j = record {
   verdict = record {
     refused = n;
+    port = j .verdict .port;
     accepted = j .verdict .accepted;
     next = j .verdict .next;
     written = j .verdict .written;
