@@ -129,12 +129,12 @@ static unsigned append_hall(uint64_t seed, uint64_t index, struct cases *cases)
     generate_lent(seed, index, &lent);
     lent_to_bytes(&lent, before);
     append_lent(&cases->input, index, before);
-    unsigned number = hall(&lent.tables, &lent.program, &lent.configuration, &lent.step);
+    struct refusal refusal = hall(&lent.tables, &lent.program, &lent.configuration, &lent.step);
     lent_to_bytes(&lent, after);
     uint8_t *first = make_room(&cases->expected, LONGEST_HALL_ANSWER), *at = ink_number(ink_byte(first, 'c'), (uint32_t)index);
-    at = ink_changes(ink_number(ink_byte(at, ' '), number), before, after);
+    at = ink_changes(ink_refusal(at, refusal), before, after);
     cases->expected.length += (size_t)(ink_byte(at, '\n') - first);
-    return number;
+    return refusal.number;
 }
 
 static void make_cases(struct job *job, uint64_t seed, uint64_t from, uint64_t count, struct cases *cases)
@@ -257,7 +257,7 @@ static bool due(const struct job *job, unsigned number)
 {
     if (number >= 1 && number <= 7) return job->texts == (number < 7);
     if (job->append == append_plan) return number == 0 || number >= 60;
-    return number == 0 || (number >= 10 && number <= 18) || (number >= 20 && number <= 22) || (number >= 30 && number <= 37);
+    return number == 0 || (number >= 10 && number <= 18) || (number >= 20 && number <= 22) || (number >= 30 && number <= 38);
 }
 
 /* Prints the shares; whether each number that must occur has half a percent. */

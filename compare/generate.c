@@ -137,10 +137,10 @@ static void fill_to_the_limit(struct paper *paper, struct draft *text)
 /* ---- pairs ---- */
 
 /* How often each number is aimed at. */
-static const unsigned aims[38] = {
+static const unsigned aims[39] = {
     [0] = 60, [1] = 20, [2] = 60, [3] = 90, [4] = 25, [5] = 25, [6] = 20,
     [10] = 20, [11] = 20, [12] = 20, [13] = 25, [14] = 25, [15] = 25, [16] = 25, [17] = 20, [18] = 20,
-    [20] = 25, [21] = 20, [22] = 40, [30] = 20, [31] = 25, [32] = 20, [33] = 40, [34] = 30, [35] = 60, [36] = 80, [37] = 25,
+    [20] = 25, [21] = 20, [22] = 40, [30] = 20, [31] = 25, [32] = 20, [33] = 40, [34] = 30, [35] = 60, [36] = 80, [37] = 25, [38] = 20,
 };
 
 static void write_texts(const struct paper *paper, struct pair *pair)
@@ -203,7 +203,7 @@ void cut_to_case(struct draft *text)
 /* What the walk aims at: a room too short takes the place of a step's number too. */
 static unsigned steps_aim(struct random *r, unsigned aim)
 {
-    unsigned other = pick_weighted(r, aims, 38);
+    unsigned other = pick_weighted(r, aims, 39);
     if (aim == 6) aim = other;
     return aim >= 10 ? aim : 0;
 }
@@ -212,7 +212,7 @@ void generate_pair(uint64_t seed, uint64_t index, struct pair *pair)
 {
     static struct paper paper;
     paper.random = random_of(seed, index);
-    unsigned aim = pick_weighted(&paper.random, aims, 38);
+    unsigned aim = pick_weighted(&paper.random, aims, 39);
     draw_paper(&paper, steps_aim(&paper.random, aim));
     if (aim == 1) make_long(&paper, pair);
     else if (aim >= 2 && aim <= 5) make_faulty(&paper, pair, aim);

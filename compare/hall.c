@@ -145,14 +145,14 @@ void lend_configuration(const struct configuration *c, struct lent_configuration
     }
 }
 
-unsigned hall(const struct tables *tables, const struct program *program, struct lent_configuration *lent,
-              const struct step *step)
+struct refusal hall(const struct tables *tables, const struct program *program, struct lent_configuration *lent,
+                    const struct step *step)
 {
     struct configuration configuration;
     if (!tables_lawful(tables) || !program_lawful(program, tables->count) || !step_lawful(step)
-        || !configuration_lawful(tables, program, lent)) return 7;
+        || !configuration_lawful(tables, program, lent)) return (struct refusal){ 7, NO_PORT };
     list_configuration(lent, &configuration);
-    unsigned number = take_step(tables, program, &configuration, step);
+    struct refusal refusal = take_step(tables, program, &configuration, step);
     lend_configuration(&configuration, lent);
-    return number;
+    return refusal;
 }

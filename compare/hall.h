@@ -10,8 +10,8 @@ struct lent_configuration { struct instance instance[INSTANCES]; uint16_t server
 /* A configuration of the rules as it is lent. */
 void lend_configuration(const struct configuration *configuration, struct lent_configuration *lent);
 
-/* The number 7, or the step rules' number with the configuration as it was, or 0 with the configuration moved on. */
-unsigned hall(const struct tables *tables, const struct program *program, struct lent_configuration *lent,
-              const struct step *step);
+/* The number 7, or the step rules' refusal with the configuration as it was, or 0 with the configuration moved on. */
+struct refusal hall(const struct tables *tables, const struct program *program, struct lent_configuration *lent,
+                    const struct step *step);
 
 #endif

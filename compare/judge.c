@@ -226,10 +226,16 @@ static uint8_t *ink_connections(uint8_t *at, const struct configuration *c)
     return at;
 }
 
-static size_t write_report(uint8_t *bytes, unsigned accepted, unsigned refused, const struct configuration *c)
+/* C-11: "in a line `port=` after `refused=`; it is `-` for every verdict but 34 and 38" */
+static uint8_t *ink_port(uint8_t *at, unsigned port)
+{
+    return port == NO_PORT ? ink_word(at, "port=-\n") : ink_line(at, "port=", port);
+}
+
+static size_t write_report(uint8_t *bytes, unsigned accepted, struct refusal refusal, const struct configuration *c)
 {
     uint8_t *at = ink_line(bytes, "accepted=", accepted);
-    at = ink_line(at, "refused=", refused);
+    at = ink_port(ink_line(at, "refused=", refusal.number), refusal.port);
     at = ink_line(at, "next=", c->done);
     at = ink_instances(at, c);
     return (size_t)(ink_connections(at, c) - bytes);
@@ -238,11 +244,12 @@ static size_t write_report(uint8_t *bytes, unsigned accepted, unsigned refused, 
 /* ---- the whole ---- */
 
 /* The length is known before the first byte is lent out: "the report buffer holds its old bytes" after 6. */
-static struct result after_walk(struct result walked, const struct configuration *c, uint8_t *report, size_t room)
+static struct result after_walk(struct result walked, struct refusal refusal, const struct configuration *c, uint8_t *report, size_t room)
 {
     uint8_t bytes[LONGEST_REPORT];
+    walked.refused = refusal.number;
     walked.next = c->done;
-    walked.length = write_report(bytes, walked.accepted, walked.refused, c);
+    walked.length = write_report(bytes, walked.accepted, refusal, c);
     return in_room(walked, bytes, report, room);
 }
 
@@ -256,15 +263,16 @@ void judge(const uint8_t *sheet, size_t sheetlen, const uint8_t *answer, size_t 
     struct configuration c = { .count = 0 };
     struct reader of_sheet = reader_of(sheet, sheetlen), of_answer = reader_of(answer, answerlen);
     struct result walked = { .place = { ANSWER, answerlen, 0 } };
+    struct refusal refusal = { 0, NO_PORT };
 
     if (sheetlen > LONGEST_TEXT) { *result = after_length(SHEET); return; }
     if (answerlen > LONGEST_TEXT) { *result = after_length(ANSWER); return; }
     if (!read_sheet(&of_sheet, &tables, &program)) { *result = after_fault(&of_sheet, SHEET); return; }
     if (!read_answer(&of_answer, steps, &count)) { *result = after_fault(&of_answer, ANSWER); return; }
-    while (walked.accepted < count && walked.refused == 0) {
-        walked.refused = take_step(&tables, &program, &c, &steps[walked.accepted]);
-        if (walked.refused == 0) walked.accepted++;
+    while (walked.accepted < count && refusal.number == 0) {
+        refusal = take_step(&tables, &program, &c, &steps[walked.accepted]);
+        if (refusal.number == 0) walked.accepted++;
     }
-    if (walked.refused != 0) walked.place = step_place(answer, answerlen, walked.accepted);
-    *result = after_walk(walked, &c, report, room);
+    if (refusal.number != 0) walked.place = step_place(answer, answerlen, walked.accepted);
+    *result = after_walk(walked, refusal, &c, report, room);
 }

@@ -361,9 +361,9 @@ static void break_clause(struct random *r, struct lent *lent)
 /* ---- cases ---- */
 
 /* How often each number is aimed at. */
-static const unsigned aims[38] = {
+static const unsigned aims[39] = {
     [0] = 80, [7] = 120, [10] = 15, [11] = 15, [12] = 15, [13] = 20, [14] = 20, [15] = 20, [16] = 20, [17] = 15, [18] = 20,
-    [20] = 20, [21] = 20, [22] = 20, [30] = 15, [31] = 20, [32] = 15, [33] = 25, [34] = 25, [35] = 100, [36] = 50, [37] = 20,
+    [20] = 20, [21] = 20, [22] = 20, [30] = 15, [31] = 20, [32] = 15, [33] = 25, [34] = 25, [35] = 100, [36] = 50, [37] = 20, [38] = 20,
 };
 
 /* Walks on, or to another configuration that need not be reachable. */
@@ -411,7 +411,7 @@ void generate_lent(uint64_t seed, uint64_t index, struct lent *lent)
 {
     static struct paper paper;
     paper.random = random_of(seed, index);
-    unsigned aim = pick_weighted(&paper.random, aims, 38);
+    unsigned aim = pick_weighted(&paper.random, aims, 39);
     bool over = aim == 7 && chance(&paper.random, 15), walk = !over && aim != 15 && aim != 16 && chance(&paper.random, 50);
     draw_state(&paper, over ? 16 : aim, walk);
     draw_last(&paper, lent, walk);

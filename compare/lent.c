@@ -110,6 +110,12 @@ void lent_of_bytes(const uint8_t *bytes, struct lent *lent)
     whole(&v, lent);
 }
 
+uint8_t *ink_refusal(uint8_t *at, struct refusal refusal)
+{
+    at = ink_byte(ink_number(ink_byte(at, ' '), refusal.number), ' ');
+    return refusal.port == NO_PORT ? ink_byte(at, '-') : ink_number(at, refusal.port);
+}
+
 uint8_t *ink_changes(uint8_t *at, const uint8_t *before, const uint8_t *after)
 {
     for (unsigned k = 0; k < CONFIGURATION_BYTES; k++)

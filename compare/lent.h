@@ -12,6 +12,9 @@ struct lent { struct tables tables; struct program program; struct lent_configur
 void lent_to_bytes(const struct lent *lent, uint8_t *bytes);
 void lent_of_bytes(const uint8_t *bytes, struct lent *lent);
 
+/* Writes the number and the port of a step, ` N PORT` with `-` for none; answers the place after. */
+uint8_t *ink_refusal(uint8_t *at, struct refusal refusal);
+
 /* Writes the answer ` OFFSET=VALUE ..` for each byte of the configuration that differs; answers the place after. */
 uint8_t *ink_changes(uint8_t *at, const uint8_t *before, const uint8_t *after);
 

@@ -113,7 +113,7 @@ static struct port twin_port(struct random *r, const struct type *type, const st
 static unsigned fewest_ports(unsigned aim)
 {
     if (aim == 16) return 10;
-    return (aim >= 13 && aim <= 18) || aim == 22 || (aim >= 34 && aim <= 36) ? 2 : 0;
+    return (aim >= 13 && aim <= 18) || aim == 22 || (aim >= 34 && aim <= 36) || aim == 38 ? 2 : 0;
 }
 
 static void draw_ports(struct random *r, struct type *type, unsigned count)
@@ -359,7 +359,7 @@ static bool draw_move_of(struct paper *paper, unsigned id, unsigned number)
     return seen > 0;
 }
 
-/* Who moves: for 34 and 35 mostly the user of a connection, for 36 its provider, for 11 nobody. */
+/* Who moves: for 34 and 35 mostly the user of a connection, for 36 its provider, for 11 nobody, for 38 anybody. */
 static unsigned draw_mover(struct paper *paper, unsigned number)
 {
     const struct configuration *c = &paper->configuration;

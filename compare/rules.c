@@ -206,12 +206,23 @@ struct move {
     struct tokens before, after;
 };
 
-/* "Each use port active after must be connected to an active provide port." */
+static bool in_want(const struct move *m, unsigned port)
+{
+    return m->type->port[port].use && active(&m->type->port[port], m->after);
+}
+
+/* C-11: "38, unconnected use port" */
+static bool unconnected(const struct move *m, unsigned port)
+{
+    return in_want(m, port) && connection_of(m->configuration, m->id, port) == NULL;
+}
+
+/* "Each use port active after must be connected to an active provide port." Asked after `unconnected` of all ports. */
 static bool unserved(const struct move *m, unsigned port)
 {
-    if (!m->type->port[port].use || !active(&m->type->port[port], m->after)) return false;
+    if (!in_want(m, port)) return false;
     const struct connection *n = connection_of(m->configuration, m->id, port);
-    return n == NULL || !active_end(m->tables, m->configuration, n->provider, n->provideport);
+    return !active_end(m->tables, m->configuration, n->provider, n->provideport);
 }
 
 /* "If it was inactive before, that provide port must not be refusing." Asked after `unserved` of all ports. */
@@ -237,38 +248,45 @@ static bool in_use(const struct move *m, unsigned port)
     return false;
 }
 
-/* "Checks 34, 35 and 36 each run over all ports before the next." */
-static unsigned ports_number(const struct move *m)
+static struct refusal refuse(unsigned number)
+{
+    return (struct refusal){ number, NO_PORT };
+}
+
+/* "Checks 34, 35 and 36 each run over all ports before the next", and 38 "right before 34". */
+static struct refusal ports_refusal(const struct move *m)
 {
     for (unsigned port = 0; port < m->type->ports; port++)
-        if (unserved(m, port)) return 34;
+        if (unconnected(m, port)) return (struct refusal){ 38, port };
     for (unsigned port = 0; port < m->type->ports; port++)
-        if (turned_away(m, port)) return 35;
+        if (unserved(m, port)) return (struct refusal){ 34, port };
     for (unsigned port = 0; port < m->type->ports; port++)
-        if (in_use(m, port)) return 36;
-    return 0;
+        if (turned_away(m, port)) return refuse(35);
+    for (unsigned port = 0; port < m->type->ports; port++)
+        if (in_use(m, port)) return refuse(36);
+    return refuse(0);
 }
 
 /* "fire p: p is marked; the transitions of the current behavior that leave p are at least one, none held." */
-static unsigned fire_number(struct move m, const struct instance *instance, unsigned place)
+static struct refusal fire_refusal(struct move m, const struct instance *instance, unsigned place)
 {
     uint32_t leaving = at_place(m.type->source, current(m.type, instance), place);
-    if (leaving == 0) return 32;
-    if ((m.before.marked & bit(place)) == 0) return 31;
-    if ((leaving & m.before.held) != 0) return 33;
+    if (leaving == 0) return refuse(32);
+    if ((m.before.marked & bit(place)) == 0) return refuse(31);
+    if ((leaving & m.before.held) != 0) return refuse(33);
     m.after = (struct tokens){ m.before.marked & ~bit(place), m.before.held | leaving };
-    return ports_number(&m);
+    return ports_refusal(&m);
 }
 
 /* "enter p: the transitions of the current behavior that lead to p are at least one, all ended; p is unmarked." */
-static unsigned enter_number(struct move m, const struct instance *instance, unsigned place)
+static struct refusal enter_refusal(struct move m, const struct instance *instance, unsigned place)
 {
     uint32_t leading = at_place(m.type->destination, current(m.type, instance), place);
-    if (leading == 0) return 32;
-    if ((leading & ~instance->ended) != 0) return 31;
-    if ((m.before.marked & bit(place)) != 0) return 33;
+    if (leading == 0) return refuse(32);
+    if ((leading & ~instance->ended) != 0) return refuse(31);
+    if ((m.before.marked & bit(place)) != 0) return refuse(33);
     m.after = (struct tokens){ m.before.marked | bit(place), m.before.held & ~leading };
-    return ports_number(&m);
+    return ports_refusal(&m);
 }
 
 /* "finish: nothing is held and no marked place has a leaving transition in the current behavior." */
@@ -281,25 +299,31 @@ static unsigned finish_number(const struct type *type, const struct instance *in
     return 0;
 }
 
-static unsigned move_number(const struct tables *tables, const struct configuration *c, const struct step *step)
+static struct refusal move_refusal(const struct tables *tables, const struct configuration *c, const struct step *step)
 {
     const struct instance *instance = &c->instance[step->id];
-    if (!instance->present) return 11;
-    if (instance->queued == 0) return 30;
+    if (!instance->present) return refuse(11);
+    if (instance->queued == 0) return refuse(30);
     struct move m = { tables, c, type_of(tables, c, step->id), step->id, tokens_of(instance), { 0, 0 } };
     switch (step->verb) {
-    case FIRE: return fire_number(m, instance, step->number);
-    case END: return (instance->running & bit(step->number)) == 0 ? 31 : 0;
-    case ENTER: return enter_number(m, instance, step->number);
-    default: return finish_number(m.type, instance);
+    case FIRE: return fire_refusal(m, instance, step->number);
+    case END: return refuse((instance->running & bit(step->number)) == 0 ? 31 : 0);
+    case ENTER: return enter_refusal(m, instance, step->number);
+    default: return refuse(finish_number(m.type, instance));
     }
+}
+
+static struct refusal step_refusal(const struct tables *tables, const struct program *program, const struct configuration *c,
+                                   const struct step *step)
+{
+    if (step->verb != NEXT) return move_refusal(tables, c, step);
+    return refuse(c->done >= program->count ? 10 : instruction_number(tables, c, &program->line[c->done]));
 }
 
 unsigned step_number(const struct tables *tables, const struct program *program, const struct configuration *c,
                      const struct step *step)
 {
-    if (step->verb != NEXT) return move_number(tables, c, step);
-    return c->done >= program->count ? 10 : instruction_number(tables, c, &program->line[c->done]);
+    return step_refusal(tables, program, c, step).number;
 }
 
 /* "The head goes": the gap is closed and the slot freed is zeroed. */
@@ -344,12 +368,12 @@ static void move(const struct tables *tables, struct configuration *c, const str
     }
 }
 
-unsigned take_step(const struct tables *tables, const struct program *program, struct configuration *c,
-                   const struct step *step)
+struct refusal take_step(const struct tables *tables, const struct program *program, struct configuration *c,
+                         const struct step *step)
 {
-    unsigned number = step_number(tables, program, c, step);
-    if (number != 0) return number;
+    struct refusal refusal = step_refusal(tables, program, c, step);
+    if (refusal.number != 0) return refusal;
     if (step->verb == NEXT) carry_out(tables, c, &program->line[c->done]);
     else move(tables, c, step);
-    return 0;
+    return refusal;
 }

@@ -60,14 +60,18 @@ const struct connection *connection_of(const struct configuration *configuration
 /* Whether a type has a port of that number and kind. */
 bool has_port(const struct type *type, unsigned port, enum port_kind kind);
 
+/* A number, or 0, and at 34 and 38 "the use port concerned, the lowest one that fails", else NO_PORT. */
+enum { NO_PORT = PORTS };
+struct refusal { unsigned number, port; };
+
 /* The number that refuses an instruction or a step, or 0; nothing changes. */
 unsigned instruction_number(const struct tables *tables, const struct configuration *configuration,
                             const struct instruction *instruction);
 unsigned step_number(const struct tables *tables, const struct program *program,
                      const struct configuration *configuration, const struct step *step);
 
-/* Takes one step: the configuration moves on, or stays as it is and the number of the refusal is answered. */
-unsigned take_step(const struct tables *tables, const struct program *program, struct configuration *configuration,
-                   const struct step *step);
+/* Takes one step: the configuration moves on, or stays as it is and the refusal is answered. */
+struct refusal take_step(const struct tables *tables, const struct program *program, struct configuration *configuration,
+                         const struct step *step);
 
 #endif

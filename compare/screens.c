@@ -1,4 +1,4 @@
-/* screens <CASES: one step in the hall a line, `NAME OFFSET=VALUE ..` for the bytes lent that are not 0; answers `NAME N` and
+/* screens <CASES: one step in the hall a line, `NAME OFFSET=VALUE ..` for the bytes lent that are not 0; answers `NAME N PORT` and
    ` OFFSET=VALUE` for each byte of the configuration that the step changed. */
 #include <stdio.h>
 #include <stdlib.h>
@@ -28,9 +28,9 @@ static void answer(const char *name, size_t length, const uint8_t *before)
     static struct lent lent;
     static uint8_t after[LENT_BYTES], line[LONGEST_LINE];
     lent_of_bytes(before, &lent);
-    unsigned number = hall(&lent.tables, &lent.program, &lent.configuration, &lent.step);
+    struct refusal refusal = hall(&lent.tables, &lent.program, &lent.configuration, &lent.step);
     lent_to_bytes(&lent, after);
-    uint8_t *end = ink_byte(ink_changes(ink_number(ink_byte(line, ' '), number), before, after), '\n');
+    uint8_t *end = ink_byte(ink_changes(ink_refusal(line, refusal), before, after), '\n');
     fwrite(name, 1, length, stdout);
     fwrite(line, 1, (size_t)(end - line), stdout);
 }

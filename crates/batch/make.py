@@ -20,8 +20,8 @@ cases = [
     ("tran_of_one_place", 8192),
     ("unknown_step", 0),
     ("both_empty", 8192),
-    ("pair", 116),
-    ("pair", 115),
+    ("pair", 123),
+    ("pair", 122),
     ("pair_service_in_use", 0),
 ]
 

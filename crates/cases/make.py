@@ -15,7 +15,7 @@ def write(name, content):
 
 def expected(name, sheet, answer, said):
     judgement = judge(sheet, answer)
-    found = judgement.refused, judgement.accepted, judgement.text, judgement.line
+    found = judgement.refused, judgement.accepted, judgement.text, judgement.line, judgement.port
     if found != said:
         raise SystemExit(f"{name}: pairs.py says {said}, and model.py says {found}")
     return f"case={name}\n{printed(sheet, answer)}place={','.join(map(str, judgement.place))}\n"

@@ -15,10 +15,10 @@ class Fault(Exception):
 
 
 class Refused(Exception):
-    """A step that is refused."""
+    """A step that is refused; at 34 and 38 with the use port that fails."""
 
-    def __init__(self, number):
-        self.number = number
+    def __init__(self, number, port="-"):
+        self.number, self.port = number, port
 
 
 # ---- the two texts
@@ -339,9 +339,12 @@ class State:
         ports = list(enumerate(self.types[before.kind].ports))
         used = [q for q, (use, _, _) in ports if use and self.active(moved, q)]
         for port in used:
-            served = self.connections.get((identity, port))
-            if served is None or not self.active(self.instances[served[0]], served[1]):
-                raise Refused(34)
+            if (identity, port) not in self.connections:
+                raise Refused(38, port)
+        for port in used:
+            provider, provideport = self.connections[identity, port]
+            if not self.active(self.instances[provider], provideport):
+                raise Refused(34, port)
         for port in used:
             provider, provideport = self.connections[identity, port]
             if not self.active(before, port) and self.refusing(self.instances[provider], provideport):
@@ -355,11 +358,11 @@ class State:
 
     # -- the report
 
-    def report(self, accepted, refused):
+    def report(self, accepted, refused, port):
         def joined(values):
             return "+".join(map(str, values)) or "-"
 
-        lines = [f"accepted={accepted}", f"refused={refused}", f"next={self.done}", f"instances={len(self.instances)}"]
+        lines = [f"accepted={accepted}", f"refused={refused}", f"port={port}", f"next={self.done}", f"instances={len(self.instances)}"]
         for identity, x in sorted(self.instances.items()):
             sets = ",".join(joined(sorted(values)) for values in (x.marked, x.running, x.ended))
             lines.append(f"instance={identity},{x.kind},{sets},{joined(x.queue)}")
@@ -381,6 +384,7 @@ class Judgement:
     line: int = 0
     place: tuple = ("answer", 0, 0)
     report: str = ""
+    port: object = "-"
 
 
 def at_fault(name, text, fault):
@@ -402,20 +406,20 @@ def judge(sheet, answer, room=8192):
         steps = read_answer(answer)
     except Fault as fault:
         return at_fault("answer", answer, fault)
-    accepted, refused, place = 0, 0, ("answer", len(answer), 0)
+    accepted, refused, port, place = 0, 0, "-", ("answer", len(answer), 0)
     for word, values in steps:
         try:
             state.next() if word == "next" else state.move(word, *values)
         except Refused as step:
-            refused = step.number
+            refused, port = step.number, step.port
             lines = answer.split(b"\n")
             place = "answer", sum(len(line) + 1 for line in lines[: 2 + accepted]), len(lines[2 + accepted])
             break
         accepted += 1
-    report = state.report(accepted, refused)
+    report = state.report(accepted, refused, port)
     if len(report) > room:
         return Judgement(6)
-    return Judgement(refused, accepted, state.done, place=place, report=report)
+    return Judgement(refused, accepted, state.done, place=place, report=report, port=port)
 
 
 def printed(sheet, answer):

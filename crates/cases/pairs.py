@@ -1,5 +1,5 @@
-"""The pairs of texts that the program `cases` runs. What a pair must come to is said beside it: the steps accepted and the number,
-or the text, the line and the number of a fault."""
+"""The pairs of texts that the program `cases` runs. What a pair must come to is said beside it: the steps accepted, the number and at 34 and 38 the
+use port, or the text, the line and the number of a fault."""
 from notation import answer, example, flat, move, nexts, sheet
 from papers import papers
 
@@ -15,21 +15,21 @@ A = [nexts(5), up0, up1, "finish,0", "finish,1"]
 pairs = []
 
 
-def case(name, text, steps, accepted, refused):
-    """Two texts that are read: the steps accepted, and the number or 0."""
+def case(name, text, steps, accepted, refused, port="-"):
+    """Two texts that are read: the steps accepted, the number or 0, and the use port of a 34 or 38."""
     steps = steps if isinstance(steps, str) else answer(*steps)
-    pairs.append((name, text.encode(), steps.encode(), (refused, accepted, "neither", 0)))
+    pairs.append((name, text.encode(), steps.encode(), (refused, accepted, "neither", 0, port)))
 
 
 def fault(name, text, steps, which, line, refused):
     """A text that is refused: which one, the line from 1 (0 for number 1), and the number."""
-    pairs.append((name, text.encode(), steps.encode(), (refused, 0, which, line)))
+    pairs.append((name, text.encode(), steps.encode(), (refused, 0, which, line, "-")))
 
 
 # ---- the pair's cases
 case("pair", P, A, 13, 0)
 case("pair_finish_earlier", P, [nexts(5), up0, "finish,0", up1, "finish,1"], 13, 0)
-case("pair_provider_inactive", P, [nexts(5), "fire,1,0"], 5, 34)
+case("pair_provider_inactive", P, [nexts(5), "fire,1,0"], 5, 34, 0)
 case("pair_provider_refusing", Plus, [nexts(6), up0, "finish,0", "fire,1,0"], 10, 35)
 case("pair_service_in_use", Plus, [nexts(6), up0, "fire,1,0", "finish,0", "fire,0,1"], 11, 36)
 case("pair_no_instruction_left", P, [nexts(6)], 5, 10)
@@ -110,7 +110,7 @@ case("leaving_transition_ended", turned, [nexts(2), "fire,0,0", "end,0,0", "fire
 # ---- ports
 only = (2, "0", ["0,1", "1,0"], ["0", "1"], ["provide,-,0"])
 case("group_is_a_transition", sheet([only, user], five), [nexts(5), "fire,0,0", "fire,1,0", "end,0,0", "enter,0,1"], 8, 36)
-case("group_is_a_transition_too_soon", sheet([only, user], five), [nexts(5), "fire,1,0"], 5, 34)
+case("group_is_a_transition_too_soon", sheet([only, user], five), [nexts(5), "fire,1,0"], 5, 34, 0)
 two = (3, "0+1", ["0,2", "1,2"], ["0", "1"], ["provide,0+1,-"])
 stays = sheet([two, user], ["add,0,0", "add,1,1", "con,1,0,0,0", "pushb,0,0", "pushb,1,0", "pushb,0,1"])
 case("one_of_two_tokens_leaves", stays, [nexts(6), up1, "fire,0,0", "end,0,0", "enter,0,2", "finish,0", "fire,0,1"], 13, 36)
@@ -130,13 +130,33 @@ case("about_to_enter_refuses_who_enters", sheet([only, (2, "0", ["0,1"], ["0"], 
 case("user_already_in_stays_though_about_to_enter", sheet([only, user], five), [nexts(5), "fire,0,0", "fire,1,0", "end,0,0", "end,1,0", "enter,1,1"], 10, 0)
 leaves = (3, "0", ["0,1", "1,2"], ["0", "1"], ["provide,0,0"])
 case("in_use_at_enter", sheet([leaves, user], five), [nexts(5), "fire,0,0", up1, "end,0,0", "enter,0,1"], 10, 36)
-case("unconnected", sheet(pair, ["add,0,0", "add,1,1", "pushb,1,0"]), [nexts(3), "fire,1,0"], 3, 34)
-case("entered_unserved", sheet([provider, (2, "0", ["0,1"], ["0"], ["use,1,-"])], five), [nexts(5), "fire,1,0", "end,1,0", "enter,1,1"], 7, 34)
+case("unconnected", sheet(pair, ["add,0,0", "add,1,1", "pushb,1,0"]), [nexts(3), "fire,1,0"], 3, 38, 0)
+case("entered_unserved", sheet([provider, (2, "0", ["0,1"], ["0"], ["use,1,-"])], five), [nexts(5), "fire,1,0", "end,1,0", "enter,1,1"], 7, 34, 0)
 case("user_already_in_stays_though_refusing", Plus, [nexts(6), up0, "fire,1,0", "finish,0", "end,1,0", "enter,1,1"], 13, 0)
 case("ended_still_holds", Plus, [nexts(6), up0, "fire,1,0", "end,1,0", "finish,0", "fire,0,1"], 12, 36)
 case("fire_blocked_so_no_finish", Plus, [nexts(6), up0, up1, "finish,0", "finish,0"], 13, 37)
 case("refusing_gone_with_the_queue", sheet(pair, five), [nexts(5), up0, "finish,0", "fire,1,0"], 10, 0)
-case("lowest_check_over_all_ports_first", sheet([provider, (3, "0", ["0,1"], ["0"], ["provide,0,-", "use,1,0"]), (2, "0", ["0,1"], ["0"], ["use,1,0"])], ["add,0,0", "add,1,1", "add,2,2", "con,2,0,1,0", "pushb,2,0", "pushb,1,0"]), [nexts(6), "fire,1,0"], 6, 34)
+case("lowest_check_over_all_ports_first", sheet([provider, (3, "0", ["0,1"], ["0"], ["provide,0,-", "use,1,0"]), (2, "0", ["0,1"], ["0"], ["use,1,0"])], ["add,0,0", "add,1,1", "add,2,2", "con,2,0,1,0", "pushb,2,0", "pushb,1,0"]), [nexts(6), "fire,1,0"], 6, 38, 1)
+up = (1, "0", [], [], ["provide,0,-"])
+between = (3, "0", ["0,1"], ["0"], ["provide,0,-", "use,1,0"])
+goes = (2, "0", ["0,1"], ["0"], ["use,1,0"])
+chain = ["add,0,0", "add,1,1", "add,2,2", "con,2,0,1,0", "pushb,2,0", "pushb,1,0"]
+case("unconnected_before_in_use", sheet([provider, between, goes], chain), [nexts(5), "fire,2,0", "next", "fire,1,0"], 7, 38, 1)
+case("unserved_before_in_use", sheet([provider, between, goes], chain + ["con,1,1,0,0"]), [nexts(5), "fire,2,0", nexts(2), "fire,1,0"], 8, 34, 1)
+
+
+def wired(ports, *connections):
+    """Instance 0 provides, 1 is to provide, 2 uses by ports that its fire makes active."""
+    return sheet([up, provider, (2, "0", ["0,1"], ["0"], ports)], ["add,0,0", "add,1,1", "add,2,2", "pushb,2,0"] + list(connections))
+
+
+three = ["use,1,0"] * 3
+case("unconnected_before_a_lower_unserved", wired(three, "con,2,0,0,0", "con,2,1,1,0"), [nexts(6), "fire,2,0"], 6, 38, 2)
+case("the_lower_of_two_unconnected", wired(three, "con,2,0,0,0"), [nexts(5), "fire,2,0"], 5, 38, 1)
+case("the_lower_of_two_unserved", wired(three, "con,2,0,0,0", "con,2,1,1,0", "con,2,2,1,0"), [nexts(7), "fire,2,0"], 7, 34, 1)
+case("idle_and_provide_ports_are_not_concerned", wired(["use,-,-", "provide,0,-", "use,1,-", "use,-,0"]), [nexts(4), "fire,2,0"], 4, 38, 3)
+case("the_last_port_is_concerned", wired(["use,-,-"] * 15 + ["use,1,0"], "con,2,15,1,0"), [nexts(5), "fire,2,0"], 5, 34, 15)
+case("unconnected_at_enter", wired(["use,1,-"]), [nexts(4), "fire,2,0", "end,2,0", "enter,2,1"], 6, 38, 0)
 case("midway", sheet(pair, ["add,0,0", "add,2,1", "add,1,1", "con,2,0,0,0", "con,1,0,0,0", "pushb,0,0", "pushb,0,1", "pushb,0,0", "add,3,0", "pushb,3,0", "wait,1"]), [nexts(10), "fire,0,0", "fire,3,0", "end,3,0"], 13, 0)
 
 # ---- a long walk over all instances and connections
@@ -149,7 +169,7 @@ case("all_busy", sheet([busy], adds + queues, 8), [list(flat(turns))[:1024]], 10
 
 # ---- the example of the README
 case("maintenance", example("sheet"), example("answer"), 50, 0)
-case("maintenance_started_before_its_server", example("sheet"), example("started-before-its-server"), 19, 34)
+case("maintenance_started_before_its_server", example("sheet"), example("started-before-its-server"), 19, 34, 1)
 case("maintenance_stopped_under_its_client", example("sheet"), example("stopped-under-its-client"), 29, 36)
 
 # ---- an old sheet that relies on 4, and the same sheet rewritten

@@ -6,9 +6,9 @@ from notation import example, move, nexts, sheet
 papers = []
 
 
-def case(name, text, steps, accepted, refused):
-    """A pair of texts as pairs.py has them: the steps accepted, and the number or 0."""
-    papers.append((name, text, steps, accepted, refused))
+def case(name, text, steps, accepted, refused, port="-"):
+    """A pair of texts as pairs.py has them: the steps accepted, the number or 0, and the use port of a 34 or 38."""
+    papers.append((name, text, steps, accepted, refused, port))
 
 
 # ---- Concerto, Figures 3 and 4. A port's transitions are those between two places of its group.
@@ -42,10 +42,10 @@ deploy = [
     ["enter,0,3", "finish,0", "next"],
 ]
 case("concerto_deploy", served(), deploy, 25, 0)
-case("concerto_deploy_installed_before_the_ip", served(), [deploy[:3], "enter,0,1"], 9, 34)
+case("concerto_deploy_installed_before_the_ip", served(), [deploy[:3], "enter,0,1"], 9, 34, 0)
 case("concerto_deploy_configured_by_one_of_two", served(), [deploy[:6], "enter,0,2"], 15, 31)
 case("concerto_deploy_finished_while_configured", served(), [deploy[:8], "finish,0"], 17, 37)
-case("concerto_deploy_running_before_its_server", served(), [deploy[:8], "fire,0,2", "end,0,3", "enter,0,3"], 19, 34)
+case("concerto_deploy_running_before_its_server", served(), [deploy[:8], "fire,0,2", "end,0,3", "enter,0,3"], 19, 34, 1)
 case("concerto_deploy_waited_for_too_early", served(), [deploy[:9], "next"], 22, 21)
 
 # the operations of section 3.3
@@ -77,7 +77,7 @@ case("concerto_maintain_service_interrupted", maintained, [deploy, maintain[:2],
 case("concerto_maintain_finished_while_paused", maintained, [deploy, maintain[:2], "end,0,4", "enter,0,4", "finish,0"], 32, 37)
 case("concerto_maintain_allocated_by_one_of_two", maintained, [deploy, maintain[:4], "enter,1,1"], 38, 31)
 case("concerto_maintain_deploy_not_yet_current", maintained, [deploy, maintain[:5], "enter,1,1", "fire,1,1"], 41, 32)
-case("concerto_maintain_running_before_its_server", maintained, [deploy, maintain[:7], "enter,0,3"], 44, 34)
+case("concerto_maintain_running_before_its_server", maintained, [deploy, maintain[:7], "enter,0,3"], 44, 34, 1)
 case("concerto_maintain_waited_for_too_early", maintained, [deploy, maintain[:8], "next"], 47, 21)
 # section 3.4: a component about to interrupt its service takes no new user, and one that may not interrupt it stays in its behavior
 case("concerto_maintain_additional_usage_blocked", maintained, [deploy, nexts(4), suspended[1:4], "fire,0,2", "end,0,3", "enter,0,3"], 38, 35)
@@ -116,7 +116,7 @@ case("concerto_update_service_in_use", updated, [figure_5, update[:2], "fire,1,2
 case("concerto_update_service_in_use_at_s1", updated, [figure_5, update[:2], ss1[:2], "fire,1,2"], 48, 36)
 case("concerto_update_suspended_too_early", updated, [figure_5, update[:4], "finish,0"], 50, 37)
 case("concerto_update_suspend_and_deploy_first", updated, [figure_5, update[:2], ss1, configured, sr, "enter,0,5"], 58, 35)
-case("concerto_update_running_before_dep1", updated, [figure_5, update[:6], "enter,0,5"], 59, 34)
+case("concerto_update_running_before_dep1", updated, [figure_5, update[:6], "enter,0,5"], 59, 34, 2)
 case("concerto_update_waited_for_too_early", updated, [figure_5, update[:8], "next"], 66, 21)
 # the barrier that would be needed if no port were refusing
 barrier = sheet([dependency, server_2], listing_8 + listing_10 + listing_4[:2] + ["wait,1"] + listing_4[2:])
@@ -124,7 +124,7 @@ case("concerto_update_with_a_barrier", barrier, [figure_5, nexts(2), update[1:5]
 # section 5.3 says that sr is fired only once the service is back, which by the paper's groups holds for its place alone: here sr is in the group
 strict = (8, "0", stations, server_2[3], configs + ["use,5+6,5+6", "use,5+7,5+7"])
 strictly = sheet([dependency, strict], listing_8 + listing_10 + listing_4)
-case("concerto_update_sr_before_the_service", strictly, [figure_5, update[:5], "fire,0,4"], 57, 34)
+case("concerto_update_sr_before_the_service", strictly, [figure_5, update[:5], "fire,0,4"], 57, 34, 2)
 case("concerto_update_sr_after_the_service", strictly, [figure_5, update[:5], du1, dr1, sr, update[8]], 69, 0)
 
 # ---- Concerto-D, Figure 2. No nodes and no messages here: the nodes' programs are one, and a port's state is seen at once. The figure is not in the text:
@@ -185,12 +185,12 @@ case("concerto_d_update", cps_update, [zero, down, nexts(3), back], 61, 0)
 case("concerto_d_update_under_its_sensor", cps_update, [zero, "fire,0,3"], 33, 36)
 case("concerto_d_update_once_its_ports_are_inactive", cps_update, [zero, down[0], "fire,0,3"], 35, 0)
 case("concerto_d_update_waited_for_too_early", cps_update, [zero, down[:4], "next"], 39, 21)
-case("concerto_d_installed_before_the_config", cps_update, [zero, down, nexts(3), back[0], "enter,1,2"], 46, 34)
-case("concerto_d_configured_before_the_service", cps_update, [zero, down, nexts(3), back[:3], "fire,1,2", "end,1,4", "enter,1,3"], 53, 34)
+case("concerto_d_installed_before_the_config", cps_update, [zero, down, nexts(3), back[0], "enter,1,2"], 46, 34, 1)
+case("concerto_d_configured_before_the_service", cps_update, [zero, down, nexts(3), back[:3], "fire,1,2", "end,1,4", "enter,1,3"], 53, 34, 0)
 case("concerto_d_no_transition_to_fire", cps_update, [zero, down, nexts(3), back[:4], "fire,0,3"], 55, 32)
 case("concerto_d_incoming_not_all_finished", cps_update, [nexts(6), provisioned(1)[:3], "enter,1,1"], 9, 31)
 case("concerto_d_push_of_no_such_behavior", sheet(cps, deployed(0, 1)[:4] + ["pushb,1,3"]), [nexts(5)], 4, 13)
-case("concerto_d_config_not_connected", sheet(cps, [x for x in deployed(0, 1) if x != "con,1,1,0,0"]), [nexts(5), move(0, 0, 0, 1), listener_up(0), provisioned(1), back[0], "enter,1,2"], 22, 34)
+case("concerto_d_config_not_connected", sheet(cps, [x for x in deployed(0, 1) if x != "con,1,1,0,0"]), [nexts(5), move(0, 0, 0, 1), listener_up(0), provisioned(1), back[0], "enter,1,2"], 22, 38, 1)
 # without the wait the sensor starts again while the listener is still to update: its port is refusing
 unwaited = sheet(cps, deployed(0, 1) + ["pushb,0,1", "pushb,0,0", "pushb,1,1", "pushb,1,0"])
 case("concerto_d_started_again_before_the_update", unwaited, [zero, nexts(2), move(1, 6, 4, 1), "finish,1", back[0], "enter,1,2"], 41, 35)
@@ -230,24 +230,24 @@ started = [blue, "end,0,4", "end,0,5", "enter,0,4", move(0, 6, 4, 5)]
 green = [started, "end,1,1", "end,1,2", "end,1,3", "enter,1,2", move(1, 4, 2, 3)]
 checked = [green, "fire,0,5", "fire,1,3", "end,0,7", "enter,0,6"]
 case("madeus_commissioning", assembly, [checked, "end,1,5", "enter,1,4", "finish,0", "finish,1", nexts(2)], 44, 0)
-case("madeus_conf_before_the_ip", assembly, [waiting, "fire,0,2"], 16, 34)
+case("madeus_conf_before_the_ip", assembly, [waiting, "fire,0,2"], 16, 34, 0)
 case("madeus_conf_terminated_unfired", assembly, [red, "end,0,4"], 19, 31)
 case("madeus_reached_with_conf_ongoing", assembly, [blue, "end,0,5", "enter,0,4"], 22, 31)
 case("madeus_over_with_actions_ongoing", assembly, [blue, "finish,1"], 21, 37)
-case("madeus_check_before_the_service", assembly, [started, "fire,0,5"], 27, 34)
+case("madeus_check_before_the_service", assembly, [started, "fire,0,5"], 27, 34, 1)
 case("madeus_final_place_left", assembly, [checked, "fire,0,6"], 38, 32)
 case("madeus_over_before_mariadb", assembly, [checked, "finish,0", nexts(2)], 40, 21)
-case("madeus_ip_not_connected", sheet([apache, mariadb], [x for x in run if x != "con,0,0,1,0"]), [nexts(5), docks, move(1, 0, 0, 1), "fire,0,2"], 15, 34)
+case("madeus_ip_not_connected", sheet([apache, mariadb], [x for x in run if x != "con,0,0,1,0"]), [nexts(5), docks, move(1, 0, 0, 1), "fire,0,2"], 15, 38, 0)
 # Listing 1 binds ip to wtg and section 4.3 to the second place: by the listing it is there at once, but a group of wtg alone would lose it
 from_wtg = (*database, ["provide,0+1+2+3+4,0+1+2+3+4+5", "provide,3+4,5"])
 wtg_alone = (*database, ["provide,0,-", "provide,3+4,5"])
 case("madeus_ip_from_the_first_place", sheet([apache, from_wtg], run), [nexts(6), docks, "fire,0,2"], 14, 0)
 case("madeus_ip_of_the_first_place_alone", sheet([apache, wtg_alone], run), [nexts(6), docks, "fire,0,2"], 13, 35)
-case("madeus_ip_of_the_first_place_alone_lost", sheet([apache, wtg_alone], run), [nexts(6), docks, "fire,1,0", "fire,0,2"], 14, 34)
+case("madeus_ip_of_the_first_place_alone_lost", sheet([apache, wtg_alone], run), [nexts(6), docks, "fire,1,0", "fire,0,2"], 14, 34, 0)
 # apache as listed, places wtg, cfd, std, chd: without docks pull and bootstrap wait with conf
 plain = (4, "0", ["0,1", "0,1", "0,1", "1,2", "2,3"], ["0+1+2+3+4"], ["use,-,1", "use,-,4"])
 undocked = sheet([plain, mariadb], run)
 parallel = [nexts(6), move(1, 0, 0, 1), "fire,0,0", "fire,1,1", "end,0,0", "end,0,1", "end,0,2", "enter,0,1", move(0, 3, 1, 2)]
 both_checked = ["fire,0,2", "fire,1,3", "end,0,4", "enter,0,3", "end,1,5", "enter,1,4", "finish,0", "finish,1", nexts(2)]
 case("madeus_without_docks", undocked, [parallel, "end,1,1", "end,1,2", "end,1,3", "enter,1,2", move(1, 4, 2, 3), both_checked], 35, 0)
-case("madeus_without_docks_before_the_ip", undocked, [nexts(6), "fire,0,0"], 6, 34)
+case("madeus_without_docks_before_the_ip", undocked, [nexts(6), "fire,0,0"], 6, 34, 0)
