@@ -1,5 +1,5 @@
 """The screen in the hall in Python, written from documents 01 and 02 and not from the definitions: what is lent as bytes, number 7, and what
-an allowed step leaves in every slot. The rules 10 to 37 are those of the model beside the program `cases`."""
+an allowed step leaves in every slot. The rules 10 to 38 are those of the model beside the program `cases`."""
 import importlib.util
 import os
 import struct
@@ -164,7 +164,7 @@ def is_lawful(x):
     )
 
 
-# ---- the rules 10 to 37, on what is lent
+# ---- the rules 10 to 38, on what is lent
 
 
 def state_of(x):

@@ -1,4 +1,4 @@
--- The refusal numbers 10 to 37 of 01 by name, rows of checks, and what a step answers.
+-- The refusal numbers 10 to 37 of 01 and 38 of 02 by name, rows of checks, and what a step answers.
 use mathlib.Core.Bool.{Bool, cond}
 use Prim.Native.Nat.{ℕ}
 use lib.Dec.{eqb}
