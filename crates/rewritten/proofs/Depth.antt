@@ -15,7 +15,7 @@ use Rattle.reading.specs.Kinds.{dueLine, countLine, initialLine}
 use Rattle.reading.specs.Fill.{withType}
 use Rattle.reading.specs.Texts.{tranAt, behaviorAt, portAt, typeLines}
 use Rattle.rules.specs.Instance.{active, leaving, entering, current}
-use Rattle.rules.specs.Ports.{wouldLeave, refusing, serves, blocks, employs, failsUnserved, failsRefusing, failsInUse, portCheck, wouldEnter}
+use Rattle.rules.specs.Ports.{wouldLeave, wouldEnter, refusing, serves, blocks, employs, failsUnconnected, failsUnserved, failsRefusing, failsInUse, portCheck, concerned}
 use Rattle.rules.specs.PushB.{depthOf, pushbCheck}
 use Rattle.rules.specs.Add.{added}
 use Rattle.rules.specs.Con.{isUsePort, isProvidePort, conCheck}
@@ -23,7 +23,7 @@ use Rattle.rules.specs.DCon.{dconCheck}
 use Rattle.rules.specs.Fire.{fireCheck, fireTo}
 use Rattle.rules.specs.Enter.{enterCheck, enterTo}
 use Rattle.rules.specs.Finish.{mayLeave, finishRow, finishCheck}
-use Rattle.rules.specs.Action.{Action, add, del, pushb, con, dcon, wait, fire, end, enter, finish, actionCheck, effect}
+use Rattle.rules.specs.Action.{concern, Action, add, del, pushb, con, dcon, wait, fire, end, enter, finish, actionCheck, effect}
 use Rattle.rules.specs.Step.{stepCheckWith, stepTo, step}
 use Rattle.rules.specs.Standing.{Standing, standing}
 use Rattle.rules.specs.Walk.{walkBy, walk}
@@ -35,7 +35,7 @@ deep d t = record { depth = d; count = t .count; types = t .types; transitions =
 -- ---- a walk
 module _ (d e x : ℕ) (t : Tables) (same : depthOf d t ≡ depthOf e (deep x t)) where
   check-same : (y : Standing) (c : Configuration) (a : Action) → actionCheck d t y c a ≡ actionCheck e (deep x t) y c a
-  unfolding actionCheck pushbCheck conCheck isUsePort isProvidePort dconCheck fireCheck enterCheck finishCheck finishRow mayLeave portCheck failsUnserved failsRefusing failsInUse serves blocks employs refusing wouldLeave wouldEnter active leaving entering current
+  unfolding actionCheck pushbCheck conCheck isUsePort isProvidePort dconCheck fireCheck enterCheck finishCheck finishRow mayLeave portCheck failsUnconnected failsUnserved failsRefusing failsInUse serves blocks employs refusing wouldLeave wouldEnter active leaving entering current
   check-same y c (add i k) = refl
   check-same y c (del i) = refl
   check-same y c (pushb i b) = rw same
@@ -60,9 +60,22 @@ module _ (d e x : ℕ) (t : Tables) (same : depthOf d t ≡ depthOf e (deep x t)
   effect-same c (enter i p) = refl
   effect-same c (finish i) = refl
 
+  concern-same : (y : Standing) (c : Configuration) (a : Action) (n : ℕ) → concern t y c a n ≡ concern (deep x t) y c a n
+  unfolding concern concerned failsUnconnected failsUnserved serves active leaving entering current
+  concern-same y c (add i k) n = refl
+  concern-same y c (del i) n = refl
+  concern-same y c (pushb i b) n = refl
+  concern-same y c (con k) n = refl
+  concern-same y c (dcon k) n = refl
+  concern-same y c (wait i) n = refl
+  concern-same y c (fire i p) n = refl
+  concern-same y c (end i p) n = refl
+  concern-same y c (enter i p) n = refl
+  concern-same y c (finish i) n = refl
+
   step-same : (p : Program) (c : Configuration) (s : Step) → step d t p c s ≡ step e (deep x t) p c s
   unfolding step stepCheckWith stepTo
-  step-same p c s = rw (check-same (standing c) c, effect-same c)
+  step-same p c s = rw (check-same (standing c) c, effect-same c, concern-same (standing c) c)
 
   pub walk-same : (p : Program) (ss : List Step) (c : Configuration) → walk d t p c ss ≡ walk e (deep x t) p c ss
   unfolding walk
