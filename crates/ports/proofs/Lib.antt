@@ -1,4 +1,5 @@
 -- The port check by what is had before and after a move is the port check by the instance after it (Ports); where nothing has ended nothing can be entered (Ended); the provide ports in use, row by row (InUse).
+pub mod Lowest
 pub mod Ports
 pub mod InUse
 pub mod Ended

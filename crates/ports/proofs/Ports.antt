@@ -3,7 +3,8 @@
 use mathlib.Core.Path.{_≡_, refl, sym, ap, _∙_}
 use mathlib.Core.Logic.{by-cases}
 use mathlib.Core.Bool.{Bool, true, false, not, _&&_, _||_, cond, and-true, and-false, or-false, or-comm, and-eq-true-iff, false≢true}
-use Prim.Native.Nat.{ℕ, _+_, _-_, _/_, _%_, _≤_, _<_}
+use mathlib.Core.List.{List}
+use Prim.Native.Nat.{ℕ, _+_, _*_, _-_, _/_, _%_, _≤_, _<_}
 use native.Mathlib.Omega.{arith}
 use native.Mathlib.Numerals.{add-one}
 use native.Mathlib.Decide.{ℕ-discrete, decLt}
@@ -22,15 +23,19 @@ use Rattle.model.specs.declared.Connection.{Connection}
 use Rattle.model.specs.declared.Configuration.{Configuration}
 use Rattle.model.specs.Empty.{absent}
 use Rattle.model.specs.View.{isUse, instance, groupPlaces, groupTransitions}
-use Rattle.rules.specs.Refusal.{_⇒_∣_, allowed, unserved, providerRefusing, serviceInUse}
+use Rattle.rules.specs.Refusal.{_⇒_∣_, allowed, unconnected, unserved, providerRefusing, serviceInUse}
 use Rattle.rules.specs.Standing.{standing, someConnection}
 use Rattle.rules.specs.Instance.{held, active, portsOf}
-use Rattle.rules.specs.Ports.{wouldLeave, serves, blocks, employs, failsUnserved, failsRefusing, failsInUse, inUse, portCheck}
+use Rattle.rules.specs.Ports.{wouldLeave, isOf, serves, blocks, employs, failsUnconnected, failsUnserved, failsRefusing, failsInUse, inUse, portCheck, concerned}
 use Rattle.rules.proofs.Connections.{Stands, some-stands}
+use Rattle.model.proofs.View.{past-end, length-list}
+use Rattle.words.specs.Rows.{column}
+use Rattle.words.specs.Words.{tablesIn}
 use Rattle.words.specs.Parts.{serverOf}
 use Rattle.words.proofs.Served.{hasServer, looked}
 use Rattle.ports.specs.declared.Sets.{Sets}
-use Rattle.ports.specs.Turns.{activeIn, leavesBy, refusingAt, useRefusal, portRefusal, setsOf, gets, endingBelow, portsRefusal, changed, turned, turnCheck}
+use Rattle.ports.proofs.Lowest.{lowest-low, lowest-same}
+use Rattle.ports.specs.Turns.{activeIn, leavesBy, refusingAt, useRefusal, portRefusal, setsOf, gets, endingBelow, aboutOf, answered, found, portsRefusal, checked, changed, turned, turnAnswer}
 
 -- ---- places that would leave
 
@@ -52,52 +57,84 @@ module _ (t : Tables) (c : Configuration) (full : length (c .servers) ≡ 512) (
   unfolding blocks
   blocks-looked = looked c full i q (λ k. refusingAt t c (k .provider) (k .provideport))
 
+  linked-looked : someConnection c (isOf i q) ≡ hasServer c full i q
+  unfolding isOf
+  linked-looked =
+      ap (someConnection c) (λ j k. eqb (k .user) i && sym (and-true (eqb (k .useport) q)) j)
+      ∙ looked c full i q (λ k. true) ∙ and-true (hasServer c full i q)
+
   pub use-looked : (before : Bool)
       → useRefusal t c i before q
-      ≡ (not (hasServer c full i q && active t (instance c ((server′ - 1) / 16)) ((server′ - 1) % 16)) ⇒ unserved
+      ≡ (not (hasServer c full i q) ⇒ unconnected
+      ∣ not (hasServer c full i q && active t (instance c ((server′ - 1) / 16)) ((server′ - 1) % 16)) ⇒ unserved
       ∣ not before && (hasServer c full i q && refusingAt t c ((server′ - 1) / 16) ((server′ - 1) % 16)) ⇒ providerRefusing
       ∣ allowed)
   unfolding useRefusal
-  use-looked before = rw (serves-looked, blocks-looked)
+  use-looked before = rw (linked-looked, serves-looked, blocks-looked)
 
 -- ---- all ports in one pass
 
--- what a port gets: a use port or not, active after and before, served, refused
-abbrev told : Bool → Bool → Bool → Bool → Bool → ℕ
-told u a b s k = cond u (cond a (not s ⇒ unserved ∣ not b && k ⇒ providerRefusing ∣ allowed) allowed) (b && not a ⇒ serviceInUse ∣ allowed)
+-- what a port gets: a use port or not, active after and before, connected, served, refused
+abbrev told : Bool → Bool → Bool → Bool → Bool → Bool → ℕ
+told u a b l s k =
+    cond u (cond a (not l ⇒ unconnected ∣ not s ⇒ unserved ∣ not b && k ⇒ providerRefusing ∣ allowed) allowed) (b && not a ⇒ serviceInUse ∣ allowed)
 
-unserved-told : (u a b s k : Bool) → eqb (told u a b s k) unserved ≡ (u && (a && not s))
-unserved-told true true b false k = refl
-unserved-told true true true true k = refl
-unserved-told true true false true true = refl
-unserved-told true true false true false = refl
-unserved-told true false b s k = refl
-unserved-told false true true s k = refl
-unserved-told false true false s k = refl
-unserved-told false false true s k = refl
-unserved-told false false false s k = refl
+unconnected-told : (u a b l s k : Bool) → eqb (told u a b l s k) unconnected ≡ (u && (a && not l))
+unconnected-told true true b false s k = refl
+unconnected-told true true b true false k = refl
+unconnected-told true true true true true k = refl
+unconnected-told true true false true true true = refl
+unconnected-told true true false true true false = refl
+unconnected-told true false b l s k = refl
+unconnected-told false true true l s k = refl
+unconnected-told false true false l s k = refl
+unconnected-told false false true l s k = refl
+unconnected-told false false false l s k = refl
 
-refusing-told : (u a b s k : Bool) → (u && (a && not s)) ≡ false → eqb (told u a b s k) providerRefusing ≡ (u && (a && (not b && k)))
-refusing-told true true b false k e = absurd (false≢true (sym e))
-refusing-told true true true true k e = refl
-refusing-told true true false true true e = refl
-refusing-told true true false true false e = refl
-refusing-told true false b s k e = refl
-refusing-told false true true s k e = refl
-refusing-told false true false s k e = refl
-refusing-told false false true s k e = refl
-refusing-told false false false s k e = refl
+unserved-told : (u a b l s k : Bool) → (u && (a && not l)) ≡ false → eqb (told u a b l s k) unserved ≡ (u && (a && not s))
+unserved-told true true b false s k e = absurd (false≢true (sym e))
+unserved-told true true b true false k e = refl
+unserved-told true true true true true k e = refl
+unserved-told true true false true true true e = refl
+unserved-told true true false true true false e = refl
+unserved-told true false b l s k e = refl
+unserved-told false true true l s k e = refl
+unserved-told false true false l s k e = refl
+unserved-told false false true l s k e = refl
+unserved-told false false false l s k e = refl
 
-ending-told : (u a b s k : Bool) → eqb (told u a b s k) serviceInUse ≡ (not u && (b && not a))
-ending-told true true b false k = refl
-ending-told true true true true k = refl
-ending-told true true false true true = refl
-ending-told true true false true false = refl
-ending-told true false b s k = refl
-ending-told false true true s k = refl
-ending-told false true false s k = refl
-ending-told false false true s k = refl
-ending-told false false false s k = refl
+refusing-told : (u a b l s k : Bool) → (u && (a && not l)) ≡ false → (u && (a && not s)) ≡ false
+    → eqb (told u a b l s k) providerRefusing ≡ (u && (a && (not b && k)))
+refusing-told true true b false s k e f = absurd (false≢true (sym e))
+refusing-told true true b true false k e f = absurd (false≢true (sym f))
+refusing-told true true true true true k e f = refl
+refusing-told true true false true true true e f = refl
+refusing-told true true false true true false e f = refl
+refusing-told true false b l s k e f = refl
+refusing-told false true true l s k e f = refl
+refusing-told false true false l s k e f = refl
+refusing-told false false true l s k e f = refl
+refusing-told false false false l s k e f = refl
+
+ending-told : (u a b l s k : Bool) → eqb (told u a b l s k) serviceInUse ≡ (not u && (b && not a))
+ending-told true true b false s k = refl
+ending-told true true b true false k = refl
+ending-told true true true true true k = refl
+ending-told true true false true true true = refl
+ending-told true true false true true false = refl
+ending-told true false b l s k = refl
+ending-told false true true l s k = refl
+ending-told false true false l s k = refl
+ending-told false false true l s k = refl
+ending-told false false false l s k = refl
+
+-- 38 and 34 are of use ports
+use-told : (u a b l s k : Bool) → (eqb (told u a b l s k) unconnected || eqb (told u a b l s k) unserved) ≡ true → u ≡ true
+use-told true a b l s k e = refl
+use-told false true true l s k e = e
+use-told false true false l s k e = e
+use-told false false true l s k e = e
+use-told false false false l s k e = e
 
 -- those below n that pass, of the 32, one by one
 module _ (p : ℕ → Bool) (q : ℕ) where
@@ -126,9 +163,26 @@ pub any-next : (q : ℕ) (p : ℕ → Bool) → anyBelow (q + 1) p ≡ (anyBelow
 unfolding anyBelow
 any-next q p = rw (add-one q)
 
+-- a use port's number is below 256, as the words of the tables end
+pub use-low : (ws : List ℕ) (k q : ℕ) → isUse (tablesIn ws) k q ≡ true → q < 256
+unfolding tablesIn
+use-low ws k q e =
+    by-cases (decLt q 256) (λ h. h)
+    (λ far. absurd (false≢true (ap (λ (x : ℕ). eqb x 1) (sym (past-end (column ws 1024 256 3 0) 0 {i = k * 16 + q} (length-list 256 _) (omega arith))) ∙ e)))
+
+-- past 34 no port is named
+about-late : (r o : Bool) (a b d e : ℕ)
+    → answered (aboutOf a b) (r ⇒ providerRefusing ∣ o ⇒ serviceInUse ∣ allowed) ≡ answered (aboutOf d e) (r ⇒ providerRefusing ∣ o ⇒ serviceInUse ∣ allowed)
+about-late true o a b d e = refl
+about-late false true a b d e = refl
+about-late false false a b d e = refl
+
 module _ (t : Tables) (c : Configuration) (i : ℕ) where
   abbrev employed : ℕ → Bool
   employed q = someConnection c (employs t c i q)
+
+  abbrev linked : ℕ → Bool
+  linked q = someConnection c (isOf i q)
 
   abbrev served : ℕ → Bool
   served q = someConnection c (serves t c i q)
@@ -169,27 +223,38 @@ module _ (t : Tables) (c : Configuration) (i : ℕ) where
 
       no-end : (q : ℕ) → gets t c i next serviceInUse q ≡ false
       no-end q =
-          ending-told (isUse t (v .kind) q) (activeIn t (v .kind) next q) (activeIn t (v .kind) (setsOf v) q) (served q) (refused q)
+          ending-told (isUse t (v .kind) q) (activeIn t (v .kind) next q) (activeIn t (v .kind) (setsOf v) q) (linked q) (served q) (refused q)
           ∙ ap (λ (b : Bool). not (isUse t (v .kind) q) && (b && not (activeIn t (v .kind) next q))) (idle q) ∙ and-false (not (isUse t (v .kind) q))
+
+  -- a port that 38 or 34 is about is a use port
+  pub gets-use : (next : Sets) (q : ℕ) → (gets t c i next unconnected q || gets t c i next unserved q) ≡ true → isUse t (v .kind) q ≡ true
+  unfolding portRefusal useRefusal
+  gets-use next q = use-told (isUse t (v .kind) q) (activeIn t (v .kind) next q) (activeIn t (v .kind) (setsOf v) q) (linked q) (served q) (refused q)
 
   module _ (w : Instance) (kind : w .kind ≡ v .kind) where
     gets-told : (number q : ℕ) → gets t c i (setsOf w) number q
-        ≡ eqb (told (isUse t (w .kind) q) (active t w q) (active t v q) (served q) (refused q)) number
+        ≡ eqb (told (isUse t (w .kind) q) (active t w q) (active t v q) (linked q) (served q) (refused q)) number
     unfolding portRefusal useRefusal active
     gets-told number q = rw kind
 
-    unserved-at : (q : ℕ) → gets t c i (setsOf w) unserved q ≡ failsUnserved t (standing c) c i w q
-    unfolding failsUnserved
-    unserved-at q = gets-told unserved q ∙ unserved-told (isUse t (w .kind) q) (active t w q) (active t v q) (served q) (refused q)
+    unconnected-at : (q : ℕ) → gets t c i (setsOf w) unconnected q ≡ failsUnconnected t (standing c) c i w q
+    unfolding failsUnconnected
+    unconnected-at q = gets-told unconnected q ∙ unconnected-told (isUse t (w .kind) q) (active t w q) (active t v q) (linked q) (served q) (refused q)
 
-    refusing-at : (q : ℕ) → failsUnserved t (standing c) c i w q ≡ false → gets t c i (setsOf w) providerRefusing q ≡ failsRefusing t (standing c) c i v w q
-    unfolding failsUnserved failsRefusing
-    refusing-at q e = gets-told providerRefusing q ∙ refusing-told (isUse t (w .kind) q) (active t w q) (active t v q) (served q) (refused q) e
+    unserved-at : (q : ℕ) → failsUnconnected t (standing c) c i w q ≡ false → gets t c i (setsOf w) unserved q ≡ failsUnserved t (standing c) c i w q
+    unfolding failsUnconnected failsUnserved
+    unserved-at q e = gets-told unserved q ∙ unserved-told (isUse t (w .kind) q) (active t w q) (active t v q) (linked q) (served q) (refused q) e
+
+    refusing-at : (q : ℕ) → failsUnconnected t (standing c) c i w q ≡ false → failsUnserved t (standing c) c i w q ≡ false
+        → gets t c i (setsOf w) providerRefusing q ≡ failsRefusing t (standing c) c i v w q
+    unfolding failsUnconnected failsUnserved failsRefusing
+    refusing-at q e f =
+        gets-told providerRefusing q ∙ refusing-told (isUse t (w .kind) q) (active t w q) (active t v q) (linked q) (served q) (refused q) e f
 
     ending-at : (q : ℕ) → (gets t c i (setsOf w) serviceInUse q && employed q) ≡ failsInUse t (standing c) c i v w q
     unfolding failsInUse
     ending-at q =
-        ap (λ (b : Bool). b && employed q) (gets-told serviceInUse q ∙ ending-told (isUse t (w .kind) q) (active t w q) (active t v q) (served q) (refused q))
+        ap (λ (b : Bool). b && employed q) (gets-told serviceInUse q ∙ ending-told (isUse t (w .kind) q) (active t w q) (active t v q) (linked q) (served q) (refused q))
         ∙ inward (not (isUse t (w .kind) q)) (active t v q) (not (active t w q)) (employed q)
       where
         inward : (a b d x : Bool) → ((a && (b && d)) && x) ≡ (a && (b && (d && x)))
@@ -218,19 +283,27 @@ module _ (t : Tables) (c : Configuration) (i : ℕ) where
               rw (lt-ltb q n h, ends, on),
             )
 
-    pub ports-check : portsRefusal t c i (setsOf w) ≡ portCheck t (standing c) c i v w
-    unfolding portsRefusal portCheck
+    -- the numbers and the ports by what the pass found
+    pub ports-check : portsRefusal t c i (setsOf w) ≡ checked t c i w
+    unfolding portsRefusal found portCheck concerned
     ports-check =
-        by-test (anyBelow n (failsUnserved t (standing c) c i w))
-        (λ on. rw (first, on))
-        (λ off. rw (first, off, second off, by-sets))
+        by-test (anyBelow n (failsUnconnected t (standing c) c i w))
+        (λ on. rw (lowest-low n (gets t c i (setsOf w) unconnected), first, on, lowest-same n _ _ (λ q h. unconnected-at q)))
+        (λ off. by-test (anyBelow n (failsUnserved t (standing c) c i w))
+        (λ on. rw (lowest-low n (gets t c i (setsOf w) unconnected), first, off, lowest-low n (gets t c i (setsOf w) unserved), second off, on, lowest-same n _ _ (λ q h. unserved-at q (any-none n _ off q h))))
+        (λ out. rw (lowest-low n (gets t c i (setsOf w) unconnected), first, off, lowest-low n (gets t c i (setsOf w) unserved), second off, out, third off out, by-sets)
+        (about-late (anyBelow n (failsRefusing t (standing c) c i v w)) (anyBelow n (failsInUse t (standing c) c i v w)) _ _ _ _)))
       where
-        first : anyBelow n (gets t c i (setsOf w) unserved) ≡ anyBelow n (failsUnserved t (standing c) c i w)
-        first = any-same n _ _ (λ q h. unserved-at q)
+        first : anyBelow n (gets t c i (setsOf w) unconnected) ≡ anyBelow n (failsUnconnected t (standing c) c i w)
+        first = any-same n _ _ (λ q h. unconnected-at q)
 
-        second : anyBelow n (failsUnserved t (standing c) c i w) ≡ false
+        second : anyBelow n (failsUnconnected t (standing c) c i w) ≡ false
+            → anyBelow n (gets t c i (setsOf w) unserved) ≡ anyBelow n (failsUnserved t (standing c) c i w)
+        second off = any-same n _ _ (λ q h. unserved-at q (any-none n _ off q h))
+
+        third : anyBelow n (failsUnconnected t (standing c) c i w) ≡ false → anyBelow n (failsUnserved t (standing c) c i w) ≡ false
             → anyBelow n (gets t c i (setsOf w) providerRefusing) ≡ anyBelow n (failsRefusing t (standing c) c i v w)
-        second off = any-same n _ _ (λ q h. refusing-at q (any-none n _ off q h))
+        third off out = any-same n _ _ (λ q h. refusing-at q (any-none n _ off q h) (any-none n _ out q h))
 
 -- ---- what is held after it
 
@@ -254,7 +327,7 @@ same-sets marks holds s e f = rw (e, f)
 -- any instance of that type with those marks and holds has the same port check
 pub turned-check : (t : Tables) (c : Configuration) (i : ℕ) (loses gains : Sets) (w : Instance) → w .kind ≡ instance c i .kind
     → w .marked ≡ changed (instance c i .marked) (loses .places) (gains .places) → held w ≡ changed (held (instance c i)) (loses .holds) (gains .holds)
-    → turnCheck t c i loses gains ≡ portCheck t (standing c) c i (instance c i) w
+    → turnAnswer t c i loses gains ≡ checked t c i w
 unfolding turned
 turned-check t c i loses gains w kind marks holds =
     let v = instance c i in

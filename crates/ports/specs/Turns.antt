@@ -1,18 +1,22 @@
 -- The port check by what an instance has before and after a move, port by port, and what a move takes and gives.
 use mathlib.Core.Bool.{Bool, not, _&&_, _||_, cond}
-use Prim.Native.Nat.{ℕ}
+use Prim.Native.Nat.{ℕ, _+_}
 use lib.Dec.{eqb, ltb}
-use Rattle.sets.specs.Test.{anyBelow}
+use Rattle.sets.specs.Test.{anyBelow, lowest}
 use Rattle.sets.specs.Mask.{collect, overlaps, joined, without}
 use Rattle.model.specs.declared.Tables.{Tables}
 use Rattle.model.specs.declared.Instance.{Instance}
 use Rattle.model.specs.declared.Configuration.{Configuration}
+use Rattle.model.specs.declared.Concerned.{Concerned}
+use Rattle.model.specs.declared.Concerned.the-variants.{NoPort, UsePort}
 use Rattle.model.specs.View.{source, destination, groupPlaces, groupTransitions, isUse, instance}
-use Rattle.rules.specs.Refusal.{_⇒_∣_, allowed, unserved, providerRefusing, serviceInUse}
+use Rattle.rules.specs.Refusal.{_⇒_∣_, allowed, unconnected, unserved, providerRefusing, serviceInUse}
 use Rattle.rules.specs.Standing.{standing, someConnection}
 use Rattle.rules.specs.Instance.{held, active, leaving, fired, portsOf}
-use Rattle.rules.specs.Ports.{behavior, refusing, serves, blocks, inUse, portCheck}
+use Rattle.rules.specs.Ports.{behavior, refusing, isOf, serves, blocks, inUse, portCheck, concerned}
 use Rattle.ports.specs.declared.Sets.{Sets}
+use Rattle.ports.specs.declared.Answered.{Answered}
+use Rattle.ports.specs.declared.Found.{Found}
 
 -- the end of transition x, where it leaves or where it leads
 abbrev pub endOf : Tables → Bool → ℕ → ℕ → ℕ
@@ -38,7 +42,8 @@ refusingAt t c i q = refusing t (instance c i) (behavior t c i) q
 -- what use port q of i gets that is active after the move
 unfoldable pub useRefusal : Tables → Configuration → ℕ → Bool → ℕ → ℕ
 useRefusal t c i before q =
-    not (someConnection c (serves t c i q)) ⇒ unserved
+    not (someConnection c (isOf i q)) ⇒ unconnected
+    ∣ not (someConnection c (serves t c i q)) ⇒ unserved
     ∣ not before && someConnection c (blocks t c i q) ⇒ providerRefusing
     ∣ allowed
 
@@ -60,12 +65,44 @@ gets t c i next n q = eqb (portRefusal t c i (instance c i .kind) (setsOf (insta
 abbrev pub endingBelow : Tables → Configuration → ℕ → Sets → ℕ → ℕ
 endingBelow t c i next n = collect 32 (λ q. ltb q n && gets t c i next serviceInUse q)
 
-unfoldable pub portsRefusal : Tables → Configuration → ℕ → Sets → ℕ
-portsRefusal t c i next =
-    anyBelow (portsOf t (instance c i)) (gets t c i next unserved) ⇒ unserved
-    ∣ anyBelow (portsOf t (instance c i)) (gets t c i next providerRefusing) ⇒ providerRefusing
-    ∣ overlaps (endingBelow t c i next (portsOf t (instance c i))) (inUse t (standing c) c i) ⇒ serviceInUse
+-- what the pass over the first n ports finds, and over all
+abbrev pub foundBelow : Tables → Configuration → ℕ → Sets → ℕ → Found
+foundBelow t c i next n = record {
+  unconnected = lowest n (gets t c i next unconnected);
+  unserved = lowest n (gets t c i next unserved);
+  refuses = anyBelow n (gets t c i next providerRefusing);
+  ending = endingBelow t c i next n;
+}
+
+unfoldable pub found : Tables → Configuration → ℕ → Sets → Found
+found t c i next = foundBelow t c i next (portsOf t (instance c i))
+
+-- of the first q and one more: the lowest that fails, where low is that of the first q
+abbrev pub lowestAfter : ℕ → ℕ → Bool → ℕ
+lowestAfter low q fails = cond (eqb low q && not fails) (low + 1) low
+
+-- a number, and the use port it is about
+abbrev pub answered : (ℕ → Concerned) → ℕ → Answered
+answered about n = record { refused = n; port = about n }
+
+-- the numbers by what was found, and the use port that each is about
+abbrev pub numberFound : Tables → Configuration → ℕ → ℕ → Found → ℕ
+numberFound t c i n f =
+    ltb (f .unconnected) n ⇒ unconnected
+    ∣ ltb (f .unserved) n ⇒ unserved
+    ∣ f .refuses ⇒ providerRefusing
+    ∣ overlaps (f .ending) (inUse t (standing c) c i) ⇒ serviceInUse
     ∣ allowed
+
+abbrev pub aboutOf : ℕ → ℕ → ℕ → Concerned
+aboutOf first second m = cond (eqb m unconnected) (UsePort first) (cond (eqb m unserved) (UsePort second) NoPort)
+
+unfoldable pub portsRefusal : Tables → Configuration → ℕ → Sets → Answered
+portsRefusal t c i next = answered (aboutOf (found t c i next .unconnected) (found t c i next .unserved)) (numberFound t c i (portsOf t (instance c i)) (found t c i next))
+
+-- the port check where instance i becomes w
+abbrev pub checked : Tables → Configuration → ℕ → Instance → Answered
+checked t c i w = answered (concerned t (standing c) c i (instance c i) w) (portCheck t (standing c) c i (instance c i) w)
 
 -- a set without what is lost and with what is gained
 abbrev pub changed : ℕ → ℕ → ℕ → ℕ
@@ -82,6 +119,6 @@ turned v loses gains = record {
   queued = v .queued;
 }
 
--- the port check of a move by which instance i loses and gains so much
-abbrev pub turnCheck : Tables → Configuration → ℕ → Sets → Sets → ℕ
-turnCheck t c i loses gains = portCheck t (standing c) c i (instance c i) (turned (instance c i) loses gains)
+-- the port check of a move by which instance i loses and gains so much: its number, and the use port that is about
+abbrev pub turnAnswer : Tables → Configuration → ℕ → Sets → Sets → Answered
+turnAnswer t c i loses gains = checked t c i (turned (instance c i) loses gains)

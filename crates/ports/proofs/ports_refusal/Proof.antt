@@ -1,136 +1,130 @@
--- Of the ports below q none is unserved, and it is known whether a provider refuses one and which services end.
-use mathlib.Core.Path.{_≡_, refl, sym, ap, ap₂, _∙_}
-use mathlib.Core.Logic.{⊎-elim, by-cases}
-use mathlib.Core.Bool.{Bool, true, false, _||_}
-use Prim.Native.Nat.{ℕ, _≤_, _-_}
-use native.Mathlib.Nat.{le-antisymm}
+use mathlib.Core.Path.{_≡_, refl, sym, ap, _∙_}
+use mathlib.Core.Logic.{by-cases}
+use mathlib.Core.Bool.{Bool, true, false, _||_, or-true}
+use Prim.Native.Nat.{ℕ, _<_}
 use native.Mathlib.Omega.{arith}
 use native.Mathlib.Decide.{decLt}
-use lib.Dec.{eqb}
 use borrow.Author.Needs.{needs}
-use borrow.Author.Tests.{eq-eqb, ne-eqb}
-use Rattle.sets.specs.Test.{anyBelow}
-use Rattle.sets.specs.Mask.{with, overlaps}
-use Rattle.sets.proofs.Laws.{any-start, any-more, any-hit}
+use borrow.Author.Tests.{lt-ltb, le-ltb}
+use Rattle.sets.specs.Test.{lowest}
+use Rattle.sets.specs.Mask.{overlaps}
+use Rattle.sets.proofs.Lowest.{lowest-holds}
+use Rattle.model.specs.declared.Concerned.the-variants.{NoPort}
 use Rattle.model.specs.View.{instance, typeOf}
-use Rattle.rules.specs.Refusal.{_⇒_∣_, allowed, unserved, providerRefusing, serviceInUse}
+use Rattle.rules.specs.Refusal.{_⇒_∣_, allowed, unconnected, unserved, serviceInUse}
 use Rattle.rules.specs.Standing.{standing}
 use Rattle.rules.specs.Instance.{portsOf}
 use Rattle.rules.specs.Ports.{inUse}
 use Rattle.words.specs.Words.{tablesIn, stateIn}
 use Rattle.words.proofs.InState.{instance-past}
-use Rattle.ports.specs.Turns.{portRefusal, setsOf, gets, endingBelow, portsRefusal}
-use Rattle.ports.proofs.Ports.{below-start, below-in, below-out, any-next, none-overlap, none-ends}
+use Rattle.ports.specs.declared.Found.{Found}
+use Rattle.ports.specs.declared.Answered.{Answered}
+use Rattle.ports.specs.Turns.{gets, aboutOf, answered, numberFound, found, portsRefusal}
+use Rattle.ports.proofs.Lowest.{lowest-low}
+use Rattle.ports.proofs.Ports.{none-overlap, none-ends, gets-use, use-low}
 use Rattle.ports.proofs.ports_refusal.Statement.{statement}
 use Rattle.ports.proofs.ports_refusal.Tie as tie
 
-abbrev Inv-loop : tie.InvT-loop
-Inv-loop tables state i next k was n refuses₀ ending₀ q₀ refuses ending q =
-    (q ≤ n) × (anyBelow q (gets (tablesIn tables) (stateIn state) i next unserved) ≡ false)
-    × (refuses ≡ anyBelow q (gets (tablesIn tables) (stateIn state) i next providerRefusing)) × (ending ≡ endingBelow (tablesIn tables) (stateIn state) i next q)
+-- how many ports there are
+many : (p : tie.After-ports-of)
+    → let a = p .before .before .args in
+    p .ports-of .result ≡ portsOf (tablesIn (a .tables .now)) (instance (stateIn (a .state .now)) (a .i))
+many p = let a = p .before .before .args in p .ports-of .ensures ∙ ap (λ (k : ℕ). typeOf (tablesIn (a .tables .now)) k .ports) (p .before .kind .ensures)
 
-abbrev μ-loop : tie.MeasureT-loop
-μ-loop tables state i next k was n refuses₀ ending₀ q₀ refuses ending q = n - q
-
-loop-holds : tie.Need-loop-holds Inv-loop μ-loop
-loop-holds c = (omega arith, any-start _, sym (any-start _), below-start _)
-
--- port q gets the number n
-abbrev getting : tie.Start Inv-loop μ-loop → ℕ → ℕ → Bool
-getting s n q = let a = s .args in gets (tablesIn (a .tables .now)) (stateIn (a .state .now)) (a .i) (a .next) n q
-
--- the services that end, and the ports in use
-abbrev ends : tie.Start Inv-loop μ-loop → ℕ → ℕ
-ends s n = let a = s .args in endingBelow (tablesIn (a .tables .now)) (stateIn (a .state .now)) (a .i) (a .next) n
-
-abbrev used : tie.Start Inv-loop μ-loop → ℕ
-used s = let a = s .args in inUse (tablesIn (a .tables .now)) (standing (stateIn (a .state .now))) (stateIn (a .state .now)) (a .i)
-
--- the answer over the first n ports
-abbrev over : tie.Start Inv-loop μ-loop → ℕ → ℕ
-over s n =
-    anyBelow n (getting s unserved) ⇒ unserved ∣ anyBelow n (getting s providerRefusing) ⇒ providerRefusing ∣ overlaps (ends s n) (used s) ⇒ serviceInUse ∣ allowed
-
--- and over as many as were read
-all : (p : tie.After-ports-of Inv-loop μ-loop)
-    → let s = p .before .before .before .before in
-    over s (p .ports-of .result) ≡ portsRefusal (tablesIn (s .args .tables .now)) (stateIn (s .args .state .now)) (s .args .i) (s .args .next)
+-- the answer by what was found
+by-found : (l : tie.After-look-over)
+    → let a = l .before .before .before .args in
+    let f = l .look-over .result in
+    answered (aboutOf (f .unconnected) (f .unserved)) (numberFound (tablesIn (a .tables .now)) (stateIn (a .state .now)) (a .i) (l .before .ports-of .result) f)
+    ≡ portsRefusal (tablesIn (a .tables .now)) (stateIn (a .state .now)) (a .i) (a .next)
 unfolding portsRefusal
-all p =
-    let k = p .before .before .before in
-    let a = k .before .args in
-    ap (over (k .before)) (p .ports-of .ensures ∙ ap (λ (k : ℕ). typeOf (tablesIn (a .tables .now)) k .ports) (k .kind .ensures))
+by-found l = rw (l .look-over .ensures, many (l .before))
 
--- the port looked at gets what was answered
-own : (x : tie.After-port-refusal Inv-loop μ-loop) (n : ℕ) (b : Bool) → eqb (x .port-refusal .result) n ≡ b
-    → getting (x .before .before .before .before .before .before .before) n (x .before .before .loop .q) ≡ b
-own x n b e =
-    let h = x .before .before .before .before in
-    ap (λ (m : ℕ). eqb m n) (sym (x .port-refusal .ensures ∙ rw (h .held .ensures, h .before .marked .ensures, h .before .before .kind .ensures))) ∙ e
+-- 36 is about no port
+unnamed : (o : Bool) (a b : ℕ)
+    → _≡_ {A = Answered} (record { refused = o ⇒ serviceInUse ∣ allowed; port = NoPort }) (answered (aboutOf a b) (o ⇒ serviceInUse ∣ allowed))
+unnamed true a b = refl
+unnamed false a b = refl
 
-returns : tie.Need-returns Inv-loop μ-loop
-returns c =
-    let x = c .before in
-    let l = x .before .before in
-    let s = l .before .before .before .before .before in
-    rw (any-hit _ (getting s unserved) (l .loop .q) (x .before .loop-test .taken) (own x unserved true (eq-eqb _ _ (c .if1 .taken)))) at (all (l .before))
+or-right : (a b : Bool) → b ≡ true → (a || b) ≡ true
+or-right a b e = rw e (or-true a)
 
-loop-again : tie.Need-loop-again Inv-loop μ-loop
-loop-again c =
-    let x = c .before .before in
-    let l = x .before .before in
-    let s = l .before .before .before .before .before in
-    let i = l .loop .inv in (
-      search needs,
-      any-more _ _ (i .1) (own x unserved false (ne-eqb _ _ (c .before .if1 .left))),
-      ap₂ _||_ (i .2) (sym (own x providerRefusing _ refl)) ∙ sym (any-next (l .loop .q) (getting s providerRefusing)),
-      ⊎-elim
-          (λ w. w .2 ∙ w .1 .ensures ∙ ap (with (l .loop .q)) (i .3) ∙ below-in _ (l .loop .q) (own x serviceInUse true (eq-eqb _ _ (w .0 .taken))))
-          (λ w. w .1 ∙ i .3 ∙ below-out _ (l .loop .q) (own x serviceInUse false (ne-eqb _ _ (w .0 .left))))
-          (c .if2 .came),
-    )
+-- a port that is named is a use port, and so below 256
+named-low : (l : tie.After-look-over) (number q : ℕ)
+    → let a = l .before .before .before .args in
+    let d = stateIn (a .state .now) in
+    ((r : ℕ) → gets (tablesIn (a .tables .now)) d (a .i) (a .next) number r ≡ true
+    → (gets (tablesIn (a .tables .now)) d (a .i) (a .next) unconnected r || gets (tablesIn (a .tables .now)) d (a .i) (a .next) unserved r) ≡ true)
+    → q ≡ lowest (portsOf (tablesIn (a .tables .now)) (instance d (a .i))) (gets (tablesIn (a .tables .now)) d (a .i) (a .next) number)
+    → q < l .before .ports-of .result → q < 256
+named-low l number q either is h =
+    let a = l .before .before .before .args in
+    let t = tablesIn (a .tables .now) in
+    let d = stateIn (a .state .now) in
+    let n = portsOf t (instance d (a .i)) in
+    let p : ℕ → Bool = gets t d (a .i) (a .next) number in
+    let low : lowest n p < n = (let m = many (l .before) in omega (arith, h, is, m)) in
+    rw is (use-low (a .tables .now) (instance d (a .i) .kind) (lowest n p)
+    (gets-use t d (a .i) (a .next) (lowest n p) (either (lowest n p) (lowest-holds n p (sym (lowest-low n p) ∙ lt-ltb _ _ low) .passes))))
 
--- after the last port
-ended : (l : tie.After-loop Inv-loop μ-loop) → l .before .loop .q ≡ l .before .before .ports-of .result
-ended l = le-antisymm (l .before .loop .inv .0) (l .loop-test .left)
+about-requires : tie.Need-about-requires
+unfolding found
+about-requires c κs =
+    let l = c .before .before in
+    named-low l unconnected _ (λ r e. rw e) (ap (λ (f : Found). f .unconnected) (l .look-over .ensures)) (c .if1 .taken)
 
--- nothing was unserved
-served : (l : tie.After-loop Inv-loop μ-loop) → anyBelow (l .before .before .ports-of .result) (getting (l .before .before .before .before .before .before) unserved) ≡ false
-served l = rw (← ended l) (l .before .loop .inv .1)
+returns : tie.Need-returns
+returns c = c .about .ensures ∙ (rw (lt-ltb _ _ (c .before .if1 .taken)) at (by-found (c .before .before .before)))
 
-returns-2 : tie.Need-returns-2 Inv-loop μ-loop
-returns-2 c =
-    let l = c .before in
-    rw (served l, ← ended l, ← l .before .loop .inv .2, c .if3 .taken) at (all (l .before .before))
+about-requires-2 : tie.Need-about-requires-2
+unfolding found
+about-requires-2 c κs =
+    let l = c .before .before .before .before in
+    let a = l .before .before .before .args in
+    named-low l unserved _ (λ r e. or-right (gets (tablesIn (a .tables .now)) (stateIn (a .state .now)) (a .i) (a .next) unconnected r) _ e) (ap (λ (f : Found). f .unserved) (l .look-over .ensures)) (c .if2 .taken)
 
-returns-3 : tie.Need-returns-3 Inv-loop μ-loop
+returns-2 : tie.Need-returns-2
+returns-2 c = c .about2 .ensures ∙ (rw (le-ltb _ _ (c .before .before .before .if1 .left), lt-ltb _ _ (c .before .if2 .taken)) at (by-found (c .before .before .before .before .before)))
+
+returns-3 : tie.Need-returns-3
 returns-3 c =
-    let r = c .before in
-    let l = r .before in
-    let v = l .before .loop .inv in
-    rw (served l, ← ended l, ← v .2, r .if3 .left, ← v .3, c .if4 .taken, none-overlap (used (l .before .before .before .before .before .before))) at (all (l .before .before))
+    let s = c .before .before in
+    c .about-none .ensures ∙ (rw (le-ltb _ _ (s .before .before .if1 .left), le-ltb _ _ (s .if2 .left), c .before .if3 .taken) at (by-found (s .before .before .before .before)))
+
+returns-4 : tie.Need-returns-4
+returns-4 c =
+    let r = c .before .before .before in
+    let s = r .before in
+    let l = s .before .before .before .before in
+    let a = l .before .before .before .args in
+    c .about-none2 .ensures
+    ∙ (rw (le-ltb _ _ (s .before .before .if1 .left), le-ltb _ _ (s .if2 .left), r .if3 .left, c .before .if4 .taken, none-overlap (inUse (tablesIn (a .tables .now)) (standing (stateIn (a .state .now))) (stateIn (a .state .now)) (a .i))) at (by-found l))
 
 -- a service ends, so that the instance is one of the 32
-in-use-requires : tie.Need-in-use-requires Inv-loop μ-loop
+in-use-requires : tie.Need-in-use-requires
+unfolding found
 in-use-requires c κs =
-    let l = c .before .before .before in
-    let a = l .before .before .before .before .before .args in
+    let l = c .before .before .before .before .before .before .before in
+    let a = l .before .before .before .args in
     by-cases (decLt (a .i) 32) (λ h. h)
-    (λ far. absurd (c .if4 .left (l .loop .inv .3
-    ∙ none-ends (tablesIn (a .tables .now)) (stateIn (a .state .now)) (a .i) (instance-past (a .state .now) (a .i) (omega arith)) (a .next) (l .loop .q))))
+    (λ far. absurd (c .if4 .left (ap (λ (f : Found). f .ending) (l .look-over .ensures)
+    ∙ none-ends (tablesIn (a .tables .now)) (stateIn (a .state .now)) (a .i) (instance-past (a .state .now) (a .i) (omega arith)) (a .next) _)))
 
-returns-4 : tie.Need-returns-4 Inv-loop μ-loop
-returns-4 c =
-    let o = c .before in
-    let r = o .before .before .before in
-    let l = r .before in
-    let v = l .before .loop .inv in
-    c .refuse-if .ensures
-    ∙ rw (o .overlaps .ensures, o .before .in-use .ensures)
-    (rw (served l, ← ended l, ← v .2, r .if3 .left, ← v .3) at (all (l .before .before)))
+returns-5 : tie.Need-returns-5
+returns-5 c =
+    let o = c .before .before in
+    let r = o .before .before .before .before in
+    let s = r .before in
+    let l = s .before .before .before .before in
+    let a = l .before .before .before .args in
+    let f = l .look-over .result in
+    c .about-none3 .ensures
+    ∙ rw (c .before .refuse-if .ensures, o .overlaps .ensures, o .before .in-use .ensures)
+    (unnamed (overlaps (f .ending) (inUse (tablesIn (a .tables .now)) (standing (stateIn (a .state .now))) (stateIn (a .state .now)) (a .i))) (f .unconnected) (f .unserved)
+    ∙ (rw (le-ltb _ _ (s .before .before .if1 .left), le-ltb _ _ (s .if2 .left), r .if3 .left) at (by-found l)))
 
 pub ports-refusal-spec : {M : Type 1} → statement M
 ports-refusal-spec =
     tie.close
-    (tie.spec Inv-loop μ-loop (λ c κs. search needs) (λ c κs. search needs) (λ c κs. search needs) (λ c κs. search needs) loop-holds (λ c κs. search needs) returns
-    (λ c κs. search needs) (λ c. search needs) (λ c. search needs) loop-again returns-2 returns-3 in-use-requires (λ c κs. search needs) (λ c κs. search needs) returns-4)
+    (tie.spec (λ c κs. search needs) (λ c κs. search needs) (λ c κs. search needs) about-requires returns about-requires-2 returns-2 (λ c κs. search needs) returns-3
+    (λ c κs. search needs) returns-4 in-use-requires (λ c κs. search needs) (λ c κs. search needs) (λ c κs. search needs) returns-5)

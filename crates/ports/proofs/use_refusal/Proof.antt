@@ -6,7 +6,7 @@ use borrow.Author.Needs.{needs}
 use borrow.Author.Tests.{eq-eqb, ne-eqb, not-true, not-false}
 use Rattle.model.specs.Empty.{noServer}
 use Rattle.model.specs.View.{instance}
-use Rattle.rules.specs.Refusal.{_⇒_∣_, allowed, unserved, providerRefusing}
+use Rattle.rules.specs.Refusal.{_⇒_∣_, allowed, unconnected, unserved, providerRefusing}
 use Rattle.rules.specs.Instance.{active}
 use Rattle.words.specs.Words.{tablesIn, stateIn}
 use Rattle.words.specs.Parts.{serverOf}
@@ -23,7 +23,8 @@ looked : (s : tie.After-server-of)
     let d = stateIn (a .state .now) in
     let x = serverOf d (a .i) (a .q) in
     useRefusal t d (a .i) (a .before) (a .q)
-    ≡ (not (not (eqb x noServer) && active t (instance d ((x - 1) / 16)) ((x - 1) % 16)) ⇒ unserved
+    ≡ (not (not (eqb x noServer)) ⇒ unconnected
+    ∣ not (not (eqb x noServer) && active t (instance d ((x - 1) / 16)) ((x - 1) % 16)) ⇒ unserved
     ∣ not (a .before) && (not (eqb x noServer) && refusingAt t d ((x - 1) / 16) ((x - 1) % 16)) ⇒ providerRefusing
     ∣ allowed)
 looked s = let a = s .before .args in use-looked (tablesIn (a .tables .now)) (stateIn (a .state .now)) (servers-length (a .state .now)) (a .i) (a .q) (a .before)
