@@ -1,10 +1,17 @@
--- The checks that the moves share: the two that all four begin with, and the row of fire and enter; and what finish asks of a marked place.
+-- The checks that the moves share: the two that all four begin with, and the row of fire and enter; what finish asks of a marked place; and what fire and enter answer.
 use mathlib.Core.Bool.{Bool, not, _&&_}
 use Prim.Native.Nat.{ℕ}
 use lib.Dec.{eqb, ltb}
 use Rattle.model.specs.declared.Tables.{Tables}
 use Rattle.model.specs.declared.Instance.{Instance}
+use Rattle.model.specs.declared.Configuration.{Configuration}
 use Rattle.rules.specs.Instance.{leaving}
+use Rattle.rules.specs.Action.{Action, concern}
+use Rattle.rules.specs.Fire.{fireCheck}
+use Rattle.rules.specs.Enter.{enterCheck}
+use Rattle.rules.specs.Standing.{standing}
+use Rattle.ports.specs.declared.Answered.{Answered}
+use Rattle.ports.specs.Turns.{answered}
 use Rattle.rules.specs.Refusal.{_⇒_∣_, allowed, idAbsent, queueEmpty, noTransition, notReady, heldOrMarked}
 
 abbrev pub firstly : Instance → ℕ → ℕ
@@ -16,3 +23,10 @@ row xs ready taken = eqb xs 0 ⇒ noTransition ∣ not ready ⇒ notReady ∣ ta
 -- some transition of the behavior m leaves p, one of the 16 places
 abbrev pub leavable : Tables → ℕ → ℕ → ℕ → Bool
 leavable t k m p = ltb p 16 && not (eqb (leaving t k m p) 0)
+
+-- the number of a fire and the use port it is about, and those of an enter
+abbrev pub fireAnswer : Tables → Configuration → ℕ → ℕ → Answered
+fireAnswer t c i p = answered (concern t (standing c) c (Action.fire i p)) (fireCheck t (standing c) c i p)
+
+abbrev pub enterAnswer : Tables → Configuration → ℕ → ℕ → Answered
+enterAnswer t c i p = answered (concern t (standing c) c (Action.enter i p)) (enterCheck t (standing c) c i p)

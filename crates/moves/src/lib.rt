@@ -1,6 +1,8 @@
 // The four moves on words: fire, end, enter and finish, each a check and a change made in place.
-// Promised: for every tables, state and number, each check answers the number of rules/specs, and each change is that of rules/specs.
+// Promised: for every tables, state and number, each check answers the number of rules/specs and the use port concerned, and each change is that of rules/specs.
+use ports::Answered;
 use ports::Sets;
+use ports::about_none;
 use ports::instance::behavior;
 use ports::instance::entering;
 use ports::instance::held;
@@ -25,13 +27,12 @@ ghost use mathlib.Core.Path.{_≡_};
 ghost use Rattle.sets.specs.Test.{anyBelow};
 ghost use Rattle.model.specs.View.{instance, withQueue};
 ghost use Rattle.rules.specs.Closing.{closed};
-ghost use Rattle.rules.specs.Standing.{standing};
-ghost use Rattle.rules.specs.Fire.{leavers, fireCheck, fireTo};
+ghost use Rattle.rules.specs.Fire.{leavers, fireTo};
 ghost use Rattle.rules.specs.End.{endCheck, endTo};
-ghost use Rattle.rules.specs.Enter.{enterers, enterCheck, enterTo};
+ghost use Rattle.rules.specs.Enter.{enterers, enterTo};
 ghost use Rattle.rules.specs.Finish.{mayLeave, finishCheck, finished};
 ghost use Rattle.words.specs.Words.{tablesIn, stateIn};
-ghost use Rattle.moves.specs.Rows.{firstly, row, leavable};
+ghost use Rattle.moves.specs.Rows.{firstly, row, leavable, fireAnswer, enterAnswer};
 
 const ID_ABSENT: u32 = 11;
 
@@ -77,15 +78,15 @@ fn enterers(tables: &TableWords, state: &StateWords, i: u32, p: u32) -> u32
     entering(tables, kind(state, i), behavior(tables, state, i), p)
 }
 
-pub fn fire_check(tables: &TableWords, state: &StateWords, i: u32, p: u32) -> u32
-    ensures { λ r. ⌜ r ≡ fireCheck (tablesIn (now (tables .entry))) (standing (stateIn (now (state .entry)))) (stateIn (now (state .entry))) i p ⌝ }
+pub fn fire_check(tables: &TableWords, state: &StateWords, i: u32, p: u32) -> Answered
+    ensures { λ r. ⌜ r ≡ fireAnswer (tablesIn (now (tables .entry))) (stateIn (now (state .entry))) i p ⌝ }
 {
     let xs = leavers(tables, state, i, p);
     let ready = sets::member(marked(state, i), p);
     let taken = sets::overlaps(xs, held(state, i));
     let refused = first(state, i, row(xs, ready, taken));
     if refused != 0 {
-        return refused;
+        return about_none(refused);
     }
     let loses = Sets {
         places: sets::only(p),
@@ -125,15 +126,15 @@ pub fn end_to(state: &mut StateWords, i: u32, x: u32)
     put_sets(state, i, marks, runs, ends);
 }
 
-pub fn enter_check(tables: &TableWords, state: &StateWords, i: u32, p: u32) -> u32
-    ensures { λ r. ⌜ r ≡ enterCheck (tablesIn (now (tables .entry))) (standing (stateIn (now (state .entry)))) (stateIn (now (state .entry))) i p ⌝ }
+pub fn enter_check(tables: &TableWords, state: &StateWords, i: u32, p: u32) -> Answered
+    ensures { λ r. ⌜ r ≡ enterAnswer (tablesIn (now (tables .entry))) (stateIn (now (state .entry))) i p ⌝ }
 {
     let xs = enterers(tables, state, i, p);
     let ready = sets::within(xs, ended(state, i));
     let taken = sets::member(marked(state, i), p);
     let refused = first(state, i, row(xs, ready, taken));
     if refused != 0 {
-        return refused;
+        return about_none(refused);
     }
     let loses = Sets {
         places: 0,
