@@ -7,7 +7,7 @@ use Prim.Native.Nat.{ℕ, _-_, _/_, _%_}
 use lib.Dec.{eqb}
 use Rattle.model.specs.Empty.{noServer}
 use Rattle.rules.specs.Standing.{someConnection}
-use Rattle.rules.specs.Con.{isOf}
+use Rattle.rules.specs.Ports.{isOf}
 use Rattle.rules.specs.DCon.{sameConnection}
 use Rattle.words.specs.Words.{stateIn}
 use Rattle.words.specs.Parts.{connectionOfWords, serverOf}
