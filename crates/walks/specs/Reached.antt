@@ -1,17 +1,29 @@
--- What a step and a walk have come to: a number, and the configuration reached.
+-- What a step and a walk have come to: a number, the use port it is about, and the configuration reached.
 use Prim.Native.Nat.{ℕ}
+use Rattle.model.specs.declared.Tables.{Tables}
 use Rattle.model.specs.declared.Configuration.{Configuration}
 use Rattle.model.specs.declared.Stepped.{Stepped}
 use Rattle.model.specs.declared.Walked.{Walked}
 use Rattle.model.specs.View.{instance, portNumber}
-use Rattle.rules.specs.Action.{Action}
+use Rattle.rules.specs.Standing.{standing}
+use Rattle.rules.specs.Action.{Action, concern}
+use Rattle.rules.specs.Step.{checkAt}
+use Rattle.ports.specs.declared.Answered.{Answered}
+use Rattle.ports.specs.Turns.{answered}
 use Rattle.walks.specs.declared.Passed.{Passed}
 
-abbrev pub stepped : ℕ → Configuration → Stepped
-stepped n c = record { refused = n; configuration = c }
+-- the number of an action, and the use port it is about
+abbrev pub answerAt : ℕ → Tables → Configuration → Action → Answered
+answerAt default t c a = answered (concern t (standing c) c a) (checkAt default t c a)
+
+abbrev pub stepped : Answered → Configuration → Stepped
+stepped a c = record { refused = a .refused; port = a .port; configuration = c }
+
+abbrev pub passed : ℕ → Answered → Passed
+passed n a = record { accepted = n; refused = a .refused; port = a .port }
 
 abbrev pub walked : Passed → Configuration → Walked
-walked w c = record { accepted = w .accepted; refused = w .refused; configuration = c }
+walked w c = record { accepted = w .accepted; refused = w .refused; port = w .port; configuration = c }
 
 -- the number that an instruction makes one more, where it has one: of the behaviors queued, of the provide port that is to serve
 abbrev pub tally : Configuration → Action → ℕ

@@ -12,6 +12,7 @@ use instructions::del_to;
 use instructions::push_to;
 use instructions::pushb_check;
 use instructions::wait_check;
+use model::Concerned;
 use moves::end_check;
 use moves::end_to;
 use moves::enter_check;
@@ -20,6 +21,8 @@ use moves::finish_check;
 use moves::finish_to;
 use moves::fire_check;
 use moves::fire_to;
+use ports::Answered;
+use ports::about_none;
 use words::AnswerWords;
 use words::ProgramWords;
 use words::StateWords;
@@ -44,26 +47,27 @@ ghost use Rattle.rules.specs.Step.{actionAt, checkAt, step};
 ghost use Rattle.rules.specs.Walk.{walk};
 ghost use Rattle.words.specs.Words.{tablesIn, programIn, answerIn, stateIn};
 ghost use Rattle.words.specs.Parts.{stepOf};
-ghost use Rattle.walks.specs.Reached.{tally, stepped, walked};
+ghost use Rattle.walks.specs.Reached.{tally, answerAt, stepped, passed, walked};
 ghost use Rattle.walks.specs.Fits.{PortFits, PortsFit};
 
 const NO_INSTRUCTION_LEFT: u32 = 10;
 
-// How far a walk came: the steps allowed, and the number of the refusal, or 0.
+// How far a walk came: the steps allowed, the number of the refusal, or 0, and the use port concerned.
 pub struct Passed {
     pub accepted: u32,
     pub refused: u32,
+    pub port: Concerned,
 }
 
-// The number of a move, by its verb: an unknown one counts as the last.
-fn move_check(tables: &TableWords, state: &StateWords, verb: u32, i: u32, n: u32) -> u32
-    ensures { λ r. ⌜ ((default : ℕ) → r ≡ checkAt default (tablesIn (now (tables .entry))) (stateIn (now (state .entry))) (moveAction (stepOf verb i n))) ⌝ }
+// The number of a move and the use port concerned, by its verb: an unknown one counts as the last.
+fn move_check(tables: &TableWords, state: &StateWords, verb: u32, i: u32, n: u32) -> Answered
+    ensures { λ r. ⌜ ((default : ℕ) → r ≡ answerAt default (tablesIn (now (tables .entry))) (stateIn (now (state .entry))) (moveAction (stepOf verb i n))) ⌝ }
 {
     match verb {
         1 => fire_check(tables, state, i, n),
-        2 => end_check(state, i, n),
+        2 => about_none(end_check(state, i, n)),
         3 => enter_check(tables, state, i, n),
-        _ => finish_check(tables, state, i),
+        _ => about_none(finish_check(tables, state, i)),
     }
 }
 
@@ -126,7 +130,7 @@ fn line_to(tables: &TableWords, program: &ProgramWords, state: &mut StateWords, 
     }
 }
 
-// One step: the number of its refusal and nothing changed, or 0 and what it changes.
+// One step: the number of its refusal, the use port concerned and nothing changed, or 0 and what it changes.
 pub fn step(
     default: u32,
     tables: &TableWords,
@@ -135,29 +139,29 @@ pub fn step(
     verb: u32,
     i: u32,
     n: u32,
-) -> u32
+) -> Answered
     ensures { λ r. ⌜ (PortsFit (programIn (now (program .entry))) → stepped r (stateIn (now (state .exit)))
         ≡ step default (tablesIn (now (tables .entry))) (programIn (now (program .entry))) (stateIn (now (state .entry))) (stepOf verb i n)) ⌝ }
 {
     if verb != 0 {
-        let refused = move_check(tables, state, verb, i, n);
-        if refused != 0 {
-            return refused;
+        let answered = move_check(tables, state, verb, i, n);
+        if answered.refused != 0 {
+            return answered;
         }
         move_to(tables, state, verb, i, n);
-        return 0;
+        return about_none(0);
     }
     let at = done(state);
     if instructions(program) <= at {
-        return NO_INSTRUCTION_LEFT;
+        return about_none(NO_INSTRUCTION_LEFT);
     }
     let refused = line_check(default, tables, program, state, at);
     if refused != 0 {
-        return refused;
+        return about_none(refused);
     }
     line_to(tables, program, state, at);
     put_done(state, at + 1);
-    0
+    about_none(0)
 }
 
 // How many steps there are: no more than the array holds.
@@ -166,6 +170,17 @@ pub fn step_count(answer: &AnswerWords) -> u32
 {
     let n = steps(answer);
     if n < 1024 { n } else { 1024 }
+}
+
+fn come_to(accepted: u32, answered: Answered) -> Passed
+    ensures { λ r. ⌜ r ≡ passed accepted answered ⌝ }
+{
+    let port = answered.port;
+    Passed {
+        accepted,
+        refused: answered.refused,
+        port,
+    }
 }
 
 // The walk of an answer, to its end or to the first step that the rules forbid.
@@ -186,17 +201,11 @@ pub fn walk(
         let verb = step_verb(answer, k);
         let i = step_id(answer, k);
         let number = step_number(answer, k);
-        let refused = step(default, tables, program, state, verb, i, number);
-        if refused != 0 {
-            return Passed {
-                accepted: k,
-                refused,
-            };
+        let answered = step(default, tables, program, state, verb, i, number);
+        if answered.refused != 0 {
+            return come_to(k, answered);
         }
         k += 1;
     }
-    Passed {
-        accepted: k,
-        refused: 0,
-    }
+    come_to(k, about_none(0))
 }

@@ -7,40 +7,45 @@ use Rattle.walks.proofs.step.Tie as tie
 
 returns : tie.Need-returns
 returns c = λ fits.
-    let m = c .before in
-    move-refused _ _ _ _ _ _ (m .before .before .if1 .taken) (m .move-check .ensures (m .before .before .before .args .default)) (c .if2 .taken)
+    let m = c .before .before in
+    move-refused _ _ _ _ _ (m .before .before .if1 .taken) _ (m .move-check .ensures (m .before .before .before .args .default)) (c .if2 .taken)
 
 returns-2 : tie.Need-returns-2
 returns-2 c = λ fits.
-    let e = c .before .before in
-    let m = e .before in
-    move-made _ _ _ _ _ _ (m .before .before .if1 .taken) (m .move-check .ensures (m .before .before .before .args .default)) (e .if2 .left) _ (c .move-to .ensures)
+    let e = c .before .before .before in
+    let m = e .before .before in
+    rw (c .about-none .ensures) (move-made _ _ _ _ _ (m .before .before .if1 .taken) _ (m .move-check .ensures (m .before .before .before .args .default)) (e .if2 .left) _ (c .before .move-to .ensures))
 
 returns-3 : tie.Need-returns-3
 returns-3 c = λ fits.
-    let i = c .before in
+    let i = c .before .before in
     let d = i .before in
-    none-left _ _ _ _ _ 0 (d .before .before .if1 .left) (omega (arith, i .instructions .ensures, d .done .ensures, c .if3 .taken))
+    rw (c .about-none2 .ensures) (none-left _ _ _ _ _ (d .before .before .if1 .left) (omega (arith, i .instructions .ensures, d .done .ensures, c .before .if3 .taken)))
 
 returns-4 : tie.Need-returns-4
 returns-4 c = λ fits.
-    let o = c .before in
+    let o = c .before .before in
     let e = o .before .before in
     let i = e .before in
     let d = i .before in
-    next-refused _ _ _ _ _ _ (d .before .before .if1 .left) (omega (arith, i .instructions .ensures, d .done .ensures, e .if3 .left)) (rw (d .done .ensures) at (o .line-check .ensures .0)) (c .if4 .taken)
+    rw (c .about-none3 .ensures)
+    (next-refused _ _ _ _ _ (d .before .before .if1 .left) _ (omega (arith, i .instructions .ensures, d .done .ensures, e .if3 .left)) (rw (d .done .ensures) at (o .line-check .ensures .0)) (c .before .if4 .taken))
 
 returns-5 : tie.Need-returns-5
 returns-5 c = λ fits.
-    let t = c .before .before in
+    let t = c .before .before .before in
     let f = t .before .before in
     let o = f .before in
     let e = o .before .before in
     let i = e .before in
     let d = i .before in
     let due = fits (d .done .result) (omega (arith, i .instructions .ensures, e .if3 .left)) in
-    next-made _ _ _ _ _ _ (d .before .before .if1 .left) (omega (arith, i .instructions .ensures, d .done .ensures, e .if3 .left)) (rw (d .done .ensures) at (o .line-check .ensures .0)) (f .if4 .left) _
-    (c .put-done .ensures ∙ rw (t .line-to .ensures (o .line-check .ensures .1 due (f .if4 .left)), d .done .ensures))
+    rw (c .about-none4 .ensures)
+    (next-made _ _ _ _ _ (d .before .before .if1 .left) _ (omega (arith, i .instructions .ensures, d .done .ensures, e .if3 .left)) (rw (d .done .ensures) at (o .line-check .ensures .0)) (f .if4 .left) _
+    (c .before .put-done .ensures ∙ rw (t .line-to .ensures (o .line-check .ensures .1 due (f .if4 .left)), d .done .ensures)))
 
 pub step-spec : {M : Type 1} → statement M
-step-spec = tie.close (tie.spec (λ c κs. search needs) returns (λ c κs. search needs) returns-2 (λ c κs. search needs) (λ c κs. search needs) returns-3 (λ c κs. search needs) returns-4 (λ c κs. search needs) (λ c. search needs) (λ c κs. search needs) returns-5)
+step-spec =
+    tie.close
+    (tie.spec (λ c κs. search needs) returns (λ c κs. search needs) (λ c κs. search needs) returns-2 (λ c κs. search needs) (λ c κs. search needs) (λ c κs. search needs) returns-3 (λ c κs. search needs)
+    (λ c κs. search needs) returns-4 (λ c κs. search needs) (λ c. search needs) (λ c κs. search needs) (λ c κs. search needs) returns-5)

@@ -8,6 +8,7 @@ use Rattle.words.specs.Words.{tablesIn, stateIn, programIn, answerIn, stepIn}
 use Rattle.model.specs.Empty.{noStep}
 use Rattle.rules.specs.Step.{step}
 use Rattle.walks.specs.Fits.{PortsFit}
+use Rattle.walks.specs.Reached.{stepped}
 use Rattle.walks.proofs.Ahead.{rest, walk-start, walk-end, walk-refused, walk-more}
 use Rattle.model.specs.declared.Step.{Step}
 use Rattle.model.specs.declared.Stepped.{Stepped}
@@ -34,7 +35,7 @@ full ws = length-list 1024 (λ k. stepIn k (row ws 0 3 k))
 
 -- what the turn of the loop came to is the step that is due
 abbrev came : tie.After-step Inv-loop μ-loop → Stepped
-came s = record { refused = s .step .result; configuration = stateIn (s .step .last .1 .1 .1 .0) }
+came s = stepped (s .step .result) (stateIn (s .step .last .1 .1 .1 .0))
 
 abbrev turn : tie.After-step Inv-loop μ-loop → tie.In-loop Inv-loop μ-loop
 turn s = s .before .before .before .before .before
@@ -58,15 +59,15 @@ due s fits =
 
 returns : tie.Need-returns Inv-loop μ-loop
 returns c = λ fits.
-    let s = c .before in
+    let s = c .before .before .before in
     let l = turn s .before in
     let a = l .before .before .args in
-    sym (l .loop .inv .1 fits
-    ∙ walk-refused (a .default) (tablesIn (a .tables .now)) (programIn (a .program .now)) (answerIn (a .answer .now)) (stateIn (l .loop .state)) (full (a .answer .now)) (l .loop .k) (came s) (omega (arith, l .before .step-count .ensures, turn s .loop-test .taken)) (due s fits) (c .if1 .taken))
+    rw (c .come-to .ensures) (sym (l .loop .inv .1 fits
+    ∙ walk-refused (a .default) (tablesIn (a .tables .now)) (programIn (a .program .now)) (answerIn (a .answer .now)) (stateIn (l .loop .state)) (full (a .answer .now)) (l .loop .k) (came s) (omega (arith, l .before .step-count .ensures, turn s .loop-test .taken)) (due s fits) (c .before .if1 .taken)))
 
 loop-again : tie.Need-loop-again Inv-loop μ-loop
 loop-again c =
-    let s = c .before in
+    let s = c .before .before in
     let l = turn s .before in
     let a = l .before .before .args in (
       search needs,
@@ -77,10 +78,11 @@ loop-again c =
 
 returns-2 : tie.Need-returns-2 Inv-loop μ-loop
 returns-2 c = λ fits.
-    let l = c .before in
+    let t = c .before .before in
+    let l = t .before in
     let a = l .before .before .args in
-    sym (l .loop .inv .1 fits
-    ∙ walk-end (a .default) (tablesIn (a .tables .now)) (programIn (a .program .now)) (answerIn (a .answer .now)) (stateIn (l .loop .state)) (full (a .answer .now)) (l .loop .k) (omega (arith, l .before .step-count .ensures, c .loop-test .left)))
+    rw (c .come-to2 .ensures, c .before .about-none .ensures) (sym (l .loop .inv .1 fits
+    ∙ walk-end (a .default) (tablesIn (a .tables .now)) (programIn (a .program .now)) (answerIn (a .answer .now)) (stateIn (l .loop .state)) (full (a .answer .now)) (l .loop .k) (omega (arith, l .before .step-count .ensures, t .loop-test .left))))
 
 pub walk-spec : {M : Type 1} → statement M
-walk-spec = tie.close (tie.spec Inv-loop μ-loop (λ c κs. search needs) loop-holds (λ c κs. search needs) (λ c κs. search needs) (λ c κs. search needs) (λ c κs. search needs) returns (λ c. search needs) (λ c. search needs) loop-again returns-2)
+walk-spec = tie.close (tie.spec Inv-loop μ-loop (λ c κs. search needs) loop-holds (λ c κs. search needs) (λ c κs. search needs) (λ c κs. search needs) (λ c κs. search needs) (λ c κs. search needs) returns (λ c. search needs) (λ c. search needs) loop-again (λ c κs. search needs) (λ c κs. search needs) returns-2)
