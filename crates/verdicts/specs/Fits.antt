@@ -3,6 +3,7 @@ use mathlib.Core.List.{List}
 use mathlib.Core.Bool.{Bool, true, false}
 use Prim.Native.Nat.{ℕ}
 use Rattle.model.specs.declared.Configuration.{Configuration}
+use Rattle.model.specs.declared.Concerned.{Concerned}
 use Rattle.model.specs.declared.Walked.{Walked}
 use Rattle.judged.specs.declared.Place.{Place}
 use Rattle.judged.specs.Judged.{stepPlace, noRoom}
@@ -11,5 +12,5 @@ unfoldable pub placeFor : Bool → ℕ → ℕ → List ℕ → Place
 placeFor fits refused accepted a = elim fits [ true ↦ stepPlace refused accepted a | false ↦ noRoom .place ]
 
 -- a walk that has come to c
-abbrev pub cameTo : ℕ → ℕ → Configuration → Walked
-cameTo refused accepted c = record { accepted = accepted; refused = refused; configuration = c }
+abbrev pub cameTo : ℕ → Concerned → ℕ → Configuration → Walked
+cameTo refused port accepted c = record { accepted = accepted; refused = refused; port = port; configuration = c }

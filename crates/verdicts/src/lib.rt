@@ -3,6 +3,7 @@
 use forms::BUFFER_SHORT;
 use judged::Place;
 use judged::Verdict;
+use model::Concerned;
 use model::Text;
 ghost use mathlib.Core.Path.{_≡_};
 ghost use Prim.Native.Nat.{_+_};
@@ -28,6 +29,7 @@ pub fn after_fault(x: Text, s: &[u8], n: u8, at: usize) -> Verdict
     let line = fault_line(s, n, at);
     Verdict {
         refused: n,
+        port: Concerned::NoPort,
         accepted: 0,
         next: 0,
         written: 0,
@@ -42,6 +44,7 @@ pub fn no_room() -> Verdict
 {
     Verdict {
         refused: BUFFER_SHORT,
+        port: Concerned::NoPort,
         accepted: 0,
         next: 0,
         written: 0,
@@ -50,12 +53,13 @@ pub fn no_room() -> Verdict
     }
 }
 
-// What a walk comes to, that did so many instructions and whose report has so many bytes.
-pub fn walk_verdict(refused: u8, accepted: usize, next: usize, written: usize) -> Verdict
-    ensures { λ r. ⌜ ((c : Configuration) → next ≡ c .done → r ≡ walkVerdict (cameTo refused accepted c) written) ⌝ }
+// What a walk comes to, that did so many instructions and whose report has so many bytes, with the use port concerned.
+pub fn walk_verdict(refused: u8, port: Concerned, accepted: usize, next: usize, written: usize) -> Verdict
+    ensures { λ r. ⌜ ((c : Configuration) → next ≡ c .done → r ≡ walkVerdict (cameTo refused port accepted c) written) ⌝ }
 {
     Verdict {
         refused,
+        port,
         accepted,
         next,
         written,

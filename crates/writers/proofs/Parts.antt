@@ -16,7 +16,7 @@ use Rattle.inks.specs.Written.{Written}
 use Rattle.inks.proofs.Laws.{none, next, free, back, length-written}
 use Rattle.model.specs.declared.Walked.{Walked}
 use Rattle.report.specs.Report.{report, reportWith}
-use Rattle.writers.specs.Lines.{headPart, instancesPart, connectionsPart}
+use Rattle.writers.specs.Lines.{endingPart, headPart, instancesPart, connectionsPart}
 
 -- ---- a line that may be absent
 
@@ -70,5 +70,5 @@ module _ (p : ℕ → Bool) (f : ℕ → List ℕ) (silent : (i : ℕ) → p i �
       ap (_++_ (inTurn f n)) (silent n off) ∙ append-nil (inTurn f n) ∙ all-written n (omega arith) same))
 
 pub parts : (w : Walked) → headPart w ++ instancesPart (w .configuration) ++ connectionsPart (w .configuration) ≡ report w
-unfolding headPart instancesPart connectionsPart report reportWith
+unfolding headPart endingPart instancesPart connectionsPart report reportWith
 parts w = simp append-assoc

@@ -4,18 +4,22 @@ use mathlib.Core.List.{List, _++_}
 use Rattle.sets.specs.Test.{tally}
 use Rattle.forms.specs.Reader.{bytes}
 use Rattle.model.specs.declared.Configuration.{Configuration}
+use Rattle.model.specs.declared.Concerned.{Concerned}
 use Rattle.model.specs.declared.Walked.{Walked}
 use Rattle.model.specs.View.{instance}
 use Rattle.rules.specs.Standing.{standing}
-use Rattle.report.specs.Report.{countText, instancesText, connectionsText}
+use Rattle.report.specs.Report.{countText, portText, instancesText, connectionsText}
 use Rattle.words.specs.Words.{stateIn}
 
--- what a walk came to: the steps allowed, the number of the refusal, and the state that the words say
-abbrev pub reached : ℕ → ℕ → List ℕ → Walked
-reached accepted refused ws = record { accepted = accepted; refused = refused; configuration = stateIn ws }
+-- what a walk came to: the steps allowed, the number of the refusal, the use port concerned, and the state that the words say
+abbrev pub reached : ℕ → ℕ → Concerned → List ℕ → Walked
+reached accepted refused port ws = record { accepted = accepted; refused = refused; port = port; configuration = stateIn ws }
+
+unfoldable pub endingPart : ℕ → Concerned → List ℕ
+endingPart refused port = countText (bytes "refused=") refused ++ portText port
 
 unfoldable pub headPart : Walked → List ℕ
-headPart w = countText (bytes "accepted=") (w .accepted) ++ countText (bytes "refused=") (w .refused) ++ countText (bytes "next=") (w .configuration .done)
+headPart w = countText (bytes "accepted=") (w .accepted) ++ endingPart (w .refused) (w .port) ++ countText (bytes "next=") (w .configuration .done)
 
 unfoldable pub instancesPart : Configuration → List ℕ
 instancesPart c = countText (bytes "instances=") (tally 32 (λ i. instance c i .present)) ++ instancesText c

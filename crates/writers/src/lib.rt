@@ -4,6 +4,7 @@ use inks::write_byte;
 use inks::write_key;
 use inks::write_mask;
 use inks::write_number;
+use model::Concerned;
 use model::Text;
 use words::StateWords;
 use words::state::done;
@@ -22,12 +23,12 @@ ghost use mathlib.Core.Path.{_≡_};
 ghost use Rattle.model.specs.View.{instance, connectionOf, queueOf};
 ghost use Rattle.forms.specs.Write.{listText};
 ghost use Rattle.sets.specs.Test.{tally};
-ghost use Rattle.report.specs.Report.{countText, instanceText, connectionText, instanceAt, instancesText, connectionsText, report};
+ghost use Rattle.report.specs.Report.{countText, portText, instanceText, connectionText, instanceAt, instancesText, connectionsText, report};
 ghost use Rattle.report.specs.Faults.{textText, faultText};
 ghost use Rattle.rules.specs.Standing.{standing};
 ghost use Rattle.inks.specs.Written.{Written};
 ghost use Rattle.words.specs.Words.{stateIn};
-ghost use Rattle.writers.specs.Lines.{headPart, instancesPart, connectionsPart, reached};
+ghost use Rattle.writers.specs.Lines.{endingPart, headPart, instancesPart, connectionsPart, reached};
 
 // key=number
 pub fn write_count(t: &mut [u8], key: &[u8], v: usize) -> usize
@@ -149,12 +150,36 @@ fn tally(state: &StateWords) -> usize
     n
 }
 
-// accepted=, refused=, next=
-fn write_head(t: &mut [u8], accepted: u32, refused: u32, state: &StateWords) -> usize
-    ensures { λ r. ⌜ Written (now (t .entry)) (headPart (reached accepted refused (now (state .entry)))) (now (t .exit)) 0 r ⌝ }
+// port=, `-` where no use port is concerned
+fn write_port(t: &mut [u8], port: Concerned) -> usize
+    ensures { λ r. ⌜ Written (now (t .entry)) (portText port) (now (t .exit)) 0 r ⌝ }
+{
+    match port {
+        Concerned::NoPort => write_key(t, 0, b"port=-\n"),
+        Concerned::UsePort(q) => write_count(t, b"port=", q as usize),
+    }
+}
+
+// refused=, port=
+fn write_ending(t: &mut [u8], refused: u32, port: Concerned) -> usize
+    ensures { λ r. ⌜ Written (now (t .entry)) (endingPart refused port) (now (t .exit)) 0 r ⌝ }
+{
+    let used = write_count(t, b"refused=", refused as usize);
+    used + write_port(&mut t[used..], port)
+}
+
+// accepted=, refused=, port=, next=
+fn write_head(
+    t: &mut [u8],
+    accepted: u32,
+    refused: u32,
+    port: Concerned,
+    state: &StateWords,
+) -> usize
+    ensures { λ r. ⌜ Written (now (t .entry)) (headPart (reached accepted refused port (now (state .entry)))) (now (t .exit)) 0 r ⌝ }
 {
     let mut used = write_count(t, b"accepted=", accepted as usize);
-    used += write_count(&mut t[used..], b"refused=", refused as usize);
+    used += write_ending(&mut t[used..], refused, port);
     used + write_count(&mut t[used..], b"next=", done(state) as usize)
 }
 
@@ -176,10 +201,16 @@ fn write_connections(t: &mut [u8], state: &StateWords) -> usize
 }
 
 // The whole report of a walk that came so far.
-pub fn write_report(t: &mut [u8], accepted: u32, refused: u32, state: &StateWords) -> usize
-    ensures { λ r. ⌜ Written (now (t .entry)) (report (reached accepted refused (now (state .entry)))) (now (t .exit)) 0 r ⌝ }
+pub fn write_report(
+    t: &mut [u8],
+    accepted: u32,
+    refused: u32,
+    port: Concerned,
+    state: &StateWords,
+) -> usize
+    ensures { λ r. ⌜ Written (now (t .entry)) (report (reached accepted refused port (now (state .entry)))) (now (t .exit)) 0 r ⌝ }
 {
-    let mut used = write_head(t, accepted, refused, state);
+    let mut used = write_head(t, accepted, refused, port, state);
     used += write_instances(&mut t[used..], state);
     used + write_connections(&mut t[used..], state)
 }
