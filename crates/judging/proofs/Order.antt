@@ -133,7 +133,7 @@ module _ (s a : List ℕ) where
 
 -- ---- what is known of a walk, and of a fault
 
--- a walk's number is 0 or from 10 to 37, and no more than 1,024 steps are accepted
+-- a walk's number is 0 or from 10 to 38, and no more than 1,024 steps are accepted
 pub walked-numbers : (s a : List ℕ) (w : Walked) → course s a ≡ reached w → WalkNumbers 1024 w
 unfolding walkAnswer answerLawful AnswersAreLawful
 walked-numbers s a w e =

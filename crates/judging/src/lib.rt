@@ -39,8 +39,9 @@ pub fn has_room(w: Passed, state: &StateWords, after: usize, room: usize) -> boo
     if room < after {
         return false;
     }
+    let port = w.port;
     let mut scratch = [0u8; LENT_BYTES];
-    writers::write_report(&mut scratch, w.accepted, w.refused, state) <= room - after
+    writers::write_report(&mut scratch, w.accepted, w.refused, port, state) <= room - after
 }
 
 // A verdict, and the place of the line at fault.
@@ -73,8 +74,9 @@ fn judge_walk(w: Passed, state: &StateWords, answer: &[u8], lent: &mut [u8]) -> 
         let verdict = no_room();
         return Judged { verdict, place };
     }
-    let written = writers::write_report(lent, w.accepted, w.refused, state);
-    let verdict = walk_verdict(refused, accepted, done(state) as usize, written);
+    let port = w.port;
+    let written = writers::write_report(lent, w.accepted, w.refused, port, state);
+    let verdict = walk_verdict(refused, port, accepted, done(state) as usize, written);
     Judged { verdict, place }
 }
 
