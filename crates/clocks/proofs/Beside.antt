@@ -12,6 +12,7 @@ use Rattle.model.specs.declared.Program.{Program}
 use Rattle.model.specs.declared.Answer.{Answer}
 use Rattle.model.specs.declared.Configuration.{Configuration}
 use Rattle.model.specs.declared.Stepped.{Stepped}
+use Rattle.model.specs.declared.Concerned.the-variants.{NoPort}
 use Rattle.model.specs.Empty.{noStep, start}
 use Rattle.model.specs.View.{stepsOf}
 use Rattle.rules.specs.Step.{step}
@@ -24,17 +25,17 @@ use Rattle.clocks.specs.Paced.{mostSeconds, Past, Paced}
 use Rattle.clocks.specs.Once.{Promised}
 use Rattle.clocks.proofs.Pace.{start-past}
 
--- before step i the clock is k, whatever the steps were
-pub record Going (i : ℕ) (k : Clock) : Type 0 where
+-- after i steps the clock has kept its pace, whatever the program
+pub record Kept (i : ℕ) (k : Clock) : Type 0 where
   pub slow : k .now ≤ i * mostSeconds
   pub past : Past k
 
-pub going-start : Going 0 atStart
+pub kept-start : Kept 0 atStart
 unfolding atStart
-going-start = record { slow = omega arith; past = start-past }
+kept-start = record { slow = omega arith; past = start-past }
 
-pub going-on : {i : ℕ} {k l : Clock} → Going i k → Paced mostSeconds k l → Going (i + 1) l
-going-on h g = record { slow = omega (arith, h .slow, g .slow); past = g .past }
+pub kept-more : {i : ℕ} {k l : Clock} → Kept i k → Paced mostSeconds k l → Kept (i + 1) l
+kept-more h g = record { slow = omega (arith, h .slow, g .slow); past = g .past }
 
 module _ (default : ℕ) (t : Tables) (p : Program) (a : Answer) (ts : Times) where
   -- the walk has come to step i and to c, and the clock to k
@@ -43,7 +44,7 @@ module _ (default : ℕ) (t : Tables) (p : Program) (a : Answer) (ts : Times) wh
     pub clock-is : clockOf default t p a ts ≡ clockFrom default t p ts c (drop i (stepsOf a)) k .now
 
   pub at-start : Beside 0 start atStart
-  unfolding walkAnswer clockOf atStart
+  unfolding walkAnswer clockOf
   at-start = record { walk-is = walk-start default t p a start; clock-is = refl }
 
   module _ (full : length (a .steps) ≡ 1024) {i : ℕ} {c : Configuration} {k : Clock} (here : Beside i c k) where
@@ -61,14 +62,14 @@ module _ (default : ℕ) (t : Tables) (p : Program) (a : Answer) (ts : Times) wh
       }
 
       pub at-refusal : m .refused ≢ 0
-          → Promised default t p a ts (record { passed = record { accepted = i; refused = m .refused }; mark = 0 }) (m .configuration)
+          → Promised default t p a ts (record { passed = record { accepted = i; refused = m .refused; port = m .port }; mark = 0 }) (m .configuration)
       unfolding markAfter
       at-refusal d =
           let e = here .walk-is ∙ walk-refused default t p a c full i m within is d in
           record { walked-is = sym e; mark-is = rw (e, ne-eqb (m .refused) 0 d) }
 
     pub at-end : min (a .count) 1024 ≤ i
-        → Promised default t p a ts (record { passed = record { accepted = i; refused = 0 }; mark = markOf (ts .par) (k .now) }) c
+        → Promised default t p a ts (record { passed = record { accepted = i; refused = 0; port = NoPort }; mark = markOf (ts .par) (k .now) }) c
     unfolding markAfter clockFrom
     at-end h =
         let e = here .walk-is ∙ walk-end default t p a c full i h in

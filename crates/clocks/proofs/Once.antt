@@ -8,7 +8,7 @@ use Rattle.clocks.specs.declared.TimedWalk.{TimedWalk}
 use Rattle.clocks.specs.Once.{NoOtherTimedWalk}
 
 abbrev made : Walked → ℕ → TimedWalk
-made w m = record { passed = record { accepted = w .accepted; refused = w .refused }; mark = m }
+made w m = record { passed = record { accepted = w .accepted; refused = w .refused; port = w .port }; mark = m }
 
 pub no-other-timed-walk : NoOtherTimedWalk
 unfolding NoOtherTimedWalk

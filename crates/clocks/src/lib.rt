@@ -1,6 +1,6 @@
 // The clock of an answer beside its walk, and the mark that it comes to.
-// Promised: the walk is that of rules/specs, and the mark that of timed/specs, for every table, answer and times, and every
-// program whose ports fit (walks/specs/Fits).
+// Promised: the walk is that of rules/specs, and the mark that of timed/specs, for every table, answer and times, and every program of walks/specs/Fits.
+use model::Concerned;
 use model::mask_at;
 use model::smaller;
 use sets::member;
@@ -142,8 +142,8 @@ pub fn walk_timed(
     seconds: &[u32; 1024],
 ) -> TimedWalk
     ensures { λ r. ⌜ ((listed : List ℕ) → PortsFit (programIn (now (program .entry)))
-        → Promised default (tablesIn (now (tables .entry))) (programIn (now (program .entry))) (answerIn (now (answer .entry)))
-        (timesIn par listed (now (seconds .entry))) r (stateIn (now (state .exit)))) ⌝ }
+        → Promised default (tablesIn (now (tables .entry))) (programIn (now (program .entry)))
+        (answerIn (now (answer .entry))) (timesIn par listed (now (seconds .entry))) r (stateIn (now (state .exit)))) ⌝ }
 {
     clear_state(state);
     let n = step_count(answer);
@@ -155,11 +155,14 @@ pub fn walk_timed(
         let id = step_id(answer, k);
         let number = step_number(answer, k);
         let before = running(state, id);
-        let refused = step(default, tables, program, state, verb, id, number);
+        let answered = step(default, tables, program, state, verb, id, number);
+        let refused = answered.refused;
+        let port = answered.port;
         if refused != 0 {
             let passed = Passed {
                 accepted: k,
                 refused,
+                port,
             };
             return TimedWalk { passed, mark: 0 };
         }
@@ -170,6 +173,7 @@ pub fn walk_timed(
     let passed = Passed {
         accepted: k,
         refused: 0,
+        port: Concerned::NoPort,
     };
     let mark = mark(par, clock);
     TimedWalk { passed, mark }

@@ -54,7 +54,13 @@ pub fn no_room() -> Verdict
 }
 
 // What a walk comes to, that did so many instructions and whose report has so many bytes, with the use port concerned.
-pub fn walk_verdict(refused: u8, port: Concerned, accepted: usize, next: usize, written: usize) -> Verdict
+pub fn walk_verdict(
+    refused: u8,
+    port: Concerned,
+    accepted: usize,
+    next: usize,
+    written: usize,
+) -> Verdict
     ensures { λ r. ⌜ ((c : Configuration) → next ≡ c .done → r ≡ walkVerdict (cameTo refused port accepted c) written) ⌝ }
 {
     Verdict {

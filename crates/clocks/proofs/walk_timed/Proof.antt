@@ -13,18 +13,20 @@ use Rattle.timed.specs.Clock.{atStart, started, tick}
 use Rattle.words.specs.Rows.{row}
 use Rattle.words.specs.Words.{tablesIn, programIn, answerIn, stateIn, stepIn}
 use Rattle.words.specs.Parts.{stepOf}
-use Rattle.walks.specs.Fits.{PortsFit}
 use Rattle.clocks.specs.Once.{timesIn}
 use Rattle.clocks.specs.Paced.{clockAt}
-use Rattle.clocks.proofs.Beside.{Going, going-start, going-on, Beside, at-start, one-further, at-refusal, at-end}
+use Rattle.walks.specs.Reached.{stepped}
+use Rattle.walks.specs.Fits.{PortsFit}
+use Rattle.clocks.proofs.Beside.{Kept, kept-start, kept-more, Beside, at-start, one-further, at-refusal, at-end}
 use borrow.Author.Needs.{needs}
 use Rattle.clocks.proofs.walk_timed.Statement.{statement}
 use Rattle.clocks.proofs.walk_timed.Tie as tie
 
 abbrev Inv-loop : tie.InvT-loop
 Inv-loop default tables program answer state₀ par seconds n noted₀ clock₀ k₀ state noted clock k =
-    (k ≤ n) × (length noted ≡ 1024) × Going k (clockAt clock noted)
-    × ((listed : List ℕ) → PortsFit (programIn program) → Beside default (tablesIn tables) (programIn program) (answerIn answer) (timesIn par listed seconds) k (stateIn state) (clockAt clock noted))
+    (k ≤ n) × (length noted ≡ 1024) × Kept k (clockAt clock noted)
+    × ((listed : List ℕ) → PortsFit (programIn program)
+    → Beside default (tablesIn tables) (programIn program) (answerIn answer) (timesIn par listed seconds) k (stateIn state) (clockAt clock noted))
 
 abbrev μ-loop : tie.MeasureT-loop
 μ-loop default tables program answer state₀ par seconds n noted₀ clock₀ k₀ state noted clock k = n - k
@@ -35,7 +37,7 @@ full ws = length-list 1024 (λ k. stepIn k (row ws 0 3 k))
 
 loop-holds : tie.Need-loop-holds Inv-loop μ-loop
 unfolding atStart
-loop-holds c = (search needs, search needs, going-start, λ listed fits. rw (c .before .clear-state .ensures) (at-start _ _ _ _ _))
+loop-holds c = (search needs, search needs, kept-start, λ listed fits. rw (c .before .clear-state .ensures) (at-start _ _ _ _ _))
 
 -- the step that the turn reads
 read : (n : tie.After-step-number Inv-loop μ-loop)
@@ -46,12 +48,13 @@ read n = rw (n .step-number .ensures, n .before .step-id .ensures, n .before .be
 
 -- what the turn came to is the step that is due
 abbrev came : tie.After-step Inv-loop μ-loop → Stepped
-came s = record { refused = s .step .result; configuration = stateIn (s .step .last .1 .1 .1 .0) }
+came s = stepped (s .step .result) (stateIn (s .step .last .1 .1 .1 .0))
 
 due : (s : tie.After-step Inv-loop μ-loop)
     → let l = s .before .before .before .before .before .before .before .before in
     let a = l .before .before .before .before .args in
-    PortsFit (programIn (a .program .now)) → came s ≡ step (a .default) (tablesIn (a .tables .now)) (programIn (a .program .now)) (stateIn (l .loop .state)) (getD (answerIn (a .answer .now) .steps) (l .loop .k) noStep)
+    PortsFit (programIn (a .program .now))
+    → came s ≡ step (a .default) (tablesIn (a .tables .now)) (programIn (a .program .now)) (stateIn (l .loop .state)) (getD (answerIn (a .answer .now) .steps) (l .loop .k) noStep)
 due s fits =
     let l = s .before .before .before .before .before .before .before .before in
     let a = l .before .before .before .before .args in
@@ -86,7 +89,7 @@ loop-again c =
     let e = c .before .tick .ensures before after starts in (
       omega (arith, s .before .before .before .before .before .before .before .loop-test .taken),
       search needs,
-      going-on (l .loop .inv .2) (e .pace),
+      kept-more (l .loop .inv .2) (e .pace),
       λ listed fits.
           let ts = timesIn (a .par) listed (a .seconds .now) in
           one-further (a .default) (tablesIn (a .tables .now)) (programIn (a .program .now)) (answerIn (a .answer .now)) ts (full (a .answer .now)) (l .loop .inv .3 listed fits) (came s) (within (s .before .before .before .before .before .before .before)) (due s fits) (c .before .before .before .before .before .before .before .if1 .left) _
