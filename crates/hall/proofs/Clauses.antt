@@ -6,10 +6,10 @@ use Rattle.sets.specs.Test.{allBelow, anyBelow}
 use Rattle.model.specs.View.{isServed, put}
 use Rattle.reading.specs.Lawful.{transitionLawful, behaviorLawful, portLawful, typeLawful, tablesLawful, instructionLawful, programLawful, stepLawful}
 use Rattle.rules.specs.Action.{moveAction, actionCheck, effect}
-use Rattle.rules.specs.Con.{isOf, isUsePort, isProvidePort}
+use Rattle.rules.specs.Con.{isUsePort, isProvidePort}
 use Rattle.rules.specs.Fire.{fireRow, fireCheck, fireTo}
-use Rattle.rules.specs.Instance.{active, current, endsAt, leaving, fired}
-use Rattle.rules.specs.Ports.{wouldLeave, refusing, serves, blocks, employs, failsUnserved, failsRefusing, failsInUse, portCheck}
+use Rattle.rules.specs.Instance.{active, current, endsAt, leaving, entering, fired, entered}
+use Rattle.rules.specs.Ports.{isOf, wouldLeave, wouldEnter, refusing, serves, blocks, employs, failsUnconnected, failsUnserved, failsRefusing, failsInUse, portCheck}
 use Rattle.rules.specs.Standing.{entries, inTable}
 use Rattle.rules.specs.Step.{action, stepCheckWith, stepTo, step}
 use Rattle.lawfulness.specs.Lawful.{queuedLawful, numbersLawful, instanceLawful, endsLawful, connectionLawful, lawfulFrom, connectionsLawful, configurationLawful}
@@ -17,5 +17,5 @@ use Rattle.hall.specs.Screen.{lentLawful, hallStep}
 use Rattle.hall.specs.Clauses.{every, ClausesBreak}
 
 pub clauses-break : ClausesBreak
-unfolding isServed member collect allBelow anyBelow put transitionLawful behaviorLawful portLawful typeLawful tablesLawful instructionLawful programLawful stepLawful moveAction actionCheck effect isOf isUsePort isProvidePort fireRow fireCheck fireTo active current endsAt leaving fired entries inTable wouldLeave refusing serves blocks employs failsUnserved failsRefusing failsInUse portCheck action stepCheckWith stepTo step queuedLawful numbersLawful instanceLawful endsLawful connectionLawful lawfulFrom connectionsLawful configurationLawful lentLawful hallStep every ClausesBreak
+unfolding isServed member collect allBelow anyBelow put transitionLawful behaviorLawful portLawful typeLawful tablesLawful instructionLawful programLawful stepLawful moveAction actionCheck effect isOf isUsePort isProvidePort fireRow fireCheck fireTo active current endsAt leaving entering fired entered entries inTable wouldLeave wouldEnter refusing serves blocks employs failsUnconnected failsUnserved failsRefusing failsInUse portCheck action stepCheckWith stepTo step queuedLawful numbersLawful instanceLawful endsLawful connectionLawful lawfulFrom connectionsLawful configurationLawful lentLawful hallStep every ClausesBreak
 clauses-break = (refl, refl)

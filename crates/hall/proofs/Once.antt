@@ -1,12 +1,16 @@
 -- No other outcome fits: each promise is an equation with the definition, and words that say the same are the same.
 -- Assumes nothing.
-use mathlib.Core.Path.{sym, _∙_}
+use mathlib.Core.Path.{_≡_, sym, _∙_}
 use Rattle.words.proofs.Whole.{state-words}
+use Rattle.ports.specs.declared.Answered.{Answered}
 use Rattle.hall.specs.Once.{NoOtherLeft, NoOtherWords}
+
+same-answer : (a b : Answered) → a .refused ≡ b .refused → a .port ≡ b .port → a ≡ b
+same-answer a b e f = λ j. record { refused = e j; port = f j }
 
 pub left-once : NoOtherLeft
 unfolding NoOtherLeft
-left-once t p c s m n d e h g = (h .0 ∙ sym (g .0), h .1 ∙ sym (g .1))
+left-once t p c s a b d e h g = (same-answer a b (h .0 ∙ sym (g .0)) (h .1 ∙ sym (g .1)), h .2 ∙ sym (g .2))
 
 pub words-once : NoOtherWords
 unfolding NoOtherLeft NoOtherWords

@@ -30,7 +30,7 @@ unfolding RefusedLeaves RefusedChangesNothing hallStep
 refused-leaves t p c s n =
     by-test (lentLawful t p c s) (λ e. rw e (refused-changes-nothing defaultDepth t p c s (rw e at n))) (λ e. rw e)
 
--- a step's number is 0 or 10 to 37
+-- a step's number is 0 or 10 to 38
 not-seven : {n : ℕ} → Numbered n → n ≢ limitBroken
 not-seven {n} h = ⊎-elim (λ e. omega arith) (λ e. omega arith) (h .range)
 

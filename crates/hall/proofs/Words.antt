@@ -12,12 +12,14 @@ use Rattle.model.specs.declared.Program.{Program}
 use Rattle.model.specs.declared.Step.{Step}
 use Rattle.model.specs.declared.Configuration.{Configuration}
 use Rattle.model.specs.declared.Stepped.{Stepped}
+use Rattle.model.specs.declared.Concerned.the-variants.{NoPort}
 use Rattle.model.proofs.View.{length-list}
 use Rattle.reading.specs.Lawful.{tablesLawful, programLawful}
 use Rattle.rules.specs.Step.{isNext, action, step}
 use Rattle.judged.specs.Course.{defaultDepth}
 use Rattle.words.specs.Words.{tablesIn, programIn, stateIn}
 use Rattle.words.proofs.Whole.{state-words}
+use Rattle.ports.specs.declared.Answered.{Answered}
 use Rattle.walks.specs.Reached.{stepped}
 use Rattle.walks.specs.Fits.{PortsFit, LawfulPortsFit}
 use Rattle.walks.proofs.Fits.{lawful-ports-fit}
@@ -30,30 +32,29 @@ use Rattle.hall.proofs.Slots.{every-slot}
 
 module _ (t : Tables) (p : Program) (c : Configuration) (s : Step) where
   module _ (lawful : Bool) (says : lawful ≡ lentLawful t p c s) where
-    pub broken-left : not lawful ≡ true → Left t p c s limitBroken c
+    pub broken-left : not lawful ≡ true → (a : Answered) → a ≡ record { refused = limitBroken; port = NoPort } → Left t p c s a c
     unfolding hallStep
-    broken-left e = rw (sym says ∙ not-true lawful e) (refl, refl)
+    broken-left e a is = rw (sym says ∙ not-true lawful e, is) (refl, refl, refl)
 
     -- the ports that a lawful program names fit the words
     fit : not lawful ≡ false → PortsFit p
     unfolding lentLawful LawfulPortsFit
     fit e = lawful-ports-fit (t .count) p (and-left (programLawful (t .count) p) _ (and-right (tablesLawful t) _ (sym says ∙ not-false lawful e)))
 
-    pub ruled-left : not lawful ≡ false → (n : ℕ) (d : Configuration) → (PortsFit p → stepped n d ≡ step defaultDepth t p c s) → Left t p c s n d
+    pub ruled-left : not lawful ≡ false → (a : Answered) (d : Configuration) → (PortsFit p → stepped a d ≡ step defaultDepth t p c s) → Left t p c s a d
     unfolding hallStep
-    ruled-left e n d is = rw (sym says ∙ not-false lawful e) (ap (λ (m : Stepped). m .refused) (is (fit e)), ap (λ (m : Stepped). m .configuration) (is (fit e)))
+    ruled-left e a d is =
+        rw (sym says ∙ not-false lawful e)
+        (ap (λ (m : Stepped). m .refused) (is (fit e)), ap (λ (m : Stepped). m .port) (is (fit e)), ap (λ (m : Stepped). m .configuration) (is (fit e)))
 
 -- what is left after a refusal is what was lent, so that to store it or not is one
-module _ (t : Tables) (p : Program) (c d : Configuration) (s : Step) (n : ℕ) (left : Left t p c s n d) where
-  pub refused-same : n ≢ 0 → d ≡ c
+module _ (t : Tables) (p : Program) (c d : Configuration) (s : Step) (a : Answered) (left : Left t p c s a d) where
+  pub refused-same : a .refused ≢ 0 → d ≡ c
   unfolding RefusedLeaves
-  refused-same nz = left .1 ∙ refused-leaves t p c s (λ z. nz (left .0 ∙ z))
+  refused-same nz = left .2 ∙ refused-leaves t p c s (λ z. nz (left .0 ∙ z))
 
-  pub refused-left : n ≢ 0 → Left t p c s n c
-  refused-left nz = (left .0, sym (refused-same nz) ∙ left .1)
-
-  pub allowed-left : n ≡ 0 → Left t p c s 0 d
-  allowed-left z = (sym z ∙ left .0, left .1)
+  pub refused-left : a .refused ≢ 0 → Left t p c s a c
+  refused-left nz = (left .0, left .1, sym (refused-same nz) ∙ left .2)
 
 pub refused-is-untouched : RefusedIsUntouched
 unfolding RefusedIsUntouched
@@ -66,9 +67,9 @@ whole ws = record { instances = length-list 32 _; queue = length-list 256 _; ser
 
 pub every-slot-of-words : EverySlotOfWords
 unfolding EverySlotOfWords EverySlot
-every-slot-of-words tables program before after s h =
+every-slot-of-words tables program before after s a h z =
     subst⁻¹
     (λ (d : Configuration).
     Holds d (slots (tablesIn tables) (stateIn before) (action (programIn program) (stateIn before) s))
     × (d .done ≡ cond (isNext s) (suc (stateIn before .done)) (stateIn before .done)))
-    (h .1) (every-slot _ _ (stateIn before) s (whole before) (sym (h .0)))
+    (h .2) (every-slot _ _ (stateIn before) s (whole before) (sym (h .0) ∙ z))

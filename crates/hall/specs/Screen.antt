@@ -1,4 +1,5 @@
--- The screen in the hall: "Number 7, before all of 10 to 37, is given exactly when" what is lent breaks a limit. "Any other configuration,
+-- The screen in the hall: "Number 7, before all of 10 to 37, is given exactly when" what is lent breaks a limit; 38 of 02 is one of them, and "the hall screen and
+-- the judge both pass" the use port on. "Any other configuration,
 -- reachable or not, gets the step rules' answer." Depth 0 stands for the board's default here too.
 use Prim.Native.Nat.{ℕ}
 use mathlib.Core.Bool.{Bool, _&&_, cond}
@@ -8,8 +9,10 @@ use Rattle.model.specs.declared.Program.{Program}
 use Rattle.model.specs.declared.Step.{Step}
 use Rattle.model.specs.declared.Configuration.{Configuration}
 use Rattle.model.specs.declared.Stepped.{Stepped}
+use Rattle.model.specs.declared.Concerned.the-variants.{NoPort}
 use Rattle.reading.specs.Lawful.{tablesLawful, programLawful, stepLawful}
 use Rattle.rules.specs.Step.{step}
+use Rattle.ports.specs.declared.Answered.{Answered}
 use Rattle.judged.specs.Course.{defaultDepth}
 use Rattle.lawfulness.specs.Lawful.{configurationLawful}
 
@@ -24,8 +27,9 @@ lentLawful t p c s =
 
 -- "it lends its configuration and finds it moved on afterwards, or untouched on a refusal"
 unfoldable pub hallStep : Tables → Program → Configuration → Step → Stepped
-hallStep t p c s = cond (lentLawful t p c s) (step defaultDepth t p c s) (record { refused = limitBroken; configuration = c })
+hallStep t p c s = cond (lentLawful t p c s) (step defaultDepth t p c s) (record { refused = limitBroken; port = NoPort; configuration = c })
 
--- what the screen promises of a lent configuration c: it answers n and leaves d
-abbrev pub Left : Tables → Program → Configuration → Step → ℕ → Configuration → Type 0
-Left t p c s n d = (n ≡ hallStep t p c s .refused) × (d ≡ hallStep t p c s .configuration)
+-- what the screen promises of a lent configuration c: it answers a and leaves d
+abbrev pub Left : Tables → Program → Configuration → Step → Answered → Configuration → Type 0
+Left t p c s a d =
+    (a .refused ≡ hallStep t p c s .refused) × (a .port ≡ hallStep t p c s .port) × (d ≡ hallStep t p c s .configuration)

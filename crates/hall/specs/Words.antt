@@ -9,12 +9,13 @@ use Rattle.model.specs.declared.Step.{Step}
 use Rattle.rules.specs.Step.{isNext, action}
 use Rattle.words.specs.Rows.{word}
 use Rattle.words.specs.Words.{tablesIn, programIn, stateIn}
+use Rattle.ports.specs.declared.Answered.{Answered}
 use Rattle.hall.specs.Screen.{Left}
 use Rattle.hall.specs.Slots.{slots, Holds}
 
--- on these words of tables, program and configuration it answers n and leaves the words `after`
-abbrev pub LeftWords : List ℕ → List ℕ → List ℕ → Step → ℕ → List ℕ → Type 0
-LeftWords tables program before s n after = Left (tablesIn tables) (programIn program) (stateIn before) s n (stateIn after)
+-- on these words of tables, program and configuration it answers a and leaves the words `after`
+abbrev pub LeftWords : List ℕ → List ℕ → List ℕ → Step → Answered → List ℕ → Type 0
+LeftWords tables program before s a after = Left (tablesIn tables) (programIn program) (stateIn before) s a (stateIn after)
 
 -- the words of a configuration: so many, and the first, which is a set of ids, is of 32 bits
 pub record Configured (ws : List ℕ) : Type 0 where
@@ -24,17 +25,18 @@ pub record Configured (ws : List ℕ) : Type 0 where
 -- "untouched on a refusal": every word
 unfoldable pub RefusedIsUntouched : Type 0
 RefusedIsUntouched =
-    (tables program before after : List ℕ) (s : Step) (n : ℕ)
+    (tables program before after : List ℕ) (s : Step) (a : Answered)
     → Configured before
     → Configured after
-    → LeftWords tables program before s n after
-    → n ≢ 0
+    → LeftWords tables program before s a after
+    → a .refused ≢ 0
     → after ≡ before
 
 -- "moved on": `EverySlot`, which asks nothing of words, since what they say is as long as its arrays are
 unfoldable pub EverySlotOfWords : Type 0
 EverySlotOfWords =
-    (tables program before after : List ℕ) (s : Step)
-    → LeftWords tables program before s 0 after
+    (tables program before after : List ℕ) (s : Step) (a : Answered)
+    → LeftWords tables program before s a after
+    → a .refused ≡ 0
     → Holds (stateIn after) (slots (tablesIn tables) (stateIn before) (action (programIn program) (stateIn before) s))
     × (stateIn after .done ≡ cond (isNext s) (suc (stateIn before .done)) (stateIn before .done))

@@ -1,11 +1,13 @@
-// The screen in the hall: one step on lent tables, program and configuration, with number 7 before all of 10 to 37. It has two doors:
+// The screen in the hall: one step on lent tables, program and configuration, with number 7 before all of 10 to 38. It has two doors:
 // `hall` is over the step by value, `lent_step` moves the lent words on in place, for terminals with a small stack.
-// Promised of both: the number and every word of the configuration after it, for all that can be lent; a refusal leaves it untouched.
+// Promised of both: the number, the use port concerned and every word of the configuration after it, for all that can be lent; a refusal leaves it untouched.
 use judged::DEFAULT_DEPTH;
 use lawfulness::configuration_lawful;
 use lawfulness::program_lawful;
 use lawfulness::step_lawful;
 use lawfulness::tables_lawful;
+use ports::Answered;
+use ports::about_none;
 use walks::step;
 use words::ProgramWords;
 use words::StateWords;
@@ -19,9 +21,9 @@ ghost use Rattle.hall.specs.Words.{LeftWords};
 
 const LIMIT_BROKEN: u32 = 7;
 
-// What the step by value answers: the number, and every word of the configuration after it.
+// What the step by value answers: the number and the use port concerned, and every word of the configuration after it.
 pub struct Moved {
-    pub refused: u32,
+    pub answered: Answered,
     pub configuration: StateWords,
 }
 
@@ -57,12 +59,12 @@ pub fn lent_step(
     verb: u32,
     i: u32,
     n: u32,
-) -> u32
+) -> Answered
     ensures { λ r. ⌜ LeftWords (now (tables .entry)) (now (program .entry)) (now (configuration .entry)) (stepOf verb i n)
         r (now (configuration .exit)) ⌝ }
 {
     if !lent_lawful(tables, program, configuration, verb, i, n) {
-        return LIMIT_BROKEN;
+        return about_none(LIMIT_BROKEN);
     }
     step(
         DEFAULT_DEPTH as u32,
@@ -85,12 +87,12 @@ pub fn hall_step(
     n: u32,
 ) -> Moved
     ensures { λ r. ⌜ LeftWords (now (tables .entry)) (now (program .entry)) configuration (stepOf verb i n)
-        (r .refused) (r .configuration) ⌝ }
+        (r .answered) (r .configuration) ⌝ }
 {
     let mut after = configuration;
-    let refused = lent_step(tables, program, &mut after, verb, i, n);
+    let answered = lent_step(tables, program, &mut after, verb, i, n);
     Moved {
-        refused,
+        answered,
         configuration: after,
     }
 }
@@ -103,15 +105,16 @@ pub fn hall(
     verb: u32,
     i: u32,
     n: u32,
-) -> u32
+) -> Answered
     ensures { λ r. ⌜ LeftWords (now (tables .entry)) (now (program .entry)) (now (configuration .entry)) (stepOf verb i n)
         r (now (configuration .exit)) ⌝ }
 {
     let m = hall_step(tables, program, *configuration, verb, i, n);
-    if m.refused != 0 {
-        return m.refused;
+    let answered = m.answered;
+    if answered.refused != 0 {
+        return answered;
     }
     let after = m.configuration;
     *configuration = after;
-    0
+    answered
 }

@@ -4,10 +4,10 @@ use Rattle.hall.proofs.lent_step.Statement.{statement}
 use Rattle.hall.proofs.lent_step.Tie as tie
 
 returns : tie.Need-returns
-returns c = broken-left _ _ _ _ _ (c .before .lent-lawful .ensures) (c .if1 .taken)
+returns c = broken-left _ _ _ _ _ (c .before .before .lent-lawful .ensures) (c .before .if1 .taken) _ (c .about-none .ensures)
 
 returns-2 : tie.Need-returns-2
 returns-2 c = let e = c .before .before in ruled-left _ _ _ _ _ (e .before .lent-lawful .ensures) (e .if1 .left) _ _ (c .step .ensures)
 
 pub lent-step-spec : {M : Type 1} → statement M
-lent-step-spec = tie.close (tie.spec (λ c κs. search needs) returns (λ c. search needs) (λ c κs. search needs) returns-2)
+lent-step-spec = tie.close (tie.spec (λ c κs. search needs) (λ c κs. search needs) returns (λ c. search needs) (λ c κs. search needs) returns-2)
