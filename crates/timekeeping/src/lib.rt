@@ -7,6 +7,7 @@ use judged::Place;
 use judged::Verdict;
 use judging::pairs::Outcome;
 use judging::pairs::read_both;
+use model::Concerned;
 use model::Text;
 use timed::Timed;
 use walks::Passed;
@@ -25,12 +26,12 @@ ghost use Rattle.report.specs.Report.{countText};
 ghost use Rattle.inks.specs.Written.{Written};
 ghost use Rattle.judged.specs.Judged.{afterFault, over};
 ghost use Rattle.words.specs.Words.{tablesIn, programIn, answerIn, stateIn};
+ghost use Rattle.walks.specs.Fits.{PortsFit};
 ghost use Rattle.judging.specs.Room.{roomFor, Short};
 ghost use Rattle.judging.specs.Counts.{Counts};
 ghost use Rattle.times.specs.Refusal.{timesNumber};
 ghost use Rattle.timed.specs.Timed.{clocked, timedCourse, numbered, markInRoom};
 ghost use Rattle.timed.specs.Once.{PromisedAnswer, PromisedPlace};
-ghost use Rattle.walks.specs.Fits.{PortsFit};
 ghost use Rattle.timekeeping.specs.Came.{came, markedIn, inRoomOf};
 ghost use Rattle.timekeeping.specs.Part.{PromisedPart};
 ghost use Rattle.timekeeping.specs.Once.{PromisedPrint};
@@ -54,6 +55,7 @@ fn no_walk() -> TimedWalk {
     let passed = Passed {
         accepted: 0,
         refused: 0,
+        port: Concerned::NoPort,
     };
     TimedWalk { passed, mark: 0 }
 }
@@ -142,7 +144,9 @@ fn after_times_fault(times: &[u8], n: u8, at: usize) -> Verdict
 fn write_marked(t: &mut [u8], w: TimedWalk, state: &StateWords) -> usize
     ensures { λ r. ⌜ Written (now (t .entry)) (markedIn w (now (state .entry))) (now (t .exit)) 0 r ⌝ }
 {
-    let used = writers::write_report(t, w.passed.accepted, w.passed.refused, state);
+    let passed = w.passed;
+    let port = passed.port;
+    let used = writers::write_report(t, passed.accepted, passed.refused, port, state);
     used + writers::write_count(&mut t[used..], b"mark=", w.mark)
 }
 
@@ -174,9 +178,11 @@ fn after_walk(w: TimedWalk, state: &StateWords, lent: &mut [u8]) -> Timed
         return unmarked(verdict);
     }
     let written = write_marked(lent, w, state);
-    let refused = w.passed.refused as u8;
-    let accepted = w.passed.accepted as usize;
-    let verdict = verdicts::walk_verdict(refused, accepted, done(state) as usize, written);
+    let passed = w.passed;
+    let port = passed.port;
+    let refused = passed.refused as u8;
+    let accepted = passed.accepted as usize;
+    let verdict = verdicts::walk_verdict(refused, port, accepted, done(state) as usize, written);
     Timed {
         verdict,
         mark: w.mark,

@@ -33,7 +33,7 @@ returns c =
 returns-2 : tie.Need-returns-2
 unfolding inRoom afterWalk over markInRoom
 returns-2 c =
-    let written = c .before .before .before .before .before .before in
+    let written = c .before .before .before .before .before .before .before in
     let d = written .before .before in
     let h = d .before in
     let x = h .before .before .args in

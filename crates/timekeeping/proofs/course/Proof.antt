@@ -19,8 +19,8 @@ returns-2 c =
 returns-3 : tie.Need-returns-3
 returns-3 c =
     let d = c .before .before .before .before .before in
-    let said = rw (d .enum-told .given .1) at (d .before .before .read-both .ensures .same) in
-    c .clock-pair .ensures (ports-fit _ _ _ _ _ said) ∙ pair-said _ _ _ _ _ _ said
+    let e = rw (d .enum-told .given .1) at (d .before .before .read-both .ensures .same) in
+    c .clock-pair .ensures (ports-fit _ _ _ _ _ e) ∙ pair-said _ _ _ _ _ _ e
 
 pub course-spec : {M : Type 1} → statement M
 course-spec =
