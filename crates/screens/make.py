@@ -13,12 +13,12 @@ def pairs(items):
 
 def lines_of(name, lent, said, expected):
     sent = f"{name}{pairs((i, b) for i, b in enumerate(lent_bytes(lent)) if b)}\n"
-    number, moved = stepped(lent)
-    if number != said:
-        raise SystemExit(f"{name}: lent.py says {said}, and model.py says {number}")
+    number, port, moved = stepped(lent)
+    if (number, port) != said:
+        raise SystemExit(f"{name}: lent.py says {said}, and model.py says {(number, port)}")
     if configuration_bytes(lent) != configuration_bytes(expected):
         raise SystemExit(f"{name}: model.py leaves other slots than lent.py says")
-    return sent, f"{name} {number}{pairs(moved)}\n"
+    return sent, f"{name} {number} {port}{pairs(moved)}\n"
 
 
 names = [name for name, _, _, _ in cases]

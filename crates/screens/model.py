@@ -188,9 +188,10 @@ def state_of(x):
     return state
 
 
-def number_of(x):
+def answer_of(x):
+    """The number, and the use port that it is about."""
     if not is_lawful(x):
-        return 7
+        return 7, "-"
     word, state = MOVES[x["step"]["verb"]], state_of(x)
     try:
         if word == "next":
@@ -198,8 +199,8 @@ def number_of(x):
         else:
             state.move(word, x["step"]["id"], x["step"]["number"])
     except rules.Refused as step:
-        return step.number
-    return 0
+        return step.number, step.port
+    return 0, "-"
 
 
 # ---- what an allowed step leaves in every slot
@@ -248,8 +249,8 @@ def make_move(x, word, i, number):
 
 
 def stepped(x):
-    """The number, and the bytes of the configuration that move; x itself is moved on."""
-    before, number = configuration_bytes(x), number_of(x)
+    """The number and the use port it is about, and the bytes of the configuration that move; x itself is moved on."""
+    before, (number, port) = configuration_bytes(x), answer_of(x)
     if number == 0:
         word = MOVES[x["step"]["verb"]]
         if word == "next":
@@ -257,4 +258,4 @@ def stepped(x):
         else:
             make_move(x, word, x["step"]["id"], x["step"]["number"])
     after = configuration_bytes(x)
-    return number, [(i, b) for i, (a, b) in enumerate(zip(before, after)) if a != b]
+    return number, port, [(i, b) for i, (a, b) in enumerate(zip(before, after)) if a != b]

@@ -24,10 +24,11 @@ def row(name, **values):
 cases = []
 
 
-def case(name, lent, changes, number, left=""):
-    """The number of a step; an allowed one leaves what `left` says and all else as it was, a refused one everything."""
+def case(name, lent, changes, number, left="", port="-"):
+    """The number of a step and the use port it is about; an allowed one leaves what `left` says and all else as it was, a refused one
+    everything."""
     given = changed(lent, changes)
-    cases.append((name, given, number, changed(given, left)))
+    cases.append((name, given, (number, port), changed(given, left)))
 
 
 def instance(i, kind, marked, queued=0, running=0, ended=0):

@@ -1,5 +1,5 @@
 // Runs one step of the screen in the hall for each line of standard input, `NAME PLACE=VALUE ..`: bytes of what is lent, the others 0.
-// Writes `NAME N PLACE=VALUE ..`: what `hall` answers, and the bytes of the lent configuration that moved. make.py writes the cases.
+// Writes `NAME N PORT PLACE=VALUE ..`: what `hall` answers, `-` for no port, and the bytes of the lent configuration that moved. make.py writes the cases.
 mod lent;
 mod lines;
 mod shown;
@@ -19,13 +19,24 @@ use lines::ended;
 use lines::fresh;
 use lines::is_over;
 use lines::read_byte;
+use model::Concerned;
+use ports::Answered;
 use shown::show;
 use words::ProgramWords;
 use words::StateWords;
 use words::TableWords;
 
-fn wide(x: u32) -> usize {
-    x as usize
+// The use port's number, and one past them all for none.
+fn port_of(answered: Answered) -> u32 {
+    let port = answered.port;
+    match port {
+        Concerned::NoPort => 256,
+        Concerned::UsePort(q) => q as u32,
+    }
+}
+
+fn same_answer(a: Answered, b: Answered) -> bool {
+    (a.refused == b.refused) & (port_of(a) == port_of(b))
 }
 
 fn same_words(a: &StateWords, b: &StateWords) -> bool {
@@ -50,10 +61,10 @@ fn run_case(name: &[u8; 64], size: usize, bytes: &[u8; BYTES]) {
     let id = byte_at(bytes, 7019);
     let number = byte_at(bytes, 7020);
     let mut lean = state;
-    let refused = hall(&tables, &program, &mut state, verb, id, number);
+    let answered = hall(&tables, &program, &mut state, verb, id, number);
     let again = lent_step(&tables, &program, &mut lean, verb, id, number);
-    show(name, size, wide(refused), &before, &state);
-    if (again != refused) | !same_words(&lean, &state) {
+    show(name, size, answered, &before, &state);
+    if !same_answer(again, answered) | !same_words(&lean, &state) {
         io::write_all(STDOUT_FILENO, b"the lean door differs\n");
     }
 }

@@ -3,7 +3,9 @@ use inks::write_byte;
 use inks::write_key;
 use inks::write_number;
 use libc::STDOUT_FILENO;
+use model::Concerned;
 use model::wide;
+use ports::Answered;
 use words::StateWords;
 use words::state::done;
 use words::state::ended;
@@ -110,25 +112,41 @@ fn print_line(line: &[u8], size: usize) {
     }
 }
 
+// The use port concerned, `-` for none.
+fn write_port(line: &mut [u8], at: usize, port: Concerned) -> usize {
+    match port {
+        Concerned::NoPort => write_byte(line, at, b'-'),
+        Concerned::UsePort(q) => write_number(line, at, wide(q)),
+    }
+}
+
+// The number, and the use port that it is about.
+fn write_answered(line: &mut [u8], at: usize, answered: Answered) -> usize {
+    let number = write_number(line, at, answered.refused as usize);
+    let blank = write_byte(line, number, b' ');
+    let port = answered.port;
+    write_port(line, blank, port)
+}
+
 fn write_line(
     line: &mut [u8],
     name: &[u8],
     size: usize,
-    refused: usize,
+    answered: Answered,
     before: &[u8; BYTES],
     after: &[u8; BYTES],
 ) -> usize {
     let named = write_name(line, name, size);
     let blank = write_byte(line, named, b' ');
-    let number = write_number(line, blank, refused);
-    let moved = write_all_moved(line, number, before, after);
+    let told = write_answered(line, blank, answered);
+    let moved = write_all_moved(line, told, before, after);
     write_byte(line, moved, b'\n')
 }
 
 pub(crate) fn show(
     name: &[u8],
     size: usize,
-    refused: usize,
+    answered: Answered,
     before: &StateWords,
     after: &StateWords,
 ) {
@@ -137,6 +155,6 @@ pub(crate) fn show(
     let mut new = [0u8; BYTES];
     put_state(&mut new, after);
     let mut line = [0u8; ROOM];
-    let end = write_line(&mut line, name, size, refused, &old, &new);
+    let end = write_line(&mut line, name, size, answered, &old, &new);
     print_line(&line, end);
 }
