@@ -1,5 +1,5 @@
--- The screen in the hall: "Number 7, before all of 10 to 37, is given exactly when" what is lent breaks a limit; 38 of 02 is one of them, and "the hall screen and
--- the judge both pass" the use port on. "Any other configuration,
+-- The screen in the hall: "Number 7, before all of 10 to 37, is given exactly when" what is lent breaks a limit; 02's 38 comes after it too.
+-- "The hall screen and the judge both pass" the use port on. "Any other configuration,
 -- reachable or not, gets the step rules' answer." Depth 0 stands for the board's default here too.
 use Prim.Native.Nat.{ℕ}
 use mathlib.Core.Bool.{Bool, _&&_, cond}
