@@ -10,6 +10,7 @@ use lib.Dec.{leb}
 use lib.ListN.{length, getD, set, length-set}
 use borrow.Author.Tests.{leb-true}
 use Rattle.forms.specs.Reader.{bytes}
+use Rattle.forms.specs.Write.{inTurn}
 use Rattle.forms.proofs.Tests.{and-right}
 use Rattle.model.specs.declared.ComponentType.{ComponentType}
 use Rattle.model.specs.declared.Transitions.{Transitions}
@@ -26,8 +27,9 @@ use Rattle.reading.specs.Texts.{tranAt, behaviorAt, portAt, typeLines, instruct
 use Rattle.reading.proofs.Slots.{typeSlots, types-sound, transitionSlots, transitions-sound, behaviorSlots, behaviors-sound, portSlots, ports-sound, instructionSlots, instructions-sound}
 use Rattle.report.specs.Report.{countText}
 use Rattle.writing.specs.Kinds.{initialText, tranText, behaviorText, portLineText, doText}
-use Rattle.writing.specs.Texts.{inTurnFrom, transitionRow, behaviorRow, portRow, instructionRow, typeText, sheetText}
-use Rattle.writing.proofs.Took.{takes-due, takes-count, takes-initial, takes-tran, takes-behavior, takes-port, takes-do, takes-rows, on-value, on-rest, not-on, run-then, line-then}
+use Rattle.writing.specs.Texts.{transitionRow, behaviorRow, portRow, instructionRow, typeText, sheetText}
+use Rattle.writing.proofs.Turns.{inTurnFrom, turn-from, turn-same}
+use Rattle.writing.proofs.Took.{takes-due, takes-count, takes-initial, takes-tran, takes-behavior, takes-port, takes-do, takes-rows, takes-all, end-back, on-value, on-rest, not-on, run-then, line-then}
 
 -- the arrays have their lengths
 record Whole (t : Tables) : Type 0 where
@@ -51,18 +53,13 @@ record Few (k : ComponentType) : Type 0 where
   behaviors : k .behaviors ≤ 8
   ports : k .ports ≤ 16
 
-turn-same : (f g : ℕ → List ℕ) (n lo : ℕ) → ((j : ℕ) → lo ≤ j → j < lo + n → f j ≡ g j) → inTurnFrom f n lo ≡ inTurnFrom g n lo
-unfolding inTurnFrom
-turn-same f g zero lo e = refl
-turn-same f g (suc n) lo e = ap₂ _++_ (e lo (omega arith) (omega arith)) (turn-same f g n (suc lo) (λ j l h. e j (omega arith) (omega arith)))
-
 text-same : (t u : Tables) (i : ℕ) → Few (typeOf t i) → Stays (suc i) t u → typeText u i ≡ typeText t i
 unfolding typeText
 text-same t u i few e =
     rw (e .types i (omega arith))
-    (ap₂ parts (turn-same _ _ (typeOf t i .transitions) (i * 32) (λ j l h. ap tranText (e .transitions j (omega (arith, few .transitions)))))
-    (ap₂ (λ (b p : List ℕ). (b, p)) (turn-same _ _ (typeOf t i .behaviors) (i * 8) (λ j l h. ap behaviorText (e .behaviors j (omega (arith, few .behaviors)))))
-    (turn-same _ _ (typeOf t i .ports) (i * 16) (λ j l h. ap portLineText (e .ports j (omega (arith, few .ports)))))))
+    (ap₂ parts (turn-same _ _ (typeOf t i .transitions) (λ x h. ap tranText (e .transitions (i * 32 + x) (omega (arith, few .transitions)))))
+    (ap₂ (λ (b p : List ℕ). (b, p)) (turn-same _ _ (typeOf t i .behaviors) (λ x h. ap behaviorText (e .behaviors (i * 8 + x) (omega (arith, few .behaviors)))))
+    (turn-same _ _ (typeOf t i .ports) (λ x h. ap portLineText (e .ports (i * 16 + x) (omega (arith, few .ports)))))))
   where
     parts : List ℕ → List ℕ × List ℕ → List ℕ
     parts a y =
@@ -86,18 +83,18 @@ module _ (i : ℕ) (t : Tables) (k : ComponentType) (xs : Transitions) (bs : Lis
   own = types-sound .same (t .types) i k (w .types) small
 
   rows : List ℕ
-  rows = countText (bytes "transitions=") (k .transitions) ++ (inTurnFrom (λ j. tranText (transitionRow made j)) (k .transitions) (i * 32)
-      ++ (countText (bytes "behaviors=") (k .behaviors) ++ (inTurnFrom (λ j. behaviorText (behaviorRow made j)) (k .behaviors) (i * 8)
-      ++ (countText (bytes "ports=") (k .ports) ++ inTurnFrom (λ j. portLineText (portRow made j)) (k .ports) (i * 16)))))
+  rows = countText (bytes "transitions=") (k .transitions) ++ (inTurn (λ x. tranText (transitionRow made (i * 32 + x))) (k .transitions)
+      ++ (countText (bytes "behaviors=") (k .behaviors) ++ (inTurn (λ x. behaviorText (behaviorRow made (i * 8 + x))) (k .behaviors)
+      ++ (countText (bytes "ports=") (k .ports) ++ inTurn (λ x. portLineText (portRow made (i * 16 + x))) (k .ports)))))
 
   own-text : typeText made i ≡ countText (bytes "type=") i ++ (countText (bytes "places=") (k .places) ++ (initialText (k .initial) ++ rows))
   unfolding typeText rows
   own-text = rw own
 
   read-made : (s s₄ s₆ s₈ r : List ℕ) → s ≡ countText (bytes "type=") i ++ (countText (bytes "places=") (k .places) ++ (initialText (k .initial) ++ (countText (bytes "transitions=") (k .transitions) ++ s₄)))
-      → s₄ ≡ inTurnFrom (λ j. tranText (transitionRow made j)) (k .transitions) (i * 32) ++ (countText (bytes "behaviors=") (k .behaviors) ++ s₆)
-      → s₆ ≡ inTurnFrom (λ j. behaviorText (behaviorRow made j)) (k .behaviors) (i * 8) ++ (countText (bytes "ports=") (k .ports) ++ s₈)
-      → s₈ ≡ inTurnFrom (λ j. portLineText (portRow made j)) (k .ports) (i * 16) ++ r
+      → s₄ ≡ inTurn (λ x. tranText (transitionRow made (i * 32 + x))) (k .transitions) ++ (countText (bytes "behaviors=") (k .behaviors) ++ s₆)
+      → s₆ ≡ inTurn (λ x. behaviorText (behaviorRow made (i * 8 + x))) (k .behaviors) ++ (countText (bytes "ports=") (k .ports) ++ s₈)
+      → s₈ ≡ inTurn (λ x. portLineText (portRow made (i * 16 + x))) (k .ports) ++ r
       → s ≡ typeText made i ++ r
   unfolding rows
   read-made s s₄ s₆ s₈ r a b c d = a ∙ rw (b, c, d, own-text) (simp append-assoc)
@@ -125,8 +122,8 @@ read-type i t u s r small w q =
     rw (← on-value q, ← on-rest q) record {
       is = read-made i t kk xs bs qs small w s s₄ s₆ s₈ s₉
           (takes-due (bytes "type=") i s e₁ ∙ ap (λ (l : List ℕ). countText (bytes "type=") i ++ l) (x₂ ∙ ap (λ (l : List ℕ). countText (bytes "places=") n ++ l) (takes-initial n (omega arith) s₂ m s₃ e₃ ∙ ap (λ (l : List ℕ). initialText m ++ l) x₄)))
-          (f .is ∙ ap (λ (l : List ℕ). inTurnFrom (λ j. tranText (transitionSlots .at xs j)) k (i * 32) ++ l) x₆)
-          (g .is ∙ ap (λ (l : List ℕ). inTurnFrom (λ j. behaviorText (behaviorSlots .at bs j)) b (i * 8) ++ l) x₈) (h .is);
+          (f .is ∙ ap (λ (l : List ℕ). inTurn (λ x. tranText (transitionSlots .at xs (i * 32 + x))) k ++ l) x₆)
+          (g .is ∙ ap (λ (l : List ℕ). inTurn (λ x. behaviorText (behaviorSlots .at bs (i * 8 + x))) b ++ l) x₈) (h .is);
       few = rw (own i t kk xs bs qs small w) record { transitions = hk; behaviors = hb; ports = hp };
       stays = record {
         depth = refl;
@@ -169,12 +166,8 @@ read-types (suc n) i t u s r l w q =
       whole = y .whole;
     }
 
-end-back : (s : List ℕ) {u : Unit {0}} {r : List ℕ} → atEnd s ≡ on u r → s ≡ []
-end-back [] q = refl
-end-back (c ∷ s) q = absurd (not-on q)
-
 sheet-made : (u : Tables) (v : Program) (s s₁ s₂ s₃ s₄ s₅ : List ℕ) → s ≡ countText (bytes "sheet=") 1 ++ s₁ → s₁ ≡ countText (bytes "depth=") (u .depth) ++ s₂ → s₂ ≡ countText (bytes "types=") (u .count) ++ s₃
-    → s₃ ≡ inTurnFrom (typeText u) (u .count) 0 ++ s₄ → s₄ ≡ countText (bytes "program=") (v .count) ++ s₅ → s₅ ≡ inTurnFrom (λ j. doText (instructionRow v j)) (v .count) 0 → s ≡ sheetText u v
+    → s₃ ≡ inTurn (typeText u) (u .count) ++ s₄ → s₄ ≡ countText (bytes "program=") (v .count) ++ s₅ → s₅ ≡ inTurn (λ j. doText (instructionRow v j)) (v .count) → s ≡ sheetText u v
 unfolding sheetText
 sheet-made u v s s₁ s₂ s₃ s₄ s₅ a b c d e f = rw (a, b, c, d, e, f)
 
@@ -192,9 +185,9 @@ sheets-are-their-texts s r t p q =
     let hk : k ≤ 256 = leb-true k 256 lk in
     run-then (each (instructionAt n) k 0 (programOf k) s₅) _ q λ v s₆ e₆ q. run-then (atEnd s₆) _ q λ _ s₇ e₇ q.
     let types = read-types n 0 (headed d n) u s₃ s₄ (omega arith) (record { types = (refl, tt); transitions = (refl, refl); behaviors = (refl, tt); ports = (refl, refl, refl) }) e₄ in
-    let lines = takes-rows (instructionSlots k) (instructions-sound k) (doLine n) doText (takes-do n) k 0 (programOf k) v s₅ s₆ (omega arith) (refl, refl) e₆ in
+    let lines = takes-all (instructionSlots k) (instructions-sound k) (doLine n) doText (takes-do n) k (programOf k) v s₅ s₆ hk (refl, refl) e₆ in
     let tables : u ≡ t = ap (λ (x : Tables × Program). x .0) (on-value q) in
     let program : v ≡ p = ap (λ (x : Tables × Program). x .1) (on-value q) in
     rw (← tables, ← program)
     (sheet-made u v s s₁ s₂ s₃ s₄ s₅ (takes-due (bytes "sheet=") 1 s e₁) (rw (types .stays .depth) (takes-count (bytes "depth=") depthOk s₁ e₂ .0)) (rw (types .stays .count) x₃)
-    (rw (types .stays .count) (types .is)) (rw (lines .sized .1) x₅) (rw (lines .sized .1) (lines .is ∙ rw (end-back s₆ e₇) (append-nil _))))
+    (rw (types .stays .count) (types .is ∙ ap (λ (l : List ℕ). l ++ s₄) (sym (turn-from 0 (typeText u) (typeText u) (λ x. ap (typeText u) (sym (zero-add x))) n)))) (rw (lines .sized .1) x₅) (rw (lines .sized .1) (lines .is ∙ rw (end-back s₆ e₇) (append-nil _))))

@@ -26,9 +26,10 @@ use Rattle.reading.specs.Texts.{sheet}
 use Rattle.reading.proofs.Lawful.{sheets-are-lawful}
 use Rattle.rules.specs.Refusal.{_⇒_∣_, orNumber}
 use Rattle.writing.specs.Kinds.{limitFault, initialFault, tranFault, behaviorFault, portFault, doFault}
-use Rattle.writing.specs.Texts.{firstFrom, transitionRow, behaviorRow, portRow, instructionRow, typeFault, sheetText, sheetFault}
+use Rattle.writing.specs.Texts.{transitionRow, behaviorRow, portRow, instructionRow, typeFault, sheetText, sheetFault}
 use Rattle.writing.specs.Cleared.{cleared, spoken, clearedProgram}
 use Rattle.writing.specs.Round.{Digits, Mask, DigitsOf, Held, NoneIsLawful, LawfulIsSaid}
+use Rattle.writing.proofs.Turns.{first-none}
 use Rattle.writing.proofs.Sheet.{written-is-read}
 use Rattle.writing.proofs.Took.{on-value}
 use Rattle.writing.proofs.Back.{SheetsAreTheirTexts, sheets-are-their-texts}
@@ -39,13 +40,6 @@ both a {b} = and-eq-true-iff a b .0
 
 limit-none : (b : Bool) → b ≡ true → limitFault b ≡ 0
 limit-none b e = rw e
-
-first-none : (f : ℕ → ℕ) (n lo : ℕ) → ((x : ℕ) → x < n → f (lo + x) ≡ 0) → firstFrom f n lo ≡ 0
-unfolding firstFrom
-first-none f zero lo e = refl
-first-none f (suc n) lo e =
-    rw (subst (λ (j : ℕ). f j ≡ 0) (let q : lo + 0 ≡ lo = omega arith in q) (e 0 (omega arith)))
-    (first-none f n (suc lo) (λ x h. subst (λ (j : ℕ). f j ≡ 0) (let q : lo + suc x ≡ suc lo + x = omega arith in q) (e (suc x) (omega arith))))
 
 -- ---- a type
 module _ (t : Tables) (i : ℕ) (law : typeLawful t i ≡ true) where
@@ -116,12 +110,12 @@ module _ (t : Tables) (i : ℕ) (law : typeLawful t i ≡ true) where
         kept .mask,
         kept .some,
         kept .transitions,
-        first-none (λ j. tranFault (typeOf t i .places) (transitionRow t j)) (typeOf t i .transitions) (i * 32) transition-none,
+        first-none (λ x. tranFault (typeOf t i .places) (transitionRow t (i * 32 + x))) (typeOf t i .transitions) transition-none,
         kept .behaviors,
-        first-none (λ j. behaviorFault (typeOf t i .transitions) (behaviorRow t j)) (typeOf t i .behaviors) (i * 8) behavior-none,
+        first-none (λ x. behaviorFault (typeOf t i .transitions) (behaviorRow t (i * 8 + x))) (typeOf t i .behaviors) behavior-none,
         kept .ports,
       )
-      (first-none (λ j. portFault (typeOf t i .places) (typeOf t i .transitions) (typeOf t i .initial) (portRow t j)) (typeOf t i .ports) (i * 16) port-none)
+      (first-none (λ x. portFault (typeOf t i .places) (typeOf t i .transitions) (typeOf t i .initial) (portRow t (i * 16 + x))) (typeOf t i .ports) port-none)
 
 -- ---- an instruction
 -- what holds of it by each verb that a line says
@@ -191,8 +185,8 @@ module _ (t : Tables) (p : Program) (law : Lawful t p) where
   sheet-none : sheetFault t p ≡ 0
   unfolding sheetFault
   sheet-none =
-      rw (parts .depth, parts .count, first-none (typeFault t) (t .count) 0 (λ i h. rw (zero-add i) (type-none t i (parts .type i h))), parts .program)
-      (first-none (λ j. doFault (t .count) (instructionRow p j)) (p .count) 0 (λ j h. rw (zero-add j) (line-told j h .none)))
+      rw (parts .depth, parts .count, first-none (typeFault t) (t .count) (λ i h. type-none t i (parts .type i h)), parts .program)
+      (first-none (λ j. doFault (t .count) (instructionRow p j)) (p .count) (λ j h. line-told j h .none))
 
   masked : (n m : ℕ) → n ≤ 32 → maskOk n m ≡ true → Mask m
   masked n m l e = lt-of-lt-of-le (ltb-true m (2 ^ n) e) (pow-mono l)

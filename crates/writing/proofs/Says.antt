@@ -8,14 +8,14 @@ use mathlib.Core.Path.{_≡_, refl, sym, ap, _∙_}
 use mathlib.Core.Logic.{_≢_, by-cases}
 use native.Mathlib.Omega.{arith}
 use native.Mathlib.Decide.{ℕ-discrete}
-use native.Mathlib.Nat.{add-zero, add-suc, suc-add}
-use lib.Dec.{eqb}
-use borrow.Author.Tests.{eq-eqb, ne-eqb}
+use native.Mathlib.Nat.{add-zero, zero-add}
+use Rattle.forms.specs.Write.{inTurn}
 use Rattle.forms.specs.Reader.{Reply, got, refused, Reader, readOn}
 use Rattle.reading.specs.Lines.{Run, on, stop, Lines, runOn, line, lineOf, each, atEnd}
 use Rattle.reading.specs.Lines.{handOn}
 use Rattle.rules.specs.Refusal.{orNumber}
-use Rattle.writing.specs.Texts.{inTurnFrom, firstFrom}
+use Rattle.writing.specs.Texts.{firstOf}
+use Rattle.writing.proofs.Turns.{inTurnFrom, firstFrom, turn-from, first-from, or-zero, or-some}
 
 -- ---- a line
 pub record SaysLine {A : Type 0} (m : Reader A) (x : List ℕ) (n : ℕ) (a : A) : Type 0 where
@@ -35,12 +35,6 @@ says-line m {x} h = record {
 
 pub says-give : {A : Type 0} (a : A) → Says (handOn a) [] 0 a
 says-give a = record { goes = λ e s. refl; stops = λ e. absurd (e refl) }
-
-or-zero : (a b : ℕ) → a ≡ 0 → orNumber a b ≡ b
-or-zero a b e = rw (eq-eqb a 0 e)
-
-or-some : (a b : ℕ) → a ≢ 0 → orNumber a b ≡ a
-or-some a b e = rw (ne-eqb a 0 e)
 
 module _ {A B : Type 0} (m : Lines A) (f : A → Lines B) (x y : List ℕ) (n k : ℕ) (a : A) (b : B) where
   pub says-then : Says m x n a → (n ≡ 0 → Says (f a) y k b) → Says (λ s. runOn (m s) f) (x ++ y) (orNumber n k) b
@@ -104,5 +98,15 @@ module _ {A : Type 0} (f : ℕ → A → Lines A) (text : ℕ → List ℕ) (num
       (turn i l (omega arith)) (λ _. says-each n (suc i) (omega arith) (omega arith))
 
   -- from lo on, where the first value is known by another name
-  pub says-rows : (n : ℕ) (a : A) → value lo ≡ a → lo + n ≡ hi → Says (each f n lo a) (inTurnFrom text n lo) (firstFrom number n lo) (value hi)
-  says-rows n a q e = rw (← q) (says-each n lo (omega arith) e)
+  pub says-rows : (n : ℕ) (a : A) → value lo ≡ a → lo + n ≡ hi → Says (each f n lo a) (inTurn (λ x. text (lo + x)) n) (firstOf (λ x. number (lo + x)) n) (value hi)
+  says-rows n a q e =
+      rw (← q, turn-from lo (λ x. text (lo + x)) text (λ x. refl) n, first-from lo (λ x. number (lo + x)) number (λ x. refl) n)
+      (says-each n lo (omega arith) e)
+
+-- from the first slot on
+module _ {A : Type 0} (f : ℕ → A → Lines A) (text : ℕ → List ℕ) (number : ℕ → ℕ) (value : ℕ → A) (n : ℕ)
+    (turn : (i : ℕ) → i < n → Says (f i (value i)) (text i) (number i) (value (suc i))) where
+  pub says-all : (a : A) → value 0 ≡ a → Says (each f n 0 a) (inTurn text n) (firstOf number n) (value n)
+  says-all a q =
+      rw (← q, turn-from 0 text text (λ x. ap text (sym (zero-add x))) n, first-from 0 number number (λ x. ap number (sym (zero-add x))) n)
+      (says-each f text number value 0 n (λ i l h. turn i h) n 0 (omega arith) (zero-add n))

@@ -12,6 +12,7 @@ use lib.ListN.{getD, set}
 use borrow.Author.Tests.{leb-true}
 use Rattle.forms.proofs.Tests.{and-right}
 use Rattle.forms.specs.Reader.{bytes}
+use Rattle.forms.specs.Write.{inTurn}
 use Rattle.sets.specs.Test.{anyBelow}
 use Rattle.model.specs.declared.ComponentType.{ComponentType}
 use Rattle.model.specs.declared.Transitions.{Transitions}
@@ -29,10 +30,10 @@ use Rattle.reading.specs.Texts.{tranAt, behaviorAt, portAt, typeLines, instruct
 use Rattle.rules.specs.Refusal.{_⇒_∣_, orNumber}
 use Rattle.report.specs.Report.{countText}
 use Rattle.writing.specs.Kinds.{limitFault, initialText, initialFault, tranText, tranFault, behaviorText, behaviorFault, portLineText, portFault, doText, doFault}
-use Rattle.writing.specs.Texts.{inTurnFrom, firstFrom, transitionRow, behaviorRow, portRow, instructionRow, typeText, typeFault, sheetText, sheetFault}
+use Rattle.writing.specs.Texts.{firstOf, transitionRow, behaviorRow, portRow, instructionRow, typeText, typeFault, sheetText, sheetFault}
 use Rattle.writing.specs.Cleared.{rowSaid, column, cleared, spoken, clearedProgram}
 use Rattle.writing.specs.Round.{Digits, Mask, Held, WrittenIsRead, RefusedAsRead}
-use Rattle.writing.proofs.Says.{Says, says-line, says-then, says-map, says-made, says-each, says-rows, Ends, ends-then, ends-here}
+use Rattle.writing.proofs.Says.{Says, says-line, says-then, says-map, says-made, says-rows, says-all, Ends, ends-then, ends-here}
 use Rattle.writing.proofs.Written.{says-due, says-count, says-initial, says-tran, says-behavior, says-port, says-do}
 use Rattle.writing.proofs.Columns.{column-same, column-none, column-set, up-none, up-next, upTo, to-none, to-next}
 
@@ -109,7 +110,7 @@ module _ (t : Tables) (p : Program) (held : Held t p) where
     transitions = typeOf t i .transitions
 
     tran-rows : Says (each (tranAt places) transitions (i * 32) (transitionsOf (trans i)))
-        (inTurnFrom (λ j. tranText (transitionRow t j)) transitions (i * 32)) (firstFrom (λ j. tranFault places (transitionRow t j)) transitions (i * 32)) (transitionsOf (trans (suc i)))
+        (inTurn (λ x. tranText (transitionRow t (i * 32 + x))) transitions) (firstOf (λ x. tranFault places (transitionRow t (i * 32 + x))) transitions) (transitionsOf (trans (suc i)))
     unfolding anyBelow
     tran-rows =
         let f = to-none (trans i) (i * 32) in
@@ -118,14 +119,14 @@ module _ (t : Tables) (p : Program) (held : Held t p) where
         (ap₂ (λ (a b : List ℕ). record { source = a; destination = b }) (column-same 512 0 _ _ _ f) (column-same 512 0 _ _ _ f)) refl
 
     behavior-rows : transitions ≤ 32 → Says (each (behaviorAt transitions) (typeOf t i .behaviors) (i * 8) (behaviorsOf (behaves i)))
-        (inTurnFrom (λ j. behaviorText (behaviorRow t j)) (typeOf t i .behaviors) (i * 8)) (firstFrom (λ j. behaviorFault transitions (behaviorRow t j)) (typeOf t i .behaviors) (i * 8)) (behaviorsOf (behaves (suc i)))
+        (inTurn (λ x. behaviorText (behaviorRow t (i * 8 + x))) (typeOf t i .behaviors)) (firstOf (λ x. behaviorFault transitions (behaviorRow t (i * 8 + x))) (typeOf t i .behaviors)) (behaviorsOf (behaves (suc i)))
     unfolding anyBelow
     behavior-rows h =
         says-rows (behaviorAt transitions) (λ j. behaviorText (behaviorRow t j)) (λ j. behaviorFault transitions (behaviorRow t j)) (λ j. behaviorsOf (upTo (behaves i) (i * 8) j)) (i * 8) (i * 8 + typeOf t i .behaviors)
         (λ j l b. behavior-turn (behaves i) (i * 8) transitions j (at-row (λ j. Mask (behaviorRow t j)) (i * 8) (typeOf t i .behaviors) j (λ x b. held .behavior i x here b) l b) h l) (typeOf t i .behaviors) (behaviorsOf (behaves i)) (column-same 128 0 _ _ _ (to-none (behaves i) (i * 8))) refl
 
     port-rows : places ≤ 32 → transitions ≤ 32 → Says (each (portAt places transitions initial) (typeOf t i .ports) (i * 16) (portsOf (gates i)))
-        (inTurnFrom (λ j. portLineText (portRow t j)) (typeOf t i .ports) (i * 16)) (firstFrom (λ j. portFault places transitions initial (portRow t j)) (typeOf t i .ports) (i * 16)) (portsOf (gates (suc i)))
+        (inTurn (λ x. portLineText (portRow t (i * 16 + x))) (typeOf t i .ports)) (firstOf (λ x. portFault places transitions initial (portRow t (i * 16 + x))) (typeOf t i .ports)) (portsOf (gates (suc i)))
     unfolding anyBelow
     port-rows hn hk =
         says-rows (portAt places transitions initial) (λ j. portLineText (portRow t j)) (λ j. portFault places transitions initial (portRow t j)) (λ j. portsOf (upTo (gates i) (i * 16) j)) (i * 16) (i * 16 + typeOf t i .ports)
@@ -146,9 +147,9 @@ module _ (t : Tables) (p : Program) (held : Held t p) where
         says-then _ _ (initialText initial) _ (initialFault places initial) _ initial _ (says-line _ (says-initial places initial (sixteen a) (held .initial i here))) λ b.
         says-then _ _ (countText (bytes "transitions=") transitions) _ (limitFault (transitionsOk transitions)) _ transitions _ (says-line _ (says-count (bytes "transitions=") transitionsOk transitions (held .transitions i here))) λ c.
         let few : transitions ≤ 32 = leb-true transitions 32 (limit-met _ c) in
-        says-then _ _ (inTurnFrom (λ j. tranText (transitionRow t j)) transitions (i * 32)) _ (firstFrom (λ j. tranFault places (transitionRow t j)) transitions (i * 32)) _ (transitionsOf (trans (suc i))) _ tran-rows λ _.
+        says-then _ _ (inTurn (λ x. tranText (transitionRow t (i * 32 + x))) transitions) _ (firstOf (λ x. tranFault places (transitionRow t (i * 32 + x))) transitions) _ (transitionsOf (trans (suc i))) _ tran-rows λ _.
         says-then _ _ (countText (bytes "behaviors=") (typeOf t i .behaviors)) _ (limitFault (behaviorsOk (typeOf t i .behaviors))) _ (typeOf t i .behaviors) _ (says-line _ (says-count (bytes "behaviors=") behaviorsOk (typeOf t i .behaviors) (held .behaviors i here))) λ _.
-        says-then _ _ (inTurnFrom (λ j. behaviorText (behaviorRow t j)) (typeOf t i .behaviors) (i * 8)) _ (firstFrom (λ j. behaviorFault transitions (behaviorRow t j)) (typeOf t i .behaviors) (i * 8)) _ (behaviorsOf (behaves (suc i))) _ (behavior-rows few) λ _.
+        says-then _ _ (inTurn (λ x. behaviorText (behaviorRow t (i * 8 + x))) (typeOf t i .behaviors)) _ (firstOf (λ x. behaviorFault transitions (behaviorRow t (i * 8 + x))) (typeOf t i .behaviors)) _ (behaviorsOf (behaves (suc i))) _ (behavior-rows few) λ _.
         says-then _ _ (countText (bytes "ports=") (typeOf t i .ports)) _ (limitFault (portsOk (typeOf t i .ports))) _ (typeOf t i .ports) _ (says-line _ (says-count (bytes "ports=") portsOk (typeOf t i .ports) (held .ports i here))) λ _.
         says-made _ _ (ap (λ (ks : List ComponentType). record { depth = t .depth; count = t .count; types = ks; transitions = transitionsOf (trans (suc i)); behaviors = behaviorsOf (behaves (suc i)); ports = portsOf (gates (suc i)) })
         (column-set 16 noType (typeOf t) _ _ i (up-next i))) (port-rows (sixteen a) few)
@@ -167,9 +168,9 @@ module _ (t : Tables) (p : Program) (held : Held t p) where
         column-none 256 0 (λ r. getD (t .ports .transitions) r 0) (λ r. false) (λ r. refl),
       )
 
-  types-say : t .count ≤ 16 → Says (each typeLines (t .count) 0 (headed (t .depth) (t .count))) (inTurnFrom (typeText t) (t .count) 0) (firstFrom (typeFault t) (t .count) 0) (cleared t)
+  types-say : t .count ≤ 16 → Says (each typeLines (t .count) 0 (headed (t .depth) (t .count))) (inTurn (typeText t) (t .count)) (firstOf (typeFault t) (t .count)) (cleared t)
   unfolding cleared
-  types-say few = says-rows typeLines (typeText t) (typeFault t) tablesTo 0 (t .count) (λ i l h. type-says i h (omega arith)) (t .count) (headed (t .depth) (t .count)) (sym head-is) (zero-add (t .count))
+  types-say few = says-all typeLines (typeText t) (typeFault t) tablesTo (t .count) (λ i h. type-says i h (omega arith)) (headed (t .depth) (t .count)) (sym head-is)
 
   abbrev programTo : ℕ → Program
   programTo j = record { instructions = column 256 (λ r. ltb r j) noInstruction (λ r. spoken (instructionRow p r)); count = p .count }
@@ -180,11 +181,11 @@ module _ (t : Tables) (p : Program) (held : Held t p) where
       says-map (doLine n) _ (ap (λ (xs : List Instruction). record { instructions = xs; count = p .count }) (column-set 256 noInstruction (λ r. spoken (instructionRow p r)) _ _ j (up-next j)))
       (says-do n (instructionRow p j) (held .instruction j h))
 
-  program-says : (n : ℕ) → Says (each (instructionAt n) (p .count) 0 (programOf (p .count))) (inTurnFrom (λ j. doText (instructionRow p j)) (p .count) 0) (firstFrom (λ j. doFault n (instructionRow p j)) (p .count) 0) (clearedProgram p)
+  program-says : (n : ℕ) → Says (each (instructionAt n) (p .count) 0 (programOf (p .count))) (inTurn (λ j. doText (instructionRow p j)) (p .count)) (firstOf (λ j. doFault n (instructionRow p j)) (p .count)) (clearedProgram p)
   unfolding clearedProgram programOf noProgram
   program-says n =
-      says-rows (instructionAt n) (λ j. doText (instructionRow p j)) (λ j. doFault n (instructionRow p j)) programTo 0 (p .count) (λ j l h. do-turn n j h) (p .count) (programOf (p .count))
-      (ap (λ (xs : List Instruction). record { instructions = xs; count = p .count }) (column-none 256 noInstruction (λ r. spoken (instructionRow p r)) (λ r. ltb r 0) up-none)) (zero-add (p .count))
+      says-all (instructionAt n) (λ j. doText (instructionRow p j)) (λ j. doFault n (instructionRow p j)) programTo (p .count) (λ j h. do-turn n j h) (programOf (p .count))
+      (ap (λ (xs : List Instruction). record { instructions = xs; count = p .count }) (column-none 256 noInstruction (λ r. spoken (instructionRow p r)) (λ r. ltb r 0) up-none))
 
   sheet-says : Ends sheet (sheetText t p) (sheetFault t p) (cleared t, clearedProgram p)
   unfolding sheet sheetText sheetFault
@@ -192,7 +193,7 @@ module _ (t : Tables) (p : Program) (held : Held t p) where
       ends-then _ _ (countText (bytes "sheet=") 1) _ 0 _ tt _ (says-line _ (says-due (bytes "sheet=") 1 (omega arith))) λ _.
       ends-then _ _ (countText (bytes "depth=") (t .depth)) _ (limitFault (depthOk (t .depth))) _ (t .depth) _ (says-line _ (says-count (bytes "depth=") depthOk (t .depth) (held .depth))) λ _.
       ends-then _ _ (countText (bytes "types=") (t .count)) _ (limitFault (typesOk (t .count))) _ (t .count) _ (says-line _ (says-count (bytes "types=") typesOk (t .count) (held .count))) λ a.
-      ends-then _ _ (inTurnFrom (typeText t) (t .count) 0) _ (firstFrom (typeFault t) (t .count) 0) _ (cleared t) _
+      ends-then _ _ (inTurn (typeText t) (t .count)) _ (firstOf (typeFault t) (t .count)) _ (cleared t) _
       (types-say (leb-true (t .count) 16 (and-right (leb 1 (t .count)) (leb (t .count) 16) (limit-met _ a)))) λ _.
       ends-then _ _ (countText (bytes "program=") (p .count)) _ (limitFault (programOk (p .count))) _ (p .count) _ (says-line _ (says-count (bytes "program=") programOk (p .count) (held .instructions))) λ _.
       ends-here _ _ (program-says (t .count))

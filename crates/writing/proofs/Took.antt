@@ -5,24 +5,25 @@ use mathlib.Core.Bool.{Bool, true, false, _&&_}
 use mathlib.Core.List.{List, [], _∷_, _++_, append-assoc}
 use mathlib.Core.Path.{_≡_, refl, sym, ap, ap₂, _∙_}
 use native.Mathlib.Omega.{arith}
+use native.Mathlib.Nat.{zero-add}
 use lib.Dec.{eqb}
 use borrow.Author.Tests.{leb-true, eqb-true}
 use Rattle.forms.specs.Reader.{Reply, Reader, got, refused, readOn, bytes, check}
 use Rattle.forms.specs.Read.{key, upon, oneForm, twoForm, fourForm, Set, listForm, listsForm}
-use Rattle.forms.specs.Write.{oneText, twoText, fourText}
+use Rattle.forms.specs.Write.{inTurn, oneText, twoText, fourText}
 use Rattle.forms.proofs.Tests.{and-left, and-right}
 use Rattle.forms.proofs.Laws.{not-got, got-value, got-rest, bound-to}
 use Rattle.forms.proofs.Back.{key-back, one-back, two-back, four-back, set-back, sets-back}
 use Rattle.model.specs.declared.Instruction.{Instruction}
 use Rattle.model.specs.Verb.{addVerb, delVerb, pushbVerb, conVerb, dconVerb, waitVerb}
 use Rattle.reading.specs.Limits.{fiveDigits, listOk, endOk, endsOk, initialOk, useOk, idOk, portOk, typeOk, behaviorOk}
-use Rattle.reading.specs.Lines.{Run, on, stop, Lines, runOn, line, lineOf, each}
+use Rattle.reading.specs.Lines.{Run, on, stop, Lines, runOn, line, lineOf, each, atEnd}
 use Rattle.reading.specs.Lines.{handOn}
 use Rattle.reading.specs.Kinds.{dueLine, countLineIn, countLine, initialLine, tranLine, behaviorLine, group, portLine, anInstruction, doId, doNumber, doEnds, doLine}
 use Rattle.reading.proofs.Slots.{Slots, Sound}
 use Rattle.report.specs.Report.{countText}
 use Rattle.writing.specs.Kinds.{initialText, tranText, behaviorText, portLineText, doText, setText, setsText}
-use Rattle.writing.specs.Texts.{inTurnFrom}
+use Rattle.writing.proofs.Turns.{inTurnFrom, turn-from}
 
 -- ---- lines
 -- m takes the text of what it gives, where k was taken before
@@ -150,24 +151,55 @@ pub line-then : {A B C : Type 0} (m : Reader A) (f : A → Lines B) (s : List �
     ((a : A) (t : List ℕ) → m s ≡ got a t → f a t ≡ on b r → C) → C
 line-then m f s q k = run-then (line m s) f q λ a t e. k a t (line-back (m s) s e)
 
+-- the text's end
+pub end-back : (s : List ℕ) {u : Unit {0}} {r : List ℕ} → atEnd s ≡ on u r → s ≡ []
+end-back [] q = refl
+end-back (c ∷ s) q = absurd (not-on q)
+
 -- ---- rows: slots from lo on are written, and the text taken is that of what stands there afterwards
 module _ {G A : Type 0} (S : Slots G A) (ok : Sound S) (m : Reader A) (text : A → List ℕ) (takes : Takes text m) where
-  pub record Rowed (n lo : ℕ) (g h : G) (s r : List ℕ) : Type 0 where
-    pub is : s ≡ inTurnFrom (λ j. text (S .at h j)) n lo ++ r
-    pub below : (j : ℕ) → j < lo → S .at h j ≡ S .at g j
-    pub sized : S .Sized h
+  record Rowed (n lo : ℕ) (g h : G) (s r : List ℕ) : Type 0 where
+    is : s ≡ inTurnFrom (λ j. text (S .at h j)) n lo ++ r
+    below : (j : ℕ) → j < lo → S .at h j ≡ S .at g j
+    sized : S .Sized h
 
-  pub takes-rows : (n lo : ℕ) (g h : G) (s r : List ℕ) → lo + n ≤ S .size → S .Sized g
-      → each (λ j h. λ s. runOn (line m s) (λ v. handOn (S .put h j v))) n lo g s ≡ on h r → Rowed n lo g h s r
+  abbrev rowLine : ℕ → G → Lines G
+  rowLine j h = λ s. runOn (line m s) (λ v. handOn (S .put h j v))
+
+  rowed : (n lo : ℕ) (g h : G) (s r : List ℕ) → lo + n ≤ S .size → S .Sized g → each rowLine n lo g s ≡ on h r → Rowed n lo g h s r
   unfolding each inTurnFrom
-  takes-rows zero lo g h s r l z q = rw (← on-value q, ← on-rest q) record { is = refl; below = λ j e. refl; sized = z }
-  takes-rows (suc n) lo g h s r l z q =
-      run-then (runOn (line m s) (λ v. handOn (S .put g lo v))) _ q λ u v e q. line-then m (λ v. handOn (S .put g lo v)) s e λ a w f e.
+  rowed zero lo g h s r l z q = rw (← on-value q, ← on-rest q) record { is = refl; below = λ j e. refl; sized = z }
+  rowed (suc n) lo g h s r l z q =
+      run-then (rowLine lo g s) _ q λ u v e q. line-then m (λ v. handOn (S .put g lo v)) s e λ a w f e.
       let p : S .put g lo a ≡ u = on-value e in
-      let x = takes-rows n (suc lo) u h v r (omega arith) (rw (← p) (ok .keeps g lo a z)) q in
+      let x = rowed n (suc lo) u h v r (omega arith) (rw (← p) (ok .keeps g lo a z)) q in
       let same : S .at h lo ≡ a = x .below lo (omega arith) ∙ ap (λ (y : G). S .at y lo) (sym p) ∙ ok .same g lo a z (omega arith) in
       record {
         is = takes s a w f ∙ rw (on-rest e, x .is, same) (sym (append-assoc (text a) (inTurnFrom (λ j. text (S .at h j)) n (suc lo)) r));
         below = λ j b. x .below j (omega arith) ∙ ap (λ (y : G). S .at y j) (sym p) ∙ ok .other g lo j a (λ e. omega arith);
         sized = x .sized;
       }
+
+  pub record TookRows (n lo : ℕ) (g h : G) (s r : List ℕ) : Type 0 where
+    pub is : s ≡ inTurn (λ x. text (S .at h (lo + x))) n ++ r
+    pub below : (j : ℕ) → j < lo → S .at h j ≡ S .at g j
+    pub sized : S .Sized h
+
+  pub takes-rows : (n lo : ℕ) (g h : G) (s r : List ℕ) → lo + n ≤ S .size → S .Sized g
+      → each (λ j h. λ s. runOn (line m s) (λ v. handOn (S .put h j v))) n lo g s ≡ on h r → TookRows n lo g h s r
+  takes-rows n lo g h s r l z q =
+      let x = rowed n lo g h s r l z q in
+      let f = turn-from lo (λ x. text (S .at h (lo + x))) (λ j. text (S .at h j)) (λ x. refl) n in
+      record { is = x .is ∙ ap (λ (l : List ℕ). l ++ r) (sym f); below = x .below; sized = x .sized }
+
+  -- from the first slot on
+  pub record TookAll (n : ℕ) (h : G) (s r : List ℕ) : Type 0 where
+    pub is : s ≡ inTurn (λ j. text (S .at h j)) n ++ r
+    pub sized : S .Sized h
+
+  pub takes-all : (n : ℕ) (g h : G) (s r : List ℕ) → n ≤ S .size → S .Sized g
+      → each (λ j h. λ s. runOn (line m s) (λ v. handOn (S .put h j v))) n 0 g s ≡ on h r → TookAll n h s r
+  takes-all n g h s r l z q =
+      let x = rowed n 0 g h s r (omega arith) z q in
+      let f = turn-from 0 (λ j. text (S .at h j)) (λ j. text (S .at h j)) (λ x. ap (λ (j : ℕ). text (S .at h j)) (sym (zero-add x))) n in
+      record { is = x .is ∙ ap (λ (l : List ℕ). l ++ r) (sym f); sized = x .sized }

@@ -1,4 +1,4 @@
--- What a written sheet says: every slot that no line says is empty, and so is every number that a line has not.
+-- What a written text says: every slot that no line says is empty, and so is every number that a line has not.
 use Prim.Native.Nat.{ℕ, zero, suc, _+_, _*_}
 use mathlib.Core.List.{List}
 use mathlib.Core.Bool.{Bool, _&&_, _||_, cond}
@@ -9,10 +9,12 @@ use Rattle.model.specs.declared.ComponentType.{ComponentType}
 use Rattle.model.specs.declared.Tables.{Tables}
 use Rattle.model.specs.declared.Instruction.{Instruction}
 use Rattle.model.specs.declared.Program.{Program}
-use Rattle.model.specs.Empty.{noType, noInstruction}
-use Rattle.model.specs.Verb.{addVerb, pushbVerb, conVerb, dconVerb}
+use Rattle.model.specs.declared.Step.{Step}
+use Rattle.model.specs.declared.Answer.{Answer}
+use Rattle.model.specs.Empty.{noType, noInstruction, noStep}
+use Rattle.model.specs.Verb.{addVerb, pushbVerb, conVerb, dconVerb, nextVerb, finishVerb}
 use Rattle.model.specs.View.{typeOf, listOf}
-use Rattle.writing.specs.Texts.{instructionRow}
+use Rattle.writing.specs.Texts.{instructionRow, stepRow}
 
 -- slot r is one of the rows of the first n types, where type i has so many from w i on
 abbrev pub rowSaid : ℕ → ℕ → (ℕ → ℕ) → ℕ → Bool
@@ -47,3 +49,12 @@ spoken x =
 
 unfoldable pub clearedProgram : Program → Program
 clearedProgram p = record { instructions = column 256 (λ r. ltb r (p .count)) noInstruction (λ r. spoken (instructionRow p r)); count = p .count }
+
+-- a step with the numbers that its line has
+unfoldable pub spokenStep : Step → Step
+spokenStep x =
+    cond (eqb (x .verb) nextVerb) (record { verb = x .verb; id = 0; number = 0 })
+    (cond (eqb (x .verb) finishVerb) (record { verb = x .verb; id = x .id; number = 0 }) x)
+
+unfoldable pub clearedAnswer : Answer → Answer
+clearedAnswer a = record { steps = column 1024 (λ r. ltb r (a .count)) noStep (λ r. spokenStep (stepRow a r)); count = a .count }

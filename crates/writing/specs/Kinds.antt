@@ -73,3 +73,21 @@ doFault n x =
     (cond (eqb (x .verb) conVerb || eqb (x .verb) dconVerb) (limitFault (idOk (x .id) && (portOk (x .number) && (idOk (x .provider) && portOk (x .provideport)))))
     (cond (eqb (x .verb) waitVerb) (limitFault (idOk (x .id)))
     2))))
+
+-- `step=`
+unfoldable pub stepText : Step → List ℕ
+stepText x =
+    cond (eqb (x .verb) nextVerb) (bytes "step=next\n")
+    (cond (eqb (x .verb) fireVerb) (bytes "step=fire," ++ twoText (x .id) (x .number))
+    (cond (eqb (x .verb) endVerb) (bytes "step=end," ++ twoText (x .id) (x .number))
+    (cond (eqb (x .verb) enterVerb) (bytes "step=enter," ++ twoText (x .id) (x .number))
+    (cond (eqb (x .verb) finishVerb) (bytes "step=finish," ++ oneText (x .id))
+    (bytes "step=\n")))))
+
+unfoldable pub stepFault : Step → ℕ
+stepFault x =
+    cond (eqb (x .verb) nextVerb) 0
+    (cond (eqb (x .verb) fireVerb || eqb (x .verb) enterVerb) (limitFault (idOk (x .id) && placeOk (x .number)))
+    (cond (eqb (x .verb) endVerb) (limitFault (idOk (x .id) && transitionOk (x .number)))
+    (cond (eqb (x .verb) finishVerb) (limitFault (idOk (x .id)))
+    2)))
