@@ -171,11 +171,8 @@ sheet-made : (u : Tables) (v : Program) (s s₁ s₂ s₃ s₄ s₅ : List ℕ) 
 unfolding sheetText
 sheet-made u v s s₁ s₂ s₃ s₄ s₅ a b c d e f = rw (a, b, c, d, e, f)
 
-unfoldable pub SheetsAreTheirTexts : Type 0
-SheetsAreTheirTexts = (s r : List ℕ) (t : Tables) (p : Program) → sheet s ≡ on (t, p) r → s ≡ sheetText t p
-
-pub sheets-are-their-texts : SheetsAreTheirTexts
-unfolding SheetsAreTheirTexts sheet sheetText headed noTables programOf noProgram instructionAt typeText
+pub sheets-are-their-texts : (s r : List ℕ) (t : Tables) (p : Program) → sheet s ≡ on (t, p) r → s ≡ sheetText t p
+unfolding sheet sheetText headed noTables programOf noProgram instructionAt typeText
 sheets-are-their-texts s r t p q =
     line-then (dueLine (bytes "sheet=") 1) _ s q λ _ s₁ e₁ q. line-then (countLine (bytes "depth=") depthOk) _ s₁ q λ d s₂ e₂ q. line-then (countLine (bytes "types=") typesOk) _ s₂ q λ n s₃ e₃ q.
     let (x₃, ln) = takes-count (bytes "types=") typesOk s₂ e₃ in

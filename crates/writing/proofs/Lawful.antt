@@ -20,20 +20,13 @@ use Rattle.model.specs.Empty.{noInstruction}
 use Rattle.model.specs.View.{typeOf}
 use Rattle.model.specs.Verb.{addVerb, delVerb, pushbVerb, conVerb, dconVerb, waitVerb}
 use Rattle.reading.specs.Limits.{depthOk, typesOk, placesOk, transitionsOk, behaviorsOk, portsOk, programOk, maskOk, endOk, endsOk, initialOk, useOk, kindOk, idOk, portOk, typeOk, behaviorOk}
-use Rattle.reading.specs.Lawful.{transitionLawful, behaviorLawful, portLawful, typeLawful, tablesLawful, instructionLawful, programLawful, Lawful, SheetsAreLawful}
-use Rattle.reading.specs.Lines.{on}
-use Rattle.reading.specs.Texts.{sheet}
-use Rattle.reading.proofs.Lawful.{sheets-are-lawful}
+use Rattle.reading.specs.Lawful.{transitionLawful, behaviorLawful, portLawful, typeLawful, tablesLawful, instructionLawful, programLawful, Lawful}
 use Rattle.rules.specs.Refusal.{_⇒_∣_, orNumber}
 use Rattle.writing.specs.Kinds.{limitFault, initialFault, tranFault, behaviorFault, portFault, doFault}
 use Rattle.writing.specs.Texts.{transitionRow, behaviorRow, portRow, instructionRow, typeFault, sheetText, sheetFault}
 use Rattle.writing.specs.Cleared.{cleared, spoken, clearedProgram}
-use Rattle.writing.specs.Round.{Digits, Mask, DigitsOf, Held, NoneIsLawful, LawfulIsSaid}
+use Rattle.writing.specs.Round.{Digits, Mask, DigitsOf, Held}
 use Rattle.writing.proofs.Turns.{first-none}
-use Rattle.writing.proofs.Sheet.{written-is-read}
-use Rattle.writing.proofs.Took.{on-value}
-use Rattle.writing.proofs.Back.{SheetsAreTheirTexts, sheets-are-their-texts}
-use Rattle.writing.specs.Round.{WrittenIsRead}
 
 both : (a : Bool) {b : Bool} → (a && b) ≡ true → (a ≡ true) × (b ≡ true)
 both a {b} = and-eq-true-iff a b .0
@@ -182,7 +175,7 @@ module _ (t : Tables) (p : Program) (law : Lawful t p) where
   line-told : (j : ℕ) → j < p .count → Told (t .count) (instructionRow p j)
   line-told j h = told (t .count) (instructionRow p j) few (parts .instruction j h)
 
-  sheet-none : sheetFault t p ≡ 0
+  pub sheet-none : sheetFault t p ≡ 0
   unfolding sheetFault
   sheet-none =
       rw (parts .depth, parts .count, first-none (typeFault t) (t .count) (λ i h. type-none t i (parts .type i h)), parts .program)
@@ -219,8 +212,8 @@ module _ (t : Tables) (p : Program) (law : Lawful t p) where
         let (b, _) = both (maskOk (typeOf t i .transitions) (portRow t (i * 16 + x) .2)) e₁ in
         (masked (typeOf t i .places) _ (omega (arith, places-few)) a, masked (typeOf t i .transitions) _ transitions-few b)
 
-  held : Held t p
-  held = record {
+  pub sheet-held : Held t p
+  sheet-held = record {
     depth = omega (arith, leb-true (t .depth) 8 (parts .depth));
     count = omega (arith, few);
     places = λ i h. omega (arith, places-few i h);
@@ -234,20 +227,3 @@ module _ (t : Tables) (p : Program) (law : Lawful t p) where
     instructions = omega (arith, leb-true (p .count) 256 (parts .program));
     instruction = λ j h. line-told j h .digits;
   }
-
-pub none-is-lawful : NoneIsLawful
-unfolding NoneIsLawful
-none-is-lawful t p law = sheet-none t p law
-
-pub lawful-is-said : LawfulIsSaid
-unfolding LawfulIsSaid WrittenIsRead
-lawful-is-said t p law = (sheetText t p, written-is-read t p (held t p law) (sheet-none t p law))
-
--- what was read is written as it was, and reading that gives it back: no slot that no line says holds anything
-pub given-back : (s r : List ℕ) (t : Tables) (p : Program) → sheet s ≡ on (t, p) r → (sheetFault t p ≡ 0) × (s ≡ sheetText t p) × (cleared t ≡ t) × (clearedProgram p ≡ p)
-unfolding SheetsAreLawful WrittenIsRead SheetsAreTheirTexts
-given-back s r t p q =
-    let law = sheets-are-lawful s r t p q in
-    let text = sheets-are-their-texts s r t p q in
-    let same = on-value (sym (written-is-read t p (held t p law) (sheet-none t p law)) ∙ ap sheet (sym text) ∙ q) in
-    (sheet-none t p law, text, ap (λ (x : Tables × Program). x .0) same, ap (λ (x : Tables × Program). x .1) same)

@@ -32,14 +32,11 @@ use Rattle.report.specs.Report.{countText}
 use Rattle.writing.specs.Kinds.{limitFault, initialText, initialFault, tranText, tranFault, behaviorText, behaviorFault, portLineText, portFault, doText, doFault}
 use Rattle.writing.specs.Texts.{firstOf, transitionRow, behaviorRow, portRow, instructionRow, typeText, typeFault, sheetText, sheetFault}
 use Rattle.writing.specs.Cleared.{rowSaid, column, cleared, spoken, clearedProgram}
-use Rattle.writing.specs.Round.{Digits, Mask, Held, WrittenIsRead, RefusedAsRead}
+use Rattle.writing.specs.Round.{Digits, Mask, Held}
+use Rattle.writing.proofs.Turns.{limit-met}
 use Rattle.writing.proofs.Says.{Says, says-line, says-then, says-map, says-made, says-rows, says-all, Ends, ends-then, ends-here}
 use Rattle.writing.proofs.Written.{says-due, says-count, says-initial, says-tran, says-behavior, says-port, says-do}
 use Rattle.writing.proofs.Columns.{column-same, column-none, column-set, up-none, up-next, upTo, to-none, to-next}
-
-limit-met : (b : Bool) → limitFault b ≡ 0 → b ≡ true
-limit-met true e = refl
-limit-met false e = absurd (omega arith)
 
 module _ (t : Tables) (p : Program) (held : Held t p) where
   -- ---- the rows of a kind, of which the slots p are said
@@ -187,7 +184,7 @@ module _ (t : Tables) (p : Program) (held : Held t p) where
       says-all (instructionAt n) (λ j. doText (instructionRow p j)) (λ j. doFault n (instructionRow p j)) programTo (p .count) (λ j h. do-turn n j h) (programOf (p .count))
       (ap (λ (xs : List Instruction). record { instructions = xs; count = p .count }) (column-none 256 noInstruction (λ r. spoken (instructionRow p r)) (λ r. ltb r 0) up-none))
 
-  sheet-says : Ends sheet (sheetText t p) (sheetFault t p) (cleared t, clearedProgram p)
+  pub sheet-says : Ends sheet (sheetText t p) (sheetFault t p) (cleared t, clearedProgram p)
   unfolding sheet sheetText sheetFault
   sheet-says =
       ends-then _ _ (countText (bytes "sheet=") 1) _ 0 _ tt _ (says-line _ (says-due (bytes "sheet=") 1 (omega arith))) λ _.
@@ -197,11 +194,3 @@ module _ (t : Tables) (p : Program) (held : Held t p) where
       (types-say (leb-true (t .count) 16 (and-right (leb 1 (t .count)) (leb (t .count) 16) (limit-met _ a)))) λ _.
       ends-then _ _ (countText (bytes "program=") (p .count)) _ (limitFault (programOk (p .count))) _ (p .count) _ (says-line _ (says-count (bytes "program=") programOk (p .count) (held .instructions))) λ _.
       ends-here _ _ (program-says (t .count))
-
-pub written-is-read : WrittenIsRead
-unfolding WrittenIsRead
-written-is-read t p held e = sheet-says t p held .goes e
-
-pub refused-as-read : RefusedAsRead
-unfolding RefusedAsRead
-refused-as-read t p held e = sheet-says t p held .stops e

@@ -8,21 +8,22 @@ use native.Mathlib.Omega.{arith}
 use native.Mathlib.Nat.{zero-add}
 use lib.Dec.{eqb}
 use borrow.Author.Tests.{leb-true, eqb-true}
-use Rattle.forms.specs.Reader.{Reply, Reader, got, refused, readOn, bytes, check}
+use Rattle.forms.specs.Reader.{Reply, Reader, got, refused, readOn, bytes, give, check}
 use Rattle.forms.specs.Read.{key, upon, oneForm, twoForm, fourForm, Set, listForm, listsForm}
 use Rattle.forms.specs.Write.{inTurn, oneText, twoText, fourText}
 use Rattle.forms.proofs.Tests.{and-left, and-right}
 use Rattle.forms.proofs.Laws.{not-got, got-value, got-rest, bound-to}
 use Rattle.forms.proofs.Back.{key-back, one-back, two-back, four-back, set-back, sets-back}
 use Rattle.model.specs.declared.Instruction.{Instruction}
-use Rattle.model.specs.Verb.{addVerb, delVerb, pushbVerb, conVerb, dconVerb, waitVerb}
-use Rattle.reading.specs.Limits.{fiveDigits, listOk, endOk, endsOk, initialOk, useOk, idOk, portOk, typeOk, behaviorOk}
+use Rattle.model.specs.declared.Step.{Step}
+use Rattle.model.specs.Verb.{addVerb, delVerb, pushbVerb, conVerb, dconVerb, waitVerb, fireVerb, endVerb, enterVerb, finishVerb}
+use Rattle.reading.specs.Limits.{fiveDigits, listOk, endOk, endsOk, initialOk, useOk, idOk, placeOk, portOk, transitionOk, typeOk, behaviorOk}
 use Rattle.reading.specs.Lines.{Run, on, stop, Lines, runOn, line, lineOf, each, atEnd}
 use Rattle.reading.specs.Lines.{handOn}
-use Rattle.reading.specs.Kinds.{dueLine, countLineIn, countLine, initialLine, tranLine, behaviorLine, group, portLine, anInstruction, doId, doNumber, doEnds, doLine}
+use Rattle.reading.specs.Kinds.{dueLine, countLineIn, countLine, initialLine, tranLine, behaviorLine, group, portLine, anInstruction, doId, doNumber, doEnds, doLine, aStep, stepId, stepNumber, stepLine}
 use Rattle.reading.proofs.Slots.{Slots, Sound}
 use Rattle.report.specs.Report.{countText}
-use Rattle.writing.specs.Kinds.{initialText, tranText, behaviorText, portLineText, doText, setText, setsText}
+use Rattle.writing.specs.Kinds.{initialText, tranText, behaviorText, portLineText, doText, stepText, setText, setsText}
 use Rattle.writing.proofs.Turns.{inTurnFrom, turn-from}
 
 -- ---- lines
@@ -98,35 +99,66 @@ takes-initial n few s y r q =
     let (ok, rest) = checked (listOk n (x .top)) 3 v g in
     rw (← got-value q, ← got-rest q, key-back (bytes "initial=") s e, set-back fiveDigits (omega arith) t f (omega (arith, leb-true (x .top) n ok)) .0, rest, checked (initialOk (x .top)) 4 w h .1) refl
 
--- a `do` line
-do-id : (k : List ℕ) (v : ℕ) → ((a : ℕ) → doText (anInstruction v a 0 0 0) ≡ k ++ oneText a) → After doText k (doId v)
-unfolding doId
-do-id k v is s x r q =
-    bound-to (oneForm fiveDigits s) _ q λ a t e q. bound-to (check (idOk a) 3 t) _ q λ _ w g q.
-    rw (← got-value q, ← got-rest q, is a, one-back fiveDigits (omega arith) s e .0, checked (idOk a) 3 t g .1) (sym (append-assoc k (oneText a) w))
+-- ---- what follows a verb: a shape with its limits, and what is made of its numbers
+module _ {B A : Type 0} (shape : Reader B) (shapeText : B → List ℕ) (back : Takes shapeText shape) where
+  takes-shape : (text : A → List ℕ) (k : List ℕ) (limit : B → Bool) (f : B → A) → ((b : B) → text (f b) ≡ k ++ shapeText b)
+      → After text k (λ s. readOn (shape s) (λ b. λ s. readOn (check (limit b) 3 s) (λ _. give (f b))))
+  takes-shape text k limit f is s x r q =
+      bound-to (shape s) _ q λ b t e q. bound-to (check (limit b) 3 t) _ q λ _ w g q.
+      rw (← got-value q, ← got-rest q, is b, back s b t e, checked (limit b) 3 t g .1) (sym (append-assoc k (shapeText b) w))
 
-do-two : (k : List ℕ) (v : ℕ) (limit : ℕ → Bool) → ((a b : ℕ) → doText (anInstruction v a b 0 0) ≡ k ++ twoText a b) → After doText k (doNumber v limit)
-unfolding doNumber
-do-two k v limit is s x r q =
-    bound-to (twoForm fiveDigits s) _ q λ a t e q. bound-to (check (idOk (a .0) && limit (a .1)) 3 t) _ q λ _ w g q.
-    rw (← got-value q, ← got-rest q, is (a .0) (a .1), two-back fiveDigits (omega arith) s e .0, checked (idOk (a .0) && limit (a .1)) 3 t g .1) (sym (append-assoc k (twoText (a .0) (a .1)) w))
+one-taken : Takes oneText (oneForm fiveDigits)
+one-taken s a r e = one-back fiveDigits (omega arith) s e .0
 
-do-four : (k : List ℕ) (v : ℕ) → ((a b c d : ℕ) → doText (anInstruction v a b c d) ≡ k ++ fourText a b c d) → After doText k (doEnds v)
-unfolding doEnds
-do-four k v is s x r q =
-    bound-to (fourForm fiveDigits s) _ q λ a t e q. bound-to (check (idOk (a .0) && (portOk (a .1) && (idOk (a .2) && portOk (a .3)))) 3 t) _ q λ _ w g q.
-    rw (← got-value q, ← got-rest q, is (a .0) (a .1) (a .2) (a .3), four-back fiveDigits (omega arith) s e .0, checked (idOk (a .0) && (portOk (a .1) && (idOk (a .2) && portOk (a .3)))) 3 t g .1) (sym (append-assoc k (fourText (a .0) (a .1) (a .2) (a .3)) w))
+two-taken : Takes (λ (a : ℕ × ℕ). twoText (a .0) (a .1)) (twoForm fiveDigits)
+two-taken s a r e = two-back fiveDigits (omega arith) s e .0
+
+four-taken : Takes (λ (a : ℕ × ℕ × ℕ × ℕ). fourText (a .0) (a .1) (a .2) (a .3)) (fourForm fiveDigits)
+four-taken s a r e = four-back fiveDigits (omega arith) s e .0
+
+module _ (k : List ℕ) (v : ℕ) where
+  do-id : ((a : ℕ) → doText (anInstruction v a 0 0 0) ≡ k ++ oneText a) → After doText k (doId v)
+  unfolding doId
+  do-id = takes-shape (oneForm fiveDigits) oneText one-taken doText k idOk (λ a. anInstruction v a 0 0 0)
+
+  do-two : (limit : ℕ → Bool) → ((a : ℕ × ℕ) → doText (anInstruction v (a .0) (a .1) 0 0) ≡ k ++ twoText (a .0) (a .1)) → After doText k (doNumber v limit)
+  unfolding doNumber
+  do-two limit = takes-shape (twoForm fiveDigits) (λ a. twoText (a .0) (a .1)) two-taken doText k (λ a. idOk (a .0) && limit (a .1)) (λ a. anInstruction v (a .0) (a .1) 0 0)
+
+  do-four : ((a : ℕ × ℕ × ℕ × ℕ) → doText (anInstruction v (a .0) (a .1) (a .2) (a .3)) ≡ k ++ fourText (a .0) (a .1) (a .2) (a .3)) → After doText k (doEnds v)
+  unfolding doEnds
+  do-four =
+      takes-shape (fourForm fiveDigits) (λ a. fourText (a .0) (a .1) (a .2) (a .3)) four-taken doText k
+      (λ a. idOk (a .0) && (portOk (a .1) && (idOk (a .2) && portOk (a .3)))) (λ a. anInstruction v (a .0) (a .1) (a .2) (a .3))
+
+  step-id : ((a : ℕ) → stepText (aStep v a 0) ≡ k ++ oneText a) → After stepText k (stepId v)
+  unfolding stepId
+  step-id = takes-shape (oneForm fiveDigits) oneText one-taken stepText k idOk (λ a. aStep v a 0)
+
+  step-two : (limit : ℕ → Bool) → ((a : ℕ × ℕ) → stepText (aStep v (a .0) (a .1)) ≡ k ++ twoText (a .0) (a .1)) → After stepText k (stepNumber v limit)
+  unfolding stepNumber
+  step-two limit = takes-shape (twoForm fiveDigits) (λ a. twoText (a .0) (a .1)) two-taken stepText k (λ a. idOk (a .0) && limit (a .1)) (λ a. aStep v (a .0) (a .1))
 
 pub takes-do : (n : ℕ) → Takes doText (doLine n)
 unfolding doLine doText
 takes-do n =
-    takes-on doText (bytes "do=add,") (do-two (bytes "do=add,") addVerb (typeOk n) (λ a b. refl))
+    takes-on doText (bytes "do=add,") (do-two (bytes "do=add,") addVerb (typeOk n) (λ a. refl))
     (takes-on doText (bytes "do=del,") (do-id (bytes "do=del,") delVerb (λ a. refl))
-    (takes-on doText (bytes "do=pushb,") (do-two (bytes "do=pushb,") pushbVerb behaviorOk (λ a b. refl))
-    (takes-on doText (bytes "do=con,") (do-four (bytes "do=con,") conVerb (λ a b c d. refl))
-    (takes-on doText (bytes "do=dcon,") (do-four (bytes "do=dcon,") dconVerb (λ a b c d. refl))
+    (takes-on doText (bytes "do=pushb,") (do-two (bytes "do=pushb,") pushbVerb behaviorOk (λ a. refl))
+    (takes-on doText (bytes "do=con,") (do-four (bytes "do=con,") conVerb (λ a. refl))
+    (takes-on doText (bytes "do=dcon,") (do-four (bytes "do=dcon,") dconVerb (λ a. refl))
     (takes-on doText (bytes "do=wait,") (do-id (bytes "do=wait,") waitVerb (λ a. refl))
     (λ s x r q. absurd (not-got q)))))))
+
+pub takes-step : Takes stepText stepLine
+unfolding stepLine stepText
+takes-step =
+    takes-on stepText (bytes "step=next\n") (λ s x r q. ap₂ (λ (y : Step) (t : List ℕ). stepText y ++ t) (got-value q) (got-rest q))
+    (takes-on stepText (bytes "step=fire,") (step-two (bytes "step=fire,") fireVerb placeOk (λ a. refl))
+    (takes-on stepText (bytes "step=end,") (step-two (bytes "step=end,") endVerb transitionOk (λ a. refl))
+    (takes-on stepText (bytes "step=enter,") (step-two (bytes "step=enter,") enterVerb placeOk (λ a. refl))
+    (takes-on stepText (bytes "step=finish,") (step-id (bytes "step=finish,") finishVerb (λ a. refl))
+    (λ s x r q. absurd (not-got q))))))
 
 -- ---- runs of lines
 pub not-on : {A : Type 0} {n : ℕ} {a : A} {s r : List ℕ} → stop n s ≡ on a r → ⊥

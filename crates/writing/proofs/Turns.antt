@@ -3,14 +3,17 @@
 use Prim.Native.Nat.{ℕ, zero, suc, _+_, _<_}
 use mathlib.Core.List.{List, [], _∷_, _++_, append-assoc, append-nil}
 use mathlib.Core.Path.{_≡_, refl, sym, ap, ap₂, _∙_}
-use mathlib.Core.Logic.{_≢_, by-cases}
+use mathlib.Core.Bool.{Bool, true, false, not}
+use mathlib.Core.Logic.{_≢_, by-cases, ⊎-elim}
 use native.Mathlib.Omega.{arith}
 use native.Mathlib.Decide.{ℕ-discrete}
 use native.Mathlib.Nat.{add-zero, add-suc, suc-add, zero-add}
 use lib.Dec.{eqb}
 use borrow.Author.Tests.{eq-eqb, ne-eqb}
 use Rattle.forms.specs.Write.{inTurn}
-use Rattle.rules.specs.Refusal.{orNumber}
+use Rattle.sets.proofs.Laws.{below-cases}
+use Rattle.rules.specs.Refusal.{_⇒_∣_, orNumber}
+use Rattle.writing.specs.Kinds.{limitFault}
 use Rattle.writing.specs.Texts.{firstOf}
 
 -- f i, f (i + 1), .. n of them; the first of their numbers that is no 0
@@ -68,3 +71,23 @@ pub first-none : (f : ℕ → ℕ) (n : ℕ) → ((x : ℕ) → x < n → f x �
 unfolding firstOf
 first-none f zero e = refl
 first-none f (suc n) e = or-zero (firstOf f n) (f n) (first-none f n (λ x h. e x (omega arith))) ∙ e n (omega arith)
+
+-- ---- what no fault tells
+pub or-both : (a b : ℕ) → orNumber a b ≡ 0 → (a ≡ 0) × (b ≡ 0)
+or-both a b e = by-cases (ℕ-discrete a 0) (λ z. (z, sym (or-zero a b z) ∙ e)) (λ z. absurd (z (sym (or-some a b z) ∙ e)))
+
+pub first-zero : (f : ℕ → ℕ) (n : ℕ) → firstOf f n ≡ 0 → (x : ℕ) → x < n → f x ≡ 0
+unfolding firstOf
+first-zero f zero e x h = absurd (omega arith)
+first-zero f (suc n) e x h =
+    let (before, last) = or-both (firstOf f n) (f n) e in
+    ⊎-elim (λ q. rw q last) (λ l. first-zero f n before x l) (below-cases h)
+
+pub limit-met : (b : Bool) → limitFault b ≡ 0 → b ≡ true
+limit-met true e = refl
+limit-met false e = absurd (omega arith)
+
+pub clauses-met : (p q : Bool) → (not p ⇒ 3 ∣ not q ⇒ 4 ∣ 0) ≡ 0 → (p ≡ true) × (q ≡ true)
+clauses-met true true e = (refl, refl)
+clauses-met true false e = absurd (omega arith)
+clauses-met false q e = absurd (omega arith)

@@ -17,15 +17,16 @@ use Rattle.forms.specs.Write.{maskText, oneText, twoText, fourText}
 use Rattle.forms.proofs.Tests.{by-test}
 use Rattle.forms.proofs.Round.{key-round, one-round, two-round, four-round, set-round, sets-round, mask-round, lf, setOf, topOf, top-within, top-none}
 use Rattle.forms.proofs.Back.{list-back}
-use Rattle.reading.specs.Limits.{fiveDigits, listOk, maskOk, endOk, endsOk, initialOk, useOk, kindOk, idOk, portOk, typeOk, behaviorOk}
+use Rattle.reading.specs.Limits.{fiveDigits, listOk, maskOk, endOk, endsOk, initialOk, useOk, kindOk, idOk, placeOk, portOk, transitionOk, typeOk, behaviorOk}
 use Rattle.model.specs.declared.Instruction.{Instruction}
-use Rattle.model.specs.Verb.{addVerb, delVerb, pushbVerb, conVerb, dconVerb, waitVerb}
-use Rattle.reading.specs.Kinds.{dueLine, countLineIn, countLine, initialLine, tranLine, behaviorLine, group, portLine, anInstruction, doId, doNumber as doTwo, doEnds, doLine}
+use Rattle.model.specs.declared.Step.{Step}
+use Rattle.model.specs.Verb.{addVerb, delVerb, pushbVerb, conVerb, dconVerb, waitVerb, nextVerb, fireVerb, endVerb, enterVerb, finishVerb}
+use Rattle.reading.specs.Kinds.{dueLine, countLineIn, countLine, initialLine, tranLine, behaviorLine, group, portLine, anInstruction, doId, doNumber as doTwo, doEnds, doLine, aStep, stepId, stepNumber, stepLine}
 use Rattle.rules.specs.Refusal.{_⇒_∣_}
 use Rattle.report.specs.Report.{countText}
-use Rattle.writing.specs.Kinds.{limitFault, initialText, initialFault, tranText, tranFault, behaviorText, behaviorFault, portLineText, portFault, doText, doFault, setText, setsText}
-use Rattle.writing.specs.Cleared.{spoken}
-use Rattle.writing.specs.Round.{Digits, Mask, DigitsOf}
+use Rattle.writing.specs.Kinds.{limitFault, initialText, initialFault, tranText, tranFault, behaviorText, behaviorFault, portLineText, portFault, doText, doFault, stepText, stepFault, setText, setsText}
+use Rattle.writing.specs.Cleared.{spoken, spokenStep}
+use Rattle.writing.specs.Round.{Digits, Mask, DigitsOf, DigitsOfStep}
 use Rattle.writing.proofs.Says.{SaysLine}
 
 -- ---- a key, a shape, and what is asked of its value
@@ -220,3 +221,66 @@ module _ (n : ℕ) (x : Instruction) where
       by-test (eqb (x .verb) conVerb) (λ e. as-verb conVerb e says-con) (λ d.
       by-test (eqb (x .verb) dconVerb) (λ e. as-verb dconVerb e says-dcon) (λ e.
       by-test (eqb (x .verb) waitVerb) (λ e. as-verb waitVerb e says-wait) (says-unknown a b c d e))))))
+
+-- ---- a step
+says-step-id : (v a : ℕ) → Digits a → SaysLine (stepId v) (oneText a) (limitFault (idOk a)) (aStep v a 0)
+unfolding stepId
+says-step-id v a h = says-shape (oneForm fiveDigits) (oneText a) a _ _ _ (one-round fiveDigits five seven a h) (says-limit (idOk a) _)
+
+says-step-number : (v : ℕ) (limit : ℕ → Bool) (a b : ℕ) → Digits a → Digits b → SaysLine (stepNumber v limit) (twoText a b) (limitFault (idOk a && limit b)) (aStep v a b)
+unfolding stepNumber
+says-step-number v limit a b h g = says-shape (twoForm fiveDigits) (twoText a b) (a, b) _ _ _ (two-round fiveDigits five seven a b h g) (says-limit (idOk a && limit b) _)
+
+abbrev SaysStep : Step → Type 0
+SaysStep x = DigitsOfStep (spokenStep x) → SaysLine stepLine (stepText x) (stepFault x) (spokenStep x)
+
+module _ (x : Step) where
+  as-step : (v : ℕ) → eqb (x .verb) v ≡ true → SaysStep (aStep v (x .id) (x .number)) → SaysStep x
+  as-step v e h = subst (λ (u : ℕ). SaysStep (aStep u (x .id) (x .number))) (sym (eqb-true (x .verb) v e)) h
+
+  says-next : SaysStep (aStep nextVerb (x .id) (x .number))
+  unfolding stepLine stepText stepFault spokenStep key
+  says-next h = says-on (bytes "step=next\n") _ _ [] _ _ (says-give _)
+
+  says-fire : SaysStep (aStep fireVerb (x .id) (x .number))
+  unfolding stepLine stepText stepFault spokenStep key
+  says-fire (hi, hn) = says-other (bytes "step=next\n") _ _ (bytes "step=fire," ++ twoText (x .id) (x .number)) _ _ (λ s. refl)
+      (says-on (bytes "step=fire,") _ _ (twoText (x .id) (x .number)) _ _ (says-step-number fireVerb placeOk (x .id) (x .number) hi hn))
+
+  says-end : SaysStep (aStep endVerb (x .id) (x .number))
+  unfolding stepLine stepText stepFault spokenStep key
+  says-end (hi, hn) = says-other (bytes "step=next\n") _ _ (bytes "step=end," ++ twoText (x .id) (x .number)) _ _ (λ s. refl)
+      (says-other (bytes "step=fire,") _ _ (bytes "step=end," ++ twoText (x .id) (x .number)) _ _ (λ s. refl)
+      (says-on (bytes "step=end,") _ _ (twoText (x .id) (x .number)) _ _ (says-step-number endVerb transitionOk (x .id) (x .number) hi hn)))
+
+  says-enter : SaysStep (aStep enterVerb (x .id) (x .number))
+  unfolding stepLine stepText stepFault spokenStep key
+  says-enter (hi, hn) = says-other (bytes "step=next\n") _ _ (bytes "step=enter," ++ twoText (x .id) (x .number)) _ _ (λ s. refl)
+      (says-other (bytes "step=fire,") _ _ (bytes "step=enter," ++ twoText (x .id) (x .number)) _ _ (λ s. refl)
+      (says-other (bytes "step=end,") _ _ (bytes "step=enter," ++ twoText (x .id) (x .number)) _ _ (λ s. refl)
+      (says-on (bytes "step=enter,") _ _ (twoText (x .id) (x .number)) _ _ (says-step-number enterVerb placeOk (x .id) (x .number) hi hn))))
+
+  says-finish : SaysStep (aStep finishVerb (x .id) (x .number))
+  unfolding stepLine stepText stepFault spokenStep key
+  says-finish (hi, hn) = says-other (bytes "step=next\n") _ _ (bytes "step=finish," ++ oneText (x .id)) _ _ (λ s. refl)
+      (says-other (bytes "step=fire,") _ _ (bytes "step=finish," ++ oneText (x .id)) _ _ (λ s. refl)
+      (says-other (bytes "step=end,") _ _ (bytes "step=finish," ++ oneText (x .id)) _ _ (λ s. refl)
+      (says-other (bytes "step=enter,") _ _ (bytes "step=finish," ++ oneText (x .id)) _ _ (λ s. refl)
+      (says-on (bytes "step=finish,") _ _ (oneText (x .id)) _ _ (says-step-id finishVerb (x .id) hi)))))
+
+  says-no-step : eqb (x .verb) nextVerb ≡ false → eqb (x .verb) fireVerb ≡ false → eqb (x .verb) endVerb ≡ false → eqb (x .verb) enterVerb ≡ false
+      → eqb (x .verb) finishVerb ≡ false → SaysStep x
+  unfolding stepLine stepText stepFault spokenStep key
+  says-no-step a b c d e h =
+      rw (a, b, c, d, e)
+      (says-other (bytes "step=next\n") _ _ (bytes "step=\n") _ _ (λ s. refl)
+      (says-other (bytes "step=fire,") _ _ (bytes "step=\n") _ _ (λ s. refl)
+      (says-other (bytes "step=end,") _ _ (bytes "step=\n") _ _ (λ s. refl)
+      (says-other (bytes "step=enter,") _ _ (bytes "step=\n") _ _ (λ s. refl)
+      (says-other (bytes "step=finish,") _ _ (bytes "step=\n") _ _ (λ s. refl) (says-none (bytes "step=\n") _))))))
+
+  pub says-step : SaysStep x
+  says-step =
+      by-test (eqb (x .verb) nextVerb) (λ e. as-step nextVerb e says-next) λ a. by-test (eqb (x .verb) fireVerb) (λ e. as-step fireVerb e says-fire) λ b.
+      by-test (eqb (x .verb) endVerb) (λ e. as-step endVerb e says-end) λ c. by-test (eqb (x .verb) enterVerb) (λ e. as-step enterVerb e says-enter) λ d.
+      by-test (eqb (x .verb) finishVerb) (λ e. as-step finishVerb e says-finish) (says-no-step a b c d)

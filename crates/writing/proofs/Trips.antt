@@ -1,0 +1,62 @@
+-- The round trips of both texts, and what a writer promises of a lent buffer holds of one answer only.
+-- Assumes nothing.
+use Prim.Native.Nat.{ℕ}
+use mathlib.Core.Bool.{true}
+use mathlib.Core.List.{List, [], _++_}
+use mathlib.Core.Path.{_≡_, sym, ap, ap₂, _∙_}
+use mathlib.Core.Logic.{_≢_}
+use lib.ListN.{length, drop}
+use Rattle.model.specs.declared.Tables.{Tables}
+use Rattle.model.specs.declared.Program.{Program}
+use Rattle.model.specs.declared.Answer.{Answer}
+use Rattle.reading.specs.Lines.{on}
+use Rattle.reading.specs.Lawful.{SheetsAreLawful, AnswersAreLawful}
+use Rattle.reading.proofs.Lawful.{sheets-are-lawful, answers-are-lawful}
+use Rattle.writing.specs.Round.{Scribed, RoundTrips, aSheet, anAnswer, SheetsRoundTrip, AnswersRoundTrip}
+use Rattle.writing.specs.Buffer.{penned, Penned, NoOtherPenned}
+use Rattle.writing.proofs.Says.{Ends}
+use Rattle.writing.proofs.Took.{on-value}
+use Rattle.writing.proofs.Sheet.{sheet-says}
+use Rattle.writing.proofs.Back.{sheets-are-their-texts}
+use Rattle.writing.proofs.Lawful.{sheet-held, sheet-none}
+use Rattle.writing.proofs.Faultless.{sheet-lawful}
+use Rattle.writing.proofs.Answer.{answer-says, answers-are-their-texts, answer-none, answer-lawful, answer-held}
+
+-- the rest of them from those of one text
+module _ {A : Type 0} (w : Scribed A)
+    (says : (a : A) → w .Writable a → Ends (w .reads) (w .text a) (w .fault a) (w .says a))
+    (theirs : (s r : List ℕ) (a : A) → w .reads s ≡ on a r → s ≡ w .text a)
+    (keeps : (s r : List ℕ) (a : A) → w .reads s ≡ on a r → w .Rules a)
+    (none : (a : A) → w .Rules a → w .fault a ≡ 0)
+    (lawful : (a : A) → w .fault a ≡ 0 → w .Rules a)
+    (held : (a : A) → w .fault a ≡ 0 → w .Writable a) where
+  read-back : (a : A) → w .fault a ≡ 0 → w .reads (w .text a) ≡ on (w .says a) []
+  read-back a e = says a (held a e) .goes e
+
+  trips : RoundTrips w
+  trips = record {
+    written-is-read = λ a h e. says a h .goes e;
+    refused-as-read = λ a h e. says a h .stops e;
+    read-is-written = λ s r a q. (none a (keeps s r a q), theirs s r a q);
+    read-is-said = λ s r a q. on-value (sym (read-back a (none a (keeps s r a q))) ∙ ap (w .reads) (sym (theirs s r a q)) ∙ q);
+    lawful-is-faultless = none;
+    faultless-is-lawful = lawful;
+    faultless-is-writable = held;
+    lawful-is-said = λ a l. (w .text a, read-back a (none a l));
+  }
+
+pub sheets-round-trip : SheetsRoundTrip
+unfolding SheetsRoundTrip SheetsAreLawful
+sheets-round-trip =
+    trips aSheet (λ x. sheet-says (x .0) (x .1)) (λ s r x. sheets-are-their-texts s r (x .0) (x .1)) (λ s r x. sheets-are-lawful s r (x .0) (x .1))
+    (λ x. sheet-none (x .0) (x .1)) (λ x. sheet-lawful (x .0) (x .1)) (λ x e. sheet-held (x .0) (x .1) (sheet-lawful (x .0) (x .1) e))
+
+pub answers-round-trip : AnswersRoundTrip
+unfolding AnswersRoundTrip AnswersAreLawful
+answers-round-trip = trips anAnswer answer-says answers-are-their-texts answers-are-lawful answer-none answer-lawful answer-held
+
+pub no-other-penned : NoOtherPenned
+unfolding NoOtherPenned
+no-other-penned n x old b c k l v w p q =
+    let same : v ≡ w = p .written-is ∙ sym (q .written-is) in
+    (p .new-is ∙ ap (λ (i : ℕ). penned n x (length old) ++ drop i old) same ∙ sym (q .new-is), p .refused-is ∙ sym (q .refused-is), same)
