@@ -1,24 +1,27 @@
 -- Two lists of steps with equal projections have equally long texts.
 -- Assumes nothing.
-use mathlib.Core.Path.{_≡_, refl, sym, ap₂, _∙_}
-use mathlib.Core.Bool.{Bool, true, false, cond}
+use mathlib.Core.Path.{_≡_, refl, sym, ap, ap₂, _∙_}
+use mathlib.Core.Bool.{Bool, true, false, _&&_, _||_, cond}
 use mathlib.Core.List.{List, [], _∷_, _++_}
 use Prim.Native.Nat.{ℕ, _+_}
 use native.Mathlib.Omega.{arith}
 use lib.Dec.{eqb}
 use lib.ListN.{length, getD, length-append}
 use Rattle.forms.specs.Reader.{bytes}
-use Rattle.forms.specs.Write.{oneText, twoText}
+use Rattle.forms.specs.Write.{inTurn, oneText, twoText}
 use Rattle.model.specs.declared.Program.{Program}
 use Rattle.model.specs.declared.Step.{Step}
 use Rattle.model.specs.Empty.{noInstruction}
-use Rattle.model.specs.Verb.{fireVerb, endVerb, enterVerb}
+use Rattle.model.specs.Verb.{nextVerb, fireVerb, endVerb, enterVerb, finishVerb}
+use Rattle.reading.specs.Limits.{idOk, placeOk, transitionOk}
 use Rattle.rules.specs.Action.{Action, add, del, pushb, con, dcon, wait, fire, end, enter, finish, moveAction}
 use Rattle.rules.specs.Step.{isNext, actionAt}
 use Rattle.rules.proofs.Actions.{instruction-cases}
+use Rattle.writing.specs.Kinds.{limitFault, stepText, stepFault}
+use Rattle.writing.specs.Texts.{answerText, ofSteps}
+use Rattle.writing.specs.Steps.{SaidStep, Every}
+use Rattle.writing.proofs.Steps.{linesOf, lines-cons, text-length}
 use Rattle.demands.specs.Agree.{deeds, naming}
-use Rattle.demands.specs.AnswerText.{stepText, stepsText, answerText}
-use Rattle.demands.proofs.AnswerText.{text-length}
 use Rattle.demands.proofs.Traces.{tally, same-tally}
 use Rattle.demands.proofs.Agree.{same-count}
 
@@ -36,36 +39,41 @@ bytesOf (dcon k) = 10
 bytesOf (wait i) = 10
 
 abbrev lineBytes : Step → ℕ
-lineBytes s = length (stepText s)
+lineBytes s = cond (isNext s) 10 (bytesOf (moveAction s))
 
 line-bytes : (p : Program) (n : ℕ) → bytesOf (actionAt p n) ≡ 10
 unfolding actionAt bytesOf
 line-bytes p n = instruction-cases (λ a. bytesOf a ≡ 10) (getD (p .instructions) n noInstruction) (λ _. refl) refl refl refl refl refl
 
-move-bytes : (s : Step) → isNext s ≡ false → bytesOf (moveAction s) ≡ lineBytes s
-unfolding moveAction stepText bytesOf
-move-bytes s e = rw e (go (eqb (s .verb) fireVerb) (eqb (s .verb) endVerb) (eqb (s .verb) enterVerb))
+-- of a step that a line says
+step-bytes : (s : Step) → stepFault s ≡ 0 → length (stepText s) ≡ lineBytes s
+unfolding stepFault stepText moveAction bytesOf
+step-bytes s e =
+    go (eqb (s .verb) nextVerb) (eqb (s .verb) fireVerb) (eqb (s .verb) endVerb) (eqb (s .verb) enterVerb) (eqb (s .verb) finishVerb) e
   where
-    go : (x y z : Bool) → bytesOf (cond x (fire (s .id) (s .number)) (cond y (end (s .id) (s .number)) (cond z (enter (s .id) (s .number)) (finish (s .id)))))
-        ≡ length (cond x (bytes "step=fire," ++ twoText (s .id) (s .number)) (cond y (bytes "step=end," ++ twoText (s .id) (s .number)) (cond z (bytes "step=enter," ++ twoText (s .id) (s .number)) (bytes "step=finish," ++ oneText (s .id)))))
-    go true y z = refl
-    go false true z = refl
-    go false false true = refl
-    go false false false = refl
+    go : (n f x y z : Bool)
+        → cond n 0 (cond (f || y) (limitFault (idOk (s .id) && placeOk (s .number))) (cond x (limitFault (idOk (s .id) && transitionOk (s .number))) (cond z (limitFault (idOk (s .id))) 2))) ≡ 0
+        → length (cond n (bytes "step=next\n") (cond f (bytes "step=fire," ++ twoText (s .id) (s .number)) (cond x (bytes "step=end," ++ twoText (s .id) (s .number)) (cond y (bytes "step=enter," ++ twoText (s .id) (s .number)) (cond z (bytes "step=finish," ++ oneText (s .id)) (bytes "step=\n"))))))
+        ≡ cond n 10 (bytesOf (cond f (fire (s .id) (s .number)) (cond x (end (s .id) (s .number)) (cond y (enter (s .id) (s .number)) (finish (s .id))))))
+    go true f x y z e = refl
+    go false true x y z e = refl
+    go false false true y z e = refl
+    go false false false true z e = refl
+    go false false false false true e = refl
+    go false false false false false e = absurd (omega arith)
 
-steps-bytes : (ss : List Step) → length (stepsText ss) ≡ tally lineBytes ss
-unfolding stepsText tally
-steps-bytes [] = refl
-steps-bytes (s ∷ ss) = length-append (stepText s) (stepsText ss) ∙ ap₂ (λ (a b : ℕ). a + b) refl (steps-bytes ss)
+steps-bytes : (ss : List Step) → Every SaidStep ss → length (linesOf ss) ≡ tally lineBytes ss
+unfolding Every tally inTurn
+steps-bytes [] e = refl
+steps-bytes (s ∷ ss) (said, e) = ap length (lines-cons s ss) ∙ length-append (stepText s) (linesOf ss) ∙ ap₂ (λ (a b : ℕ). a + b) (step-bytes s (said .0)) (steps-bytes ss e)
 
 steps-count : (ss : List Step) → length ss ≡ tally (λ s. 1) ss
 unfolding tally
 steps-count [] = refl
 steps-count (s ∷ ss) = omega (arith, steps-count ss)
 
-pub same-text-length : (p : Program) (n : ℕ) (ss us : List Step) → ((i : ℕ) → naming i (deeds p n ss) ≡ naming i (deeds p n us))
-    → length (answerText ss) ≡ length (answerText us)
-unfolding stepText
-same-text-length p n ss us same =
+pub same-text-length : (p : Program) (n : ℕ) (ss us : List Step) → Every SaidStep ss → Every SaidStep us → ((i : ℕ) → naming i (deeds p n ss) ≡ naming i (deeds p n us))
+    → length (answerText (ofSteps ss)) ≡ length (answerText (ofSteps us))
+same-text-length p n ss us x y same =
     text-length ss us (steps-count ss ∙ same-count p n ss us same ∙ sym (steps-count us))
-    (steps-bytes ss ∙ same-tally p bytesOf lineBytes (λ m s e. line-bytes p m ∙ rw e refl) move-bytes n ss us same ∙ sym (steps-bytes us))
+    (steps-bytes ss x ∙ same-tally p bytesOf lineBytes (λ m s e. line-bytes p m ∙ rw e refl) (λ s e. rw e refl) n ss us same ∙ sym (steps-bytes us y))

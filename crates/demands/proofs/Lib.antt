@@ -6,6 +6,5 @@ pub mod Exchange
 pub mod Traces
 pub mod Agree
 pub mod Lengths
-pub mod AnswerText
 pub mod OnTexts
 pub mod Alone

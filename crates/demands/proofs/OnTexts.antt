@@ -26,13 +26,14 @@ use Rattle.judged.specs.Judged.{afterFault, afterWalk, stepPlace, inRoom, endin
 use Rattle.judged.specs.Room.{ReportsFit}
 use Rattle.judged.proofs.Read.{both-read, fault-numbered}
 use Rattle.judged.proofs.Room.{reports-fit}
-use Rattle.demands.specs.OnTexts.{sheetTables, sheetProgram, answerSteps, BothRead, AllAllowed, walkOn, upTo, ReachedIsTheWalk, SafeOnTexts, QueuesOnTexts, SameReports, ReportsAgreeOnTexts, Exchanged, MovesExchangeOnTexts}
+use Rattle.demands.specs.OnTexts.{sheetTables, sheetProgram, answerSteps, BothRead, AllAllowed, walkOn, upTo, ReachedIsTheWalk, SafeOnTexts, QueuesOnTexts, SameReports, ReportsAgreeOnTexts, Exchanged, exchangedSteps, exchangedText, MovesExchangeOnTexts}
 use Rattle.demands.specs.Safe.{WalksAreSafe}
 use Rattle.demands.specs.Queues.{QueuesAreKept}
 use Rattle.demands.specs.Exchange.{MovesExchange}
 use Rattle.demands.specs.Agree.{ReportsAgree}
-use Rattle.demands.specs.AnswerText.{answerText, AnswersAreTheirTexts}
-use Rattle.demands.proofs.AnswerText.{answers-are-their-texts, exchanged-length}
+use Rattle.writing.specs.Texts.{answerText, ofSteps}
+use Rattle.writing.specs.Steps.{SaidSteps, StepsHaveTheirText, AnswersAreTheirTexts}
+use Rattle.writing.proofs.Steps.{answers-are-their-texts, steps-have-their-text, exchanged-length, said-exchanged}
 use Rattle.demands.proofs.Lengths.{same-text-length}
 use Rattle.demands.proofs.Safe.{walks-are-safe}
 use Rattle.demands.proofs.Queues.{queues-are-kept}
@@ -49,7 +50,8 @@ reached-is-the-walk s a w e = let b = both-read s a w e in b .walked ∙ rw (b .
 record Goes (s a : List ℕ) : Type 0 where
   is : course s a ≡ reached (walkOn s (answerSteps a))
   lawful : Lawful (sheetTables s) (sheetProgram s)
-  text : a ≡ answerText (answerSteps a)
+  said : SaidSteps (answerSteps a)
+  text : a ≡ answerText (ofSteps (answerSteps a))
 
 read-goes : (s a : List ℕ) → BothRead s a → Goes s a
 unfolding ReachedIsTheWalk sheetTables sheetProgram answerSteps SheetsAreLawful AnswersAreTheirTexts
@@ -58,7 +60,8 @@ read-goes s a (w, e) =
     record {
       is = e ∙ ap reached (reached-is-the-walk s a w e);
       lawful = rw (b .sheet-is, sheetTables, sheetProgram) (sheets-are-lawful s _ _ _ (b .sheet-is));
-      text = rw (b .answer-is, answerSteps) (answers-are-their-texts a _ _ (b .answer-is));
+      said = rw (b .answer-is, answerSteps) (answers-are-their-texts a _ _ (b .answer-is) .0);
+      text = rw (b .answer-is, answerSteps) (answers-are-their-texts a _ _ (b .answer-is) .1);
     }
 
 -- ---- what the judge makes of it
@@ -101,42 +104,33 @@ alike-where-reached s a b w ok l e f = record {
 
 -- ---- the exchanged answer
 
--- an answer that has steps is read, and is their text
-record Stepped (a : List ℕ) : Type 0 where
-  steps : Answer
-  rest : List ℕ
-  is : answer a ≡ on steps rest
-  text : a ≡ answerText (answerSteps a)
-
-some-steps : (a : List ℕ) → 0 < length (answerSteps a) → Stepped a
-unfolding answerSteps AnswersAreTheirTexts
-some-steps a = go (answer a) refl
-  where
-    go : (z : Run Answer) → answer a ≡ z → 0 < length {A = Step} (elim z [ on y r ↦ stepsOf y | stop n r ↦ [] ]) → Stepped a
-    go (on y r) e l = record { steps = y; rest = r; is = e; text = rw (e, answerSteps) (answers-are-their-texts a r y e) }
-    go (stop n r) e l = absurd (omega arith)
-
 not-reached : {A : Type 0} {x : Text} {n at : ℕ} {w : A} → faulty x n at ≡ reached w → ⊥
 not-reached {x = x} {n = n} {at = at} {w = w} e = let z : _≡_ {A = ℕ} 0 1 = cc in omega arith
 
--- it is read beside a sheet where one as long is
-as-long-reads : (s a b : List ℕ) → length a ≡ length b → Stepped b → BothRead s a → BothRead s b
+-- a text as long as one that is read is read beside the same sheet
+as-long-reads : (s a b : List ℕ) (y : Answer) (r : List ℕ) → length a ≡ length b → answer b ≡ on y r → BothRead s a → BothRead s b
 unfolding course both short read
-as-long-reads s a b l y (w, e) =
+as-long-reads s a b y r l is (w, e) =
     by-test (lengthOk (length s))
     (λ p. by-test (lengthOk (length a))
-    (λ q. let x = both-read s a w e in (walkAnswer defaultDepth (x .tables) (x .program) (y .steps), rw (course, both, short, p, ← l, q, read, x .sheet-is, y .is) refl))
+    (λ q. let x = both-read s a w e in (walkAnswer defaultDepth (x .tables) (x .program) y, rw (course, both, short, p, ← l, q, read, x .sheet-is, is) refl))
     (λ q. absurd (not-reached (rw (course, both, short, p, q) at e))))
     (λ p. absurd (not-reached (rw (course, both, short, p) at e)))
 
--- it is as long as the first, and is read beside the same sheet
-exchanged-reads : (s a b : List ℕ) → Exchanged s a b → BothRead s a → (length a ≡ length b) × BothRead s b
-exchanged-reads s a b x r =
-    let y = some-steps a (rw (x .these, length-append (x .before)) (omega arith)) in
-    let z = some-steps b (rw (x .those, length-append (x .before)) (omega arith)) in
-    let l : length (answerText (answerSteps a)) ≡ length (answerText (answerSteps b)) = rw (x .these, x .those) (exchanged-length (x .before) (x .after) (x .m) (x .n)) in
-    let q = ap length (y .text) ∙ l ∙ sym (ap length (z .text)) in
-    (q, as-long-reads s a b q z r)
+-- the exchanged text: as long as the answer, read beside the same sheet, and as the exchanged steps
+record ReadAgain (s a b : List ℕ) (us : List Step) : Type 0 where
+  long : length a ≡ length b
+  both-are : BothRead s b
+  steps : answerSteps b ≡ us
+
+exchanged-reads : (s a : List ℕ) (x : Exchanged s a) → BothRead s a → ReadAgain s a (exchangedText x) (exchangedSteps x)
+unfolding answerSteps StepsHaveTheirText
+exchanged-reads s a x r =
+    let g = read-goes s a r in
+    let said = said-exchanged (x .before) (x .after) (x .m) (x .n) (rw (x .these) at (g .said)) in
+    let (y, is, steps) = steps-have-their-text (exchangedSteps x) said in
+    let long : length a ≡ length (exchangedText x) = ap length (g .text ∙ ap (λ (us : List Step). answerText (ofSteps us)) (x .these)) ∙ exchanged-length (x .before) (x .after) (x .m) (x .n) in
+    record { long = long; both-are = as-long-reads s a (exchangedText x) y [] long is r; steps = rw (is, answerSteps) steps }
 
 -- ---- the demands
 
@@ -154,14 +148,15 @@ reports-agree-on-texts s a b p q same =
     let (g, x) = allowed-goes s a p in
     let (h, y) = allowed-goes s b q in
     let e = reports-agree defaultDepth (sheetTables s) (sheetProgram s) (answerSteps a) (answerSteps b) (omega arith) (g .lawful) x y same in
-    let l = ap length (g .text) ∙ same-text-length (sheetProgram s) 0 (answerSteps a) (answerSteps b) same ∙ sym (ap length (h .text)) in
+    let l = ap length (g .text) ∙ same-text-length (sheetProgram s) 0 (answerSteps a) (answerSteps b) (g .said .every) (h .said .every) same ∙ sym (ap length (h .text)) in
     alike-where-reached s a b _ x l (g .is) (h .is ∙ ap reached (sym e))
 
 pub moves-exchange-on-texts : MovesExchangeOnTexts
 unfolding MovesExchangeOnTexts MovesExchange
-moves-exchange-on-texts s a b x p =
+moves-exchange-on-texts s a x p =
     let (g, y) = allowed-goes s a p in
-    let (l, r) = exchanged-reads s a b x (allowed-reads s a p) in
-    let h = read-goes s b r in
+    let b = exchangedText x in
+    let r = exchanged-reads s a x (allowed-reads s a p) in
+    let h = read-goes s b (r .both-are) in
     let (still, e) = moves-exchange defaultDepth (sheetTables s) (sheetProgram s) (x .before) (x .after) (x .m) (x .n) (omega arith) (g .lawful) (x .exchangeable) (rw (x .these) at y) in
-    (number-is s b _ (h .is) ∙ rw (x .those) still, alike-where-reached s a b _ y l (g .is) (h .is ∙ ap reached (rw (x .those, x .these) e)))
+    (r .steps, number-is s b _ (h .is) ∙ rw (r .steps) still, alike-where-reached s a b _ y (r .long) (g .is) (h .is ∙ ap reached (rw (r .steps, x .these) e)))

@@ -1,9 +1,8 @@
 -- The board's demands of the rules, one file for each: ports (Safe), queues (Queues), exchanged moves (Exchange), answers that do the same (Agree).
--- Then the text that an answer is (AnswerText), the same demands of the two texts (OnTexts), what demand 3 alone would admit (Alone). Why each rule is as it is: crate needed.
+-- Then the same demands of the two texts (OnTexts), what demand 3 alone would admit (Alone). Why each rule is as it is: crate needed.
 pub mod Safe
 pub mod Queues
 pub mod Exchange
 pub mod Agree
-pub mod AnswerText
 pub mod OnTexts
 pub mod Alone

@@ -15,6 +15,7 @@ use Rattle.rules.specs.Action.{Action}
 use Rattle.rules.specs.Walk.{walk}
 use Rattle.judged.specs.Course.{reached, course, defaultDepth}
 use Rattle.judged.specs.Judged.{judged, printed, lentBytes}
+use Rattle.writing.specs.Texts.{answerText, ofSteps}
 use Rattle.demands.specs.Safe.{Safe}
 use Rattle.demands.specs.Queues.{Story, nothing, story}
 use Rattle.demands.specs.Exchange.{Exchangeable}
@@ -87,16 +88,25 @@ ReportsAgreeOnTexts =
     → ((i : ℕ) → projectionOn s a i ≡ projectionOn s b i)
     → SameReports s a b
 
--- b has the steps of a with "two neighbouring moves" m and n exchanged, "of two components with no connection between them at that point"
-pub record Exchanged (s a b : List ℕ) : Type 0 where
+-- two neighbouring steps m and n of the answer a are "two neighbouring moves, of two components with no connection between them at that point"
+pub record Exchanged (s a : List ℕ) : Type 0 where
   pub before : List Step
   pub m : Step
   pub n : Step
   pub after : List Step
   pub these : answerSteps a ≡ before ++ m ∷ n ∷ after
-  pub those : answerSteps b ≡ before ++ n ∷ m ∷ after
   pub exchangeable : Exchangeable defaultDepth (sheetTables s) (sheetProgram s) before m n
 
--- "leaves such an answer allowed throughout"; and the reports are the same
+-- the steps with those two exchanged, and the one text that says them
+abbrev pub exchangedSteps : {s a : List ℕ} → Exchanged s a → List Step
+exchangedSteps x = x .before ++ x .n ∷ x .m ∷ x .after
+
+abbrev pub exchangedText : {s a : List ℕ} → Exchanged s a → List ℕ
+exchangedText x = answerText (ofSteps (exchangedSteps x))
+
+-- "leaves such an answer allowed throughout": the exchanged text is read as the exchanged steps, all are allowed, and the reports are the same
 unfoldable pub MovesExchangeOnTexts : Type 0
-MovesExchangeOnTexts = (s a b : List ℕ) → Exchanged s a b → AllAllowed s a → AllAllowed s b × SameReports s a b
+MovesExchangeOnTexts =
+    (s a : List ℕ) (x : Exchanged s a)
+    → AllAllowed s a
+    → (answerSteps (exchangedText x) ≡ exchangedSteps x) × AllAllowed s (exchangedText x) × SameReports s a (exchangedText x)

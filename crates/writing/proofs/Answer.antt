@@ -68,9 +68,9 @@ answer-made : (v : Answer) (s s₁ s₂ : List ℕ) → s ≡ countText (bytes "
 unfolding answerText
 answer-made v s s₁ s₂ a b c = rw (a, b, c)
 
-pub answers-are-their-texts : (s r : List ℕ) (a : Answer) → answer s ≡ on a r → s ≡ answerText a
+pub answer-taken : (s r : List ℕ) (a : Answer) → answer s ≡ on a r → s ≡ answerText a
 unfolding answer answerOf noAnswer stepAt
-answers-are-their-texts s r a q =
+answer-taken s r a q =
     line-then (dueLine (bytes "answer=") 1) _ s q λ _ s₁ e₁ q. line-then (countLine (bytes "steps=") stepsOk) _ s₁ q λ k s₂ e₂ q.
     let (x₂, lk) = takes-count (bytes "steps=") stepsOk s₁ e₂ in
     let hk : k ≤ 1024 = leb-true k 1024 lk in

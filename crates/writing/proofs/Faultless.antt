@@ -101,6 +101,7 @@ sheet-lawful t p e =
     let (depth, e₁) = or-both _ _ e in
     let (count, e₂) = or-both _ _ e₁ in
     let (types, e₃) = or-both (firstOf (typeFault t) (t .count)) _ e₂ in
-    let (program, lines) = or-both (limitFault (programOk (p .count))) (firstOf (λ j. doFault (t .count) (instructionRow p j)) (p .count)) e₃ in
-    (rw (limit-met (depthOk (t .depth)) depth, limit-met (typesOk (t .count)) count) (all-of (t .count) (typeLawful t) (λ i h. type-lawful t i (first-zero (typeFault t) (t .count) types i h))),
-    rw (limit-met (programOk (p .count)) program) (all-of (p .count) _ (λ j h. do-lawful (t .count) (instructionRow p j) (first-zero (λ j. doFault (t .count) (instructionRow p j)) (p .count) lines j h))))
+    let (program, lines) = or-both (limitFault (programOk (p .count))) (firstOf (λ j. doFault (t .count) (instructionRow p j)) (p .count)) e₃ in (
+      rw (limit-met (depthOk (t .depth)) depth, limit-met (typesOk (t .count)) count) (all-of (t .count) (typeLawful t) (λ i h. type-lawful t i (first-zero (typeFault t) (t .count) types i h))),
+      rw (limit-met (programOk (p .count)) program) (all-of (p .count) _ (λ j h. do-lawful (t .count) (instructionRow p j) (first-zero (λ j. doFault (t .count) (instructionRow p j)) (p .count) lines j h))),
+    )

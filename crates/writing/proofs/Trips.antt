@@ -20,7 +20,7 @@ use Rattle.writing.proofs.Sheet.{sheet-says}
 use Rattle.writing.proofs.Back.{sheets-are-their-texts}
 use Rattle.writing.proofs.Lawful.{sheet-held, sheet-none}
 use Rattle.writing.proofs.Faultless.{sheet-lawful}
-use Rattle.writing.proofs.Answer.{answer-says, answers-are-their-texts, answer-none, answer-lawful, answer-held}
+use Rattle.writing.proofs.Answer.{answer-says, answer-taken, answer-none, answer-lawful, answer-held}
 
 -- the rest of them from those of one text
 module _ {A : Type 0} (w : Scribed A)
@@ -53,7 +53,7 @@ sheets-round-trip =
 
 pub answers-round-trip : AnswersRoundTrip
 unfolding AnswersRoundTrip AnswersAreLawful
-answers-round-trip = trips anAnswer answer-says answers-are-their-texts answers-are-lawful answer-none answer-lawful answer-held
+answers-round-trip = trips anAnswer answer-says answer-taken answers-are-lawful answer-none answer-lawful answer-held
 
 pub no-other-penned : NoOtherPenned
 unfolding NoOtherPenned
