@@ -1,0 +1,1 @@
+-- Nothing of its own: a proof for each function.

@@ -1,0 +1,17 @@
+use mathlib.Core.Bool.{Bool·not-not}
+use mathlib.Core.Path.{_∙_}
+use lib.Dec.{eqb}
+use Rattle.writing.specs.Kinds.{initialFault}
+use borrow.Author.Needs.{needs}
+use Rattle.sheet_inks.proofs.faults.initial_fault.Statement.{statement}
+use Rattle.sheet_inks.proofs.faults.initial_fault.Tie as tie
+
+returns : tie.Need-returns
+unfolding initialFault
+returns c = c .refuse-if2 .ensures ∙ rw (c .before .mask-ok .ensures, c .before .before .refuse-if .ensures, Bool·not-not (eqb (c .before .before .before .args .initial) 0))
+
+pub initial-fault-spec : {M : Type 1} → statement M
+initial-fault-spec =
+    tie.close
+    (tie.spec
+    (λ c κs. search needs) (λ c κs. search needs) (λ c κs. search needs) returns)

@@ -1,0 +1,2 @@
+-- The rows of a type by their kind.
+pub mod Rows
