@@ -31,7 +31,7 @@ or-zero a b e = rw (eq-eqb a 0 e)
 pub or-some : (a b : ℕ) → a ≢ 0 → orNumber a b ≡ a
 or-some a b e = rw (ne-eqb a 0 e)
 
-or-assoc : (a b c : ℕ) → orNumber a (orNumber b c) ≡ orNumber (orNumber a b) c
+pub or-assoc : (a b c : ℕ) → orNumber a (orNumber b c) ≡ orNumber (orNumber a b) c
 or-assoc a b c =
     by-cases (ℕ-discrete a 0) (λ e. or-zero a (orNumber b c) e ∙ ap (λ (n : ℕ). orNumber n c) (sym (or-zero a b e)))
     (λ e. or-some a (orNumber b c) e ∙ sym (ap (λ (n : ℕ). orNumber n c) (or-some a b e) ∙ or-some a c e))

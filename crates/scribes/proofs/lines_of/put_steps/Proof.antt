@@ -1,0 +1,33 @@
+use Prim.Native.Nat.{_-_}
+use Rattle.scribes.proofs.Loops.{Turns, turns-none, turns-more, turns-all}
+use Rattle.words.specs.Words.{tablesIn, programIn, answerIn}
+use Rattle.writing.specs.Kinds.{stepText}
+use Rattle.writing.specs.Texts.{stepRow}
+use borrow.Author.Needs.{needs}
+use Rattle.scribes.proofs.lines_of.put_steps.Statement.{statement}
+use Rattle.scribes.proofs.lines_of.put_steps.Tie as tie
+
+abbrev Inv-loop : tie.InvT-loop
+Inv-loop t₀ answer count used₀ j₀ t used j = Turns (λ j. stepText (stepRow (answerIn answer) j)) count j t₀ t used
+
+abbrev μ-loop : tie.MeasureT-loop
+μ-loop t₀ answer count used₀ j₀ t used j = count - j
+
+loop-holds : tie.Need-loop-holds Inv-loop μ-loop
+loop-holds c = turns-none
+
+loop-again : tie.Need-loop-again Inv-loop μ-loop
+loop-again c = turns-more (c .before .before .before .before .before .loop .inv) (c .before .before .before .before .loop-test .taken) (c .before .before .put-step .ensures)
+
+same-length : tie.Need-same-length Inv-loop μ-loop
+same-length c = c .before .loop .inv .same-length
+
+returns : tie.Need-returns Inv-loop μ-loop
+returns c = turns-all (c .before .loop .inv) (c .loop-test .left)
+
+pub put-steps-spec : {M : Type 1} → statement M
+put-steps-spec =
+    tie.close
+    (tie.spec
+    Inv-loop μ-loop loop-holds (λ c. search needs) (λ c. search needs) (λ c. search needs) (λ c κs. search needs) (λ c. search needs)
+    (λ c. search needs) (λ c. search needs) loop-again same-length returns)

@@ -1,0 +1,89 @@
+-- The parts of a sheet as they are written: each kind of rows after its count, the types, the program.
+use Prim.Native.Nat.{ℕ, _+_, _*_}
+use mathlib.Core.List.{List, _++_}
+use mathlib.Core.Bool.{Bool}
+use lib.Dec.{leb}
+use Rattle.forms.specs.Reader.{bytes}
+use Rattle.forms.specs.Write.{inTurn}
+use Rattle.model.specs.declared.ComponentType.{ComponentType}
+use Rattle.model.specs.declared.Tables.{Tables}
+use Rattle.model.specs.declared.Program.{Program}
+use Rattle.model.specs.View.{typeOf, source, destination, behaviorOf, portKind, groupPlaces, groupTransitions}
+use Rattle.reading.specs.Limits.{typesOk, placesOk, transitionsOk, behaviorsOk, portsOk, programOk}
+use Rattle.rules.specs.Refusal.{orNumber}
+use Rattle.report.specs.Report.{countText}
+use Rattle.writing.specs.Kinds.{limitFault, initialText, initialFault, doText, doFault}
+use Rattle.writing.specs.Texts.{firstOf, instructionRow, typeText, typeFault}
+use Rattle.word_lines.specs.declared.Known.{Known}
+use Rattle.word_lines.specs.declared.Row.{Row}
+use Rattle.word_lines.specs.declared.Rows.{Rows}
+use Rattle.word_lines.specs.declared.Rows.the-variants.{Transitions, Behaviors, Ports}
+use Rattle.word_lines.specs.Rows.{transitionRow, behaviorRow, portRow}
+use Rattle.sheet_inks.specs.Rows.{rowText, rowFault}
+
+-- row x of type i
+abbrev pub rowAt : Rows → Tables → ℕ → ℕ → Row
+rowAt Transitions t i x = transitionRow (source t i x) (destination t i x)
+rowAt Behaviors t i x = behaviorRow (behaviorOf t i x)
+rowAt Ports t i x = portRow (portKind t i x) (groupPlaces t i x) (groupTransitions t i x)
+
+-- how many rows of a kind a type has, and may have
+abbrev pub countOf : Rows → ComponentType → ℕ
+countOf Transitions k = k .transitions
+countOf Behaviors k = k .behaviors
+countOf Ports k = k .ports
+
+abbrev pub countOk : Rows → ℕ → Bool
+countOk Transitions n = transitionsOk n
+countOk Behaviors n = behaviorsOk n
+countOk Ports n = portsOk n
+
+-- what rows are held to
+abbrev pub knownOf : ComponentType → Known
+knownOf k = record { places = k .places; initial = k .initial; transitions = k .transitions }
+
+abbrev pub keyOf : Rows → List ℕ
+keyOf Transitions = bytes "transitions="
+keyOf Behaviors = bytes "behaviors="
+keyOf Ports = bytes "ports="
+
+-- the rows of a kind, and with the line of their count
+abbrev pub rowsText : Rows → Tables → ℕ → ℕ → List ℕ
+rowsText k t i n = inTurn (λ x. rowText k (rowAt k t i x)) n
+
+abbrev pub rowsFault : Rows → Tables → ℕ → Known → ℕ → ℕ
+rowsFault k t i c n = firstOf (λ x. rowFault k c (rowAt k t i x)) n
+
+unfoldable pub kindText : Rows → Tables → ℕ → List ℕ
+kindText k t i = countText (keyOf k) (countOf k (typeOf t i)) ++ rowsText k t i (countOf k (typeOf t i))
+
+unfoldable pub kindFault : Rows → Tables → ℕ → ℕ
+kindFault k t i = orNumber (limitFault (countOk k (countOf k (typeOf t i)))) (rowsFault k t i (knownOf (typeOf t i)) (countOf k (typeOf t i)))
+
+-- all three kinds
+unfoldable pub kindsText : Tables → ℕ → List ℕ
+kindsText t i = kindText Transitions t i ++ kindText Behaviors t i ++ kindText Ports t i
+
+-- the three first lines of a type
+unfoldable pub headText : Tables → ℕ → List ℕ
+headText t i = countText (bytes "type=") i ++ countText (bytes "places=") (typeOf t i .places) ++ initialText (typeOf t i .initial)
+
+unfoldable pub headFault : Tables → ℕ → ℕ
+headFault t i = orNumber (limitFault (placesOk (typeOf t i .places))) (initialFault (typeOf t i .places) (typeOf t i .initial))
+
+-- the two first lines of a sheet
+unfoldable pub firstText : ℕ → List ℕ
+firstText d = countText (bytes "sheet=") 1 ++ countText (bytes "depth=") d
+
+-- all types, and the program, each after the line of its count
+unfoldable pub typesText : Tables → List ℕ
+typesText t = countText (bytes "types=") (t .count) ++ inTurn (typeText t) (t .count)
+
+unfoldable pub typesFault : Tables → ℕ
+typesFault t = orNumber (limitFault (typesOk (t .count))) (firstOf (typeFault t) (t .count))
+
+unfoldable pub programText : Program → List ℕ
+programText p = countText (bytes "program=") (p .count) ++ inTurn (λ j. doText (instructionRow p j)) (p .count)
+
+unfoldable pub programFault : ℕ → Program → ℕ
+programFault n p = orNumber (limitFault (programOk (p .count))) (firstOf (λ j. doFault n (instructionRow p j)) (p .count))

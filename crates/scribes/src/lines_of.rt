@@ -1,0 +1,191 @@
+// The lines in order: each is written into the part of the buffer that is still free, and cut at its end.
+use crate::rows::count_of;
+use crate::rows::row_at;
+use sheet_inks::write_do;
+use sheet_inks::write_initial;
+use sheet_inks::write_one;
+use sheet_inks::write_row;
+use sheet_inks::write_step;
+use word_lines::Rows;
+use words::AnswerWords;
+use words::ProgramWords;
+use words::TableWords;
+use words::answer::step_id;
+use words::answer::step_number;
+use words::answer::step_verb;
+use words::answer::steps;
+use words::program::instruction_id;
+use words::program::instruction_number;
+use words::program::instruction_provideport;
+use words::program::instruction_provider;
+use words::program::instruction_verb;
+use words::program::instructions;
+use words::tables::depth;
+use words::tables::initial_of;
+use words::tables::places_of;
+use words::tables::types;
+ghost use Rattle.forms.specs.Write.{inTurn};
+ghost use Rattle.report.specs.Report.{countText};
+ghost use Rattle.inks.specs.Written.{Written};
+ghost use Rattle.words.specs.Words.{tablesIn, programIn, answerIn};
+ghost use Rattle.writing.specs.Kinds.{doText, stepText};
+ghost use Rattle.writing.specs.Texts.{instructionRow, stepRow, typeText, sheetText, answerText};
+ghost use Rattle.scribes.specs.Parts.{keyOf, rowsText, kindText, kindsText, headText, firstText, typesText, programText};
+
+// So many rows of type i.
+fn put_rows(t: &mut [u8], tables: &TableWords, rows: Rows, i: u32, count: u32) -> usize
+    ensures { λ r. ⌜ Written (now (t .entry)) (rowsText rows (tablesIn (now (tables .entry))) i count) (now (t .exit)) 0 r ⌝ }
+{
+    let mut used: usize = 0;
+    let mut x: u32 = 0;
+    while x < count {
+        let row = row_at(tables, rows, i, x);
+        used += write_row(&mut t[used..], rows, row);
+        x += 1;
+    }
+    used
+}
+
+// transitions=, behaviors=, ports=
+fn put_count(t: &mut [u8], rows: Rows, count: u32) -> usize
+    ensures { λ r. ⌜ Written (now (t .entry)) (countText (keyOf rows) count) (now (t .exit)) 0 r ⌝ }
+{
+    match rows {
+        Rows::Transitions => write_one(t, b"transitions=", count),
+        Rows::Behaviors => write_one(t, b"behaviors=", count),
+        Rows::Ports => write_one(t, b"ports=", count),
+    }
+}
+
+fn put_kind(t: &mut [u8], tables: &TableWords, rows: Rows, i: u32) -> usize
+    ensures { λ r. ⌜ Written (now (t .entry)) (kindText rows (tablesIn (now (tables .entry))) i) (now (t .exit)) 0 r ⌝ }
+{
+    let count = count_of(tables, rows, i);
+    let used = put_count(t, rows, count);
+    used + put_rows(&mut t[used..], tables, rows, i, count)
+}
+
+// type=, places=, initial=
+fn put_head(t: &mut [u8], tables: &TableWords, i: u32) -> usize
+    ensures { λ r. ⌜ Written (now (t .entry)) (headText (tablesIn (now (tables .entry))) i) (now (t .exit)) 0 r ⌝ }
+{
+    let places = places_of(tables, i);
+    let initial = initial_of(tables, i);
+    let mut used = write_one(t, b"type=", i);
+    used += write_one(&mut t[used..], b"places=", places);
+    used + write_initial(&mut t[used..], initial)
+}
+
+fn put_kinds(t: &mut [u8], tables: &TableWords, i: u32) -> usize
+    ensures { λ r. ⌜ Written (now (t .entry)) (kindsText (tablesIn (now (tables .entry))) i) (now (t .exit)) 0 r ⌝ }
+{
+    let mut used = put_kind(t, tables, Rows::Transitions, i);
+    used += put_kind(&mut t[used..], tables, Rows::Behaviors, i);
+    used + put_kind(&mut t[used..], tables, Rows::Ports, i)
+}
+
+fn put_type(t: &mut [u8], tables: &TableWords, i: u32) -> usize
+    ensures { λ r. ⌜ Written (now (t .entry)) (typeText (tablesIn (now (tables .entry))) i) (now (t .exit)) 0 r ⌝ }
+{
+    let used = put_head(t, tables, i);
+    used + put_kinds(&mut t[used..], tables, i)
+}
+
+fn put_each_type(t: &mut [u8], tables: &TableWords, count: u32) -> usize
+    ensures { λ r. ⌜ Written (now (t .entry)) (inTurn (typeText (tablesIn (now (tables .entry)))) count) (now (t .exit)) 0 r ⌝ }
+{
+    let mut used: usize = 0;
+    let mut i: u32 = 0;
+    while i < count {
+        used += put_type(&mut t[used..], tables, i);
+        i += 1;
+    }
+    used
+}
+
+// types= and the types
+fn put_types(t: &mut [u8], tables: &TableWords) -> usize
+    ensures { λ r. ⌜ Written (now (t .entry)) (typesText (tablesIn (now (tables .entry)))) (now (t .exit)) 0 r ⌝ }
+{
+    let count = types(tables);
+    let used = write_one(t, b"types=", count);
+    used + put_each_type(&mut t[used..], tables, count)
+}
+
+fn put_instruction(t: &mut [u8], program: &ProgramWords, j: u32) -> usize
+    ensures { λ r. ⌜ Written (now (t .entry)) (doText (instructionRow (programIn (now (program .entry))) j)) (now (t .exit)) 0 r ⌝ }
+{
+    let verb = instruction_verb(program, j);
+    let id = instruction_id(program, j);
+    let number = instruction_number(program, j);
+    let provider = instruction_provider(program, j);
+    let provideport = instruction_provideport(program, j);
+    write_do(t, verb, id, number, provider, provideport)
+}
+
+fn put_instructions(t: &mut [u8], program: &ProgramWords, count: u32) -> usize
+    ensures { λ r. ⌜ Written (now (t .entry)) (inTurn (λ j. doText (instructionRow (programIn (now (program .entry))) j)) count) (now (t .exit)) 0 r ⌝ }
+{
+    let mut used: usize = 0;
+    let mut j: u32 = 0;
+    while j < count {
+        used += put_instruction(&mut t[used..], program, j);
+        j += 1;
+    }
+    used
+}
+
+// program= and the instructions
+fn put_program(t: &mut [u8], program: &ProgramWords) -> usize
+    ensures { λ r. ⌜ Written (now (t .entry)) (programText (programIn (now (program .entry)))) (now (t .exit)) 0 r ⌝ }
+{
+    let count = instructions(program);
+    let used = write_one(t, b"program=", count);
+    used + put_instructions(&mut t[used..], program, count)
+}
+
+// sheet=, depth=
+fn put_first(t: &mut [u8], depth: u32) -> usize
+    ensures { λ r. ⌜ Written (now (t .entry)) (firstText depth) (now (t .exit)) 0 r ⌝ }
+{
+    let used = write_one(t, b"sheet=", 1);
+    used + write_one(&mut t[used..], b"depth=", depth)
+}
+
+pub(crate) fn put_sheet(t: &mut [u8], tables: &TableWords, program: &ProgramWords) -> usize
+    ensures { λ r. ⌜ Written (now (t .entry)) (sheetText (tablesIn (now (tables .entry))) (programIn (now (program .entry)))) (now (t .exit)) 0 r ⌝ }
+{
+    let mut used = put_first(t, depth(tables));
+    used += put_types(&mut t[used..], tables);
+    used + put_program(&mut t[used..], program)
+}
+
+fn put_step(t: &mut [u8], answer: &AnswerWords, j: u32) -> usize
+    ensures { λ r. ⌜ Written (now (t .entry)) (stepText (stepRow (answerIn (now (answer .entry))) j)) (now (t .exit)) 0 r ⌝ }
+{
+    let verb = step_verb(answer, j);
+    let id = step_id(answer, j);
+    let number = step_number(answer, j);
+    write_step(t, verb, id, number)
+}
+
+fn put_steps(t: &mut [u8], answer: &AnswerWords, count: u32) -> usize
+    ensures { λ r. ⌜ Written (now (t .entry)) (inTurn (λ j. stepText (stepRow (answerIn (now (answer .entry))) j)) count) (now (t .exit)) 0 r ⌝ }
+{
+    let mut used: usize = 0;
+    let mut j: u32 = 0;
+    while j < count {
+        used += put_step(&mut t[used..], answer, j);
+        j += 1;
+    }
+    used
+}
+
+pub(crate) fn put_answer(t: &mut [u8], answer: &AnswerWords) -> usize
+    ensures { λ r. ⌜ Written (now (t .entry)) (answerText (answerIn (now (answer .entry)))) (now (t .exit)) 0 r ⌝ }
+{
+    let count = steps(answer);
+    let mut used = write_one(t, b"answer=", 1);
+    used += write_one(&mut t[used..], b"steps=", count);
+    used + put_steps(&mut t[used..], answer, count)
+}
