@@ -22,7 +22,7 @@ use Rattle.writing.specs.Kinds.{limitFault, initialFault}
 use Rattle.writing.specs.Texts.{firstOf, typeText, typeFault, sheetText, sheetFault}
 use Rattle.writing.specs.Buffer.{writeNumber, penned, Penned}
 use Rattle.writing.proofs.Turns.{or-assoc}
-use Rattle.word_lines.specs.declared.Rows.the-variants.{Transitions, Behaviors, Ports}
+use Rattle.sheet_lines.specs.declared.Rows.the-variants.{Transitions, Behaviors, Ports}
 use Rattle.scribes.specs.Parts.{knownOf, rowsFault, kindText, kindFault, kindsText, headText, headFault, firstText, typesText, typesFault, programText, programFault}
 
 pub type-parts : (t : Tables) (i : ℕ) → headText t i ++ kindsText t i ≡ typeText t i

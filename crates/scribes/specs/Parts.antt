@@ -14,11 +14,11 @@ use Rattle.rules.specs.Refusal.{orNumber}
 use Rattle.report.specs.Report.{countText}
 use Rattle.writing.specs.Kinds.{limitFault, initialText, initialFault, doText, doFault}
 use Rattle.writing.specs.Texts.{firstOf, instructionRow, typeText, typeFault}
-use Rattle.word_lines.specs.declared.Known.{Known}
-use Rattle.word_lines.specs.declared.Row.{Row}
-use Rattle.word_lines.specs.declared.Rows.{Rows}
-use Rattle.word_lines.specs.declared.Rows.the-variants.{Transitions, Behaviors, Ports}
-use Rattle.word_lines.specs.Rows.{transitionRow, behaviorRow, portRow}
+use Rattle.sheet_lines.specs.declared.Known.{Known}
+use Rattle.sheet_lines.specs.declared.Row.{Row}
+use Rattle.sheet_lines.specs.declared.Rows.{Rows}
+use Rattle.sheet_lines.specs.declared.Rows.the-variants.{Transitions, Behaviors, Ports}
+use Rattle.sheet_lines.specs.Rows.{transitionRow, behaviorRow, portRow}
 use Rattle.sheet_inks.specs.Rows.{rowText, rowFault}
 
 -- row x of type i

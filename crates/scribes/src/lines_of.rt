@@ -6,7 +6,7 @@ use sheet_inks::write_initial;
 use sheet_inks::write_one;
 use sheet_inks::write_row;
 use sheet_inks::write_step;
-use word_lines::Rows;
+use sheet_lines::Rows;
 use words::AnswerWords;
 use words::ProgramWords;
 use words::TableWords;

@@ -1,6 +1,6 @@
 // The rows of a type in the words of the tables, by their kind.
-use word_lines::Row;
-use word_lines::Rows;
+use sheet_lines::Row;
+use sheet_lines::Rows;
 use words::TableWords;
 use words::tables::behavior_of;
 use words::tables::behaviors_of;
@@ -14,7 +14,7 @@ use words::tables::transitions_of;
 ghost use mathlib.Core.Path.{_≡_};
 ghost use Rattle.model.specs.View.{typeOf, source, destination, behaviorOf, portKind, groupPlaces, groupTransitions};
 ghost use Rattle.words.specs.Words.{tablesIn};
-ghost use Rattle.word_lines.specs.Rows.{transitionRow, behaviorRow, portRow};
+ghost use Rattle.sheet_lines.specs.Rows.{transitionRow, behaviorRow, portRow};
 ghost use Rattle.scribes.specs.Parts.{rowAt, countOf};
 
 // How many rows of a kind type i has.

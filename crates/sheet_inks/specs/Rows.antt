@@ -1,10 +1,10 @@
 -- The line of a row, by the kind of the row: its text and its number, in a type of which c is known.
 use Prim.Native.Nat.{ℕ}
 use mathlib.Core.List.{List}
-use Rattle.word_lines.specs.declared.Known.{Known}
-use Rattle.word_lines.specs.declared.Row.{Row}
-use Rattle.word_lines.specs.declared.Rows.{Rows}
-use Rattle.word_lines.specs.declared.Rows.the-variants.{Transitions, Behaviors, Ports}
+use Rattle.sheet_lines.specs.declared.Known.{Known}
+use Rattle.sheet_lines.specs.declared.Row.{Row}
+use Rattle.sheet_lines.specs.declared.Rows.{Rows}
+use Rattle.sheet_lines.specs.declared.Rows.the-variants.{Transitions, Behaviors, Ports}
 use Rattle.writing.specs.Kinds.{tranText, tranFault, behaviorText, behaviorFault, portLineText, portFault}
 
 abbrev pub rowText : Rows → Row → List ℕ

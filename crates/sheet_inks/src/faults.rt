@@ -3,15 +3,15 @@ use forms::BAD_CLAUSE;
 use forms::BAD_FORM;
 use forms::BEYOND_LIMIT;
 use sets::overlaps;
-use word_lines::Known;
-use word_lines::Row;
-use word_lines::Rows;
+use sheet_lines::Known;
+use sheet_lines::Row;
+use sheet_lines::Rows;
 ghost use mathlib.Core.Path.{_≡_};
 ghost use Rattle.reading.specs.Limits.{maskOk};
 ghost use Rattle.reading.specs.Kinds.{anInstruction, aStep};
 ghost use Rattle.rules.specs.Refusal.{_⇒_∣_};
 ghost use Rattle.writing.specs.Kinds.{limitFault, initialFault, doFault, stepFault};
-ghost use Rattle.word_lines.specs.declared.Rows.the-variants.{Transitions, Ports};
+ghost use Rattle.sheet_lines.specs.declared.Rows.the-variants.{Transitions, Ports};
 ghost use Rattle.sheet_inks.specs.Rows.{rowFault};
 
 // All members of the set lie below n, whatever n is.

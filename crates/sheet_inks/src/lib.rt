@@ -6,14 +6,14 @@ use inks::write_byte;
 use inks::write_key;
 use inks::write_mask;
 use inks::write_number;
-use word_lines::Row;
-use word_lines::Rows;
+use sheet_lines::Row;
+use sheet_lines::Rows;
 ghost use mathlib.Core.List.{_++_};
 ghost use Rattle.forms.specs.Write.{oneText, twoText, fourText};
 ghost use Rattle.reading.specs.Kinds.{anInstruction, aStep};
 ghost use Rattle.inks.specs.Written.{Written};
 ghost use Rattle.writing.specs.Kinds.{setText, setsText, initialText, doText, stepText};
-ghost use Rattle.word_lines.specs.declared.Rows.the-variants.{Ports};
+ghost use Rattle.sheet_lines.specs.declared.Rows.the-variants.{Ports};
 ghost use Rattle.sheet_inks.specs.Rows.{rowText};
 
 // At a position: what follows a key to the line's end.

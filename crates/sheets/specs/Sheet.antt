@@ -6,6 +6,7 @@ use lib.ListN.{length, replicate}
 use Rattle.model.specs.declared.Tables.{Tables}
 use Rattle.model.specs.declared.Program.{Program}
 use Rattle.model.specs.Empty.{noTables, noProgram}
+use Rattle.reading.specs.Lines.{Lines}
 use Rattle.reading.specs.Texts.{sheet}
 use Rattle.runs.specs.declared.Place.{Place}
 use Rattle.runs.specs.Whole.{Whole, whole, beside}
@@ -15,19 +16,25 @@ use Rattle.words.specs.Words.{tablesIn, programIn}
 abbrev pub sheetRead : List ℕ → Whole (Tables × Program)
 sheetRead s = whole (noTables, noProgram) sheet s
 
--- what r and the words of tables and program say together is what reading the text s answers
-abbrev pub Reads : List ℕ → Place → List ℕ → List ℕ → Type 0
-Reads s r ws ps = beside r (tablesIn ws, programIn ps) ≡ sheetRead s
+-- what r and the words of tables and program say together is what reading the text s by m answers
+abbrev pub ReadsBy : Lines (Tables × Program) → List ℕ → Place → List ℕ → List ℕ → Type 0
+ReadsBy m s r ws ps = beside r (tablesIn ws, programIn ps) ≡ whole (noTables, noProgram) m s
 
 -- as many words as tables and program have
 abbrev pub Full : List ℕ → List ℕ → Type 0
 Full ws ps = (length ws ≡ 2002) × (length ps ≡ 1281)
 
 -- no other outcome and no other words fit the promise
+abbrev pub NoOther : Lines (Tables × Program) → Type 0
+NoOther m = (s : List ℕ) (r q : Place) (ws vs ps qs : List ℕ) → Full ws ps → Full vs qs → ReadsBy m s r ws ps → ReadsBy m s q vs qs → (r ≡ q) × (ws ≡ vs) × (ps ≡ qs)
+
 unfoldable pub NoOtherSheet : Type 0
-NoOtherSheet = (s : List ℕ) (r q : Place) (ws vs ps qs : List ℕ) → Full ws ps → Full vs qs → Reads s r ws ps → Reads s q vs qs → (r ≡ q) × (ws ≡ vs) × (ps ≡ qs)
+NoOtherSheet = NoOther sheet
 
 -- beside a refusal all words are 0
-unfoldable pub NoWordsLeft : Type 0
-NoWordsLeft = (s : List ℕ) (r : Place) (ws ps : List ℕ) → Full ws ps → Reads s r ws ps → (r .refused ≡ 0 → ⊥)
+abbrev pub NoneLeft : Lines (Tables × Program) → Type 0
+NoneLeft m = (s : List ℕ) (r : Place) (ws ps : List ℕ) → Full ws ps → ReadsBy m s r ws ps → (r .refused ≡ 0 → ⊥)
     → (ws ≡ replicate 2002 0) × (ps ≡ replicate 1281 0)
+
+unfoldable pub NoWordsLeft : Type 0
+NoWordsLeft = NoneLeft sheet

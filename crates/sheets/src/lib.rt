@@ -1,9 +1,11 @@
 // A sheet read whole into lent words: its types with their rows, then its program, each line from the part of the text that starts with it.
 // Promised: for every text `fill_sheet` answers the one number and place that `sheetRead` gives of it, and the words say the tables and the
 // program that it gives, whatever they held before.
+mod filled;
 mod programs;
 mod types;
 
+use filled::read_rows;
 use lines::Limit;
 use lines::Went;
 use programs::then_instructions;
@@ -20,6 +22,7 @@ ghost use Rattle.runs.specs.Chain.{shortly};
 ghost use Rattle.runs.specs.Whole.{beside};
 ghost use Rattle.words.specs.Words.{tablesIn, programIn};
 ghost use Rattle.sheets.specs.Sheet.{sheetRead};
+ghost use Rattle.sheets.specs.Form.{formRead};
 
 // The lines of a sheet, up to the text's end, into words that say none.
 fn read_lines(text: &[u8], tables: &mut TableWords, program: &mut ProgramWords) -> LinesRead
@@ -47,6 +50,20 @@ pub fn fill_sheet(text: &[u8], tables: &mut TableWords, program: &mut ProgramWor
     words::tables::clear_tables(tables);
     words::program::clear_program(program);
     let read = read_lines(text, tables, program);
+    let went = read.went;
+    let Went::On = went else {
+        words::tables::clear_tables(tables);
+        words::program::clear_program(program);
+        return runs::came_to(read);
+    };
+    runs::came_to(read)
+}
+
+// The form of a text of any length, as lines, in the lent words; beside a refusal they are all 0.
+pub fn fill_form(text: &[u8], tables: &mut TableWords, program: &mut ProgramWords) -> Place
+    ensures { λ r. ⌜ beside r (tablesIn (now (tables .exit)), programIn (now (program .exit))) ≡ formRead (now (text .entry)) ⌝ }
+{
+    let read = read_rows(text, tables, program);
     let went = read.went;
     let Went::On = went else {
         words::tables::clear_tables(tables);

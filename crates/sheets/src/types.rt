@@ -76,7 +76,7 @@ fn read_row(
 }
 
 // As many rows of a kind as the last line said, each in its slot.
-fn then_rows(
+pub(crate) fn then_rows(
     text: &[u8],
     count: NumberRead,
     rows: Rows,
@@ -126,7 +126,7 @@ fn initial_at(text: &[u8], start: usize, places: u32) -> Line
 }
 
 // That line after what was read so far, in a type of as many places as the last line said.
-fn then_initial(text: &[u8], places: NumberRead) -> NumberRead
+pub(crate) fn then_initial(text: &[u8], places: NumberRead) -> NumberRead
     ensures { λ r. ⌜ After (now (text .entry)) (places .read) (line (initialLine (places .number))) (r .read) (r .number) ⌝ }
 {
     let read = places.read;

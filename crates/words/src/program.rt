@@ -6,7 +6,7 @@ use crate::put_word;
 ghost use mathlib.Core.Path.{_≡_};
 ghost use lib.ListN.{getD};
 ghost use Rattle.model.specs.Empty.{noInstruction, noProgram};
-ghost use Rattle.reading.specs.Fill.{withInstruction};
+ghost use Rattle.reading.specs.Fill.{programOf, withInstruction};
 ghost use Rattle.words.specs.Words.{programIn};
 ghost use Rattle.words.specs.Parts.{instructionOf, withInstructions};
 
@@ -82,4 +82,12 @@ pub fn put_instructions(program: &mut ProgramWords, count: u32)
     ensures { λ r. ⌜ programIn (now (program .exit)) ≡ withInstructions (programIn (now (program .entry))) count ⌝ }
 {
     put_word(program, 1280, count);
+}
+
+// No instructions yet, whatever the words held before.
+pub fn start_program(program: &mut ProgramWords, count: u32)
+    ensures { λ r. ⌜ programIn (now (program .exit)) ≡ programOf count ⌝ }
+{
+    clear_program(program);
+    put_instructions(program, count);
 }

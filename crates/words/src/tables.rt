@@ -6,6 +6,7 @@ use crate::put_word;
 ghost use mathlib.Core.Path.{_≡_};
 ghost use Rattle.model.specs.Empty.{noTables};
 ghost use Rattle.model.specs.View.{source, destination, behaviorOf, portKind, isUse, groupPlaces, groupTransitions, typeOf};
+ghost use Rattle.reading.specs.Fill.{headed};
 ghost use Rattle.words.specs.Words.{tablesIn};
 ghost use Rattle.words.specs.Parts.{withHead, withEnds, withBehavior, withGroup, withKind, typeOfWords};
 
@@ -159,4 +160,12 @@ pub fn put_head(tables: &mut TableWords, depth: u32, count: u32)
 {
     put_word(tables, 2000, depth);
     put_word(tables, 2001, count);
+}
+
+// No rows yet, whatever the words held before.
+pub fn start_tables(tables: &mut TableWords, depth: u32, count: u32)
+    ensures { λ r. ⌜ tablesIn (now (tables .exit)) ≡ headed depth count ⌝ }
+{
+    clear_tables(tables);
+    put_head(tables, depth, count);
 }
