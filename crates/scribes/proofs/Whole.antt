@@ -1,13 +1,14 @@
 -- The parts joined are the texts and the numbers of writing/specs, and a text is measured before it is written.
 -- Assumes nothing.
-use Prim.Native.Nat.{ℕ, _≤_, _<_, min}
+use Prim.Native.Nat.{ℕ, _-_, _≤_, _<_, min}
 use mathlib.Core.List.{List, [], _++_, append-assoc}
 use mathlib.Core.Bool.{Bool, true, false, not}
-use mathlib.Core.Path.{_≡_, refl, sym, ap, _∙_}
+use mathlib.Core.Path.{_≡_, refl, sym, ap, ap₂, _∙_}
 use mathlib.Core.Logic.{_≢_}
 use native.Mathlib.Omega.{arith}
 use lib.Dec.{eqb, leb}
-use lib.ListN.{length, drop}
+use lib.ListN.{length, take, drop}
+use lib.Seq.{take-at, drop-at, take-all}
 use borrow.Author.Tests.{le-leb, lt-leb, leb-true, leb-false, eq-eqb, ne-eqb}
 use Rattle.forms.specs.Reader.{bytes}
 use Rattle.forms.proofs.Tests.{by-test}
@@ -18,6 +19,8 @@ use Rattle.reading.specs.Limits.{lengthOk, depthOk, typesOk, placesOk, transiti
 use Rattle.rules.specs.Refusal.{_⇒_∣_, orNumber}
 use Rattle.inks.specs.Written.{Written}
 use Rattle.inks.proofs.Laws.{fits-all}
+use Rattle.cells.specs.Cells.{cellsOf}
+use Rattle.cells.proofs.Laws.{cells-length}
 use Rattle.writing.specs.Kinds.{limitFault, initialFault}
 use Rattle.writing.specs.Texts.{firstOf, typeText, typeFault, sheetText, sheetFault}
 use Rattle.writing.specs.Buffer.{writeNumber, penned, Penned}
@@ -80,15 +83,39 @@ module _ (n k w r : ℕ) (x old : List ℕ) (none : k ≡ n) (zero : k ≡ 0) (l
       let some = ne-eqb (writeNumber n x (length old)) 0 (λ q. z (number-is ∙ q)) in
       record { refused-is = number-is; written-is = rw some; new-is = rw some }
 
-  -- all has room
-  pub all-room : r ≡ 0 → (new : List ℕ) (b : ℕ) → Written old x new 0 b → Penned n x old new 0 b
-  unfolding penned
-  all-room z new b v =
-      let nought = eq-eqb (writeNumber n x (length old)) 0 (sym number-is ∙ z) in
-      let (all, bytes) = fits-all v (fit (lengthOk (length x)) (leb (length x) (length old)) refl (sym (measured w (length x) (length old) long) ∙ sym is ∙ z)) in
-      record { refused-is = sym z ∙ number-is; written-is = rw nought all; new-is = rw (nought, all) bytes }
+  room-fits : r ≡ 0 → length x ≤ length old
+  room-fits z = fit (lengthOk (length x)) (leb (length x) (length old)) refl (sym (measured w (length x) (length old) long) ∙ sym is ∙ z)
     where
       fit : (p q : Bool) → leb (length x) (length old) ≡ q → (not p ⇒ 1 ∣ not q ⇒ 6 ∣ 0) ≡ 0 → length x ≤ length old
       fit true true e h = leb-true (length x) (length old) e
       fit true false e h = absurd (omega arith)
       fit false q e h = absurd (omega arith)
+
+  -- all has room
+  pub all-room : r ≡ 0 → (new : List ℕ) (b : ℕ) → Written old x new 0 b → Penned n x old new 0 b
+  unfolding penned
+  all-room z new b v =
+      let nought = eq-eqb (writeNumber n x (length old)) 0 (sym number-is ∙ z) in
+      let (all, bytes) = fits-all v (room-fits z) in
+      record { refused-is = sym z ∙ number-is; written-is = rw nought all; new-is = rw (nought, all) bytes }
+
+-- all the bytes of y, and the buffer's own after them
+all-fit : (y old new : List ℕ) (b : ℕ) → length y ≤ length old → b ≡ length y → new ≡ y ++ drop (length y) old → Written old y new 0 b
+all-fit y old new b l e q = record { to-is = omega arith; new-is = q ∙ rw (e, take-all (length old - 0) y (omega arith)) }
+
+-- ---- a form: its lines are measured and written, and then they become cells
+module _ (n k w r : ℕ) (x old : List ℕ) (none : k ≡ n) (zero : k ≡ 0) (long : w ≡ min 32769 (length x)) (is : r ≡ room w (length old)) where
+  cells-measured : w ≡ min 32769 (length (cellsOf x))
+  cells-measured = rw (cells-length x) long
+
+  pub no-room-for-cells : r ≢ 0 → Penned n (cellsOf x) old old r 0
+  no-room-for-cells = no-room n k w r (cellsOf x) old none zero cells-measured is
+
+  pub all-cells : r ≡ 0 → (mid new : List ℕ) (b : ℕ) → Written old x mid 0 b → new ≡ cellsOf (take b mid) ++ drop b mid → Penned n (cellsOf x) old new 0 b
+  all-cells z mid new b v q =
+      let fit = room-fits n k w r x old none zero long is z in
+      let (all, bytes) = fits-all v fit in
+      let front : take b mid ≡ x = ap₂ (λ (i : ℕ) (l : List ℕ). take i l) all bytes ∙ take-at x (drop (length x) old) (length x) refl in
+      let rest : drop b mid ≡ drop (length x) old = ap₂ (λ (i : ℕ) (l : List ℕ). drop i l) all bytes ∙ drop-at x (drop (length x) old) (length x) refl in
+      all-room n k w r (cellsOf x) old none zero cells-measured is z new b
+      (all-fit (cellsOf x) old new b (omega (arith, cells-length x)) (all ∙ sym (cells-length x)) (q ∙ rw (front, rest, cells-length x)))

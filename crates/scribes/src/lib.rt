@@ -1,11 +1,13 @@
 // Writers of the two texts: tables and a program as a sheet, steps as an answer, from words into a lent buffer.
 // Promised, for all words and buffers: the number is `writeNumber` of writing/specs/Buffer, and every byte of the buffer is said; beside a refusal none changes.
 mod faults;
+mod filled;
 mod lines_of;
 mod rows;
 
 use faults::answer_fault;
 use faults::sheet_fault;
+use filled::put_form;
 use forms::BUFFER_SHORT;
 use forms::TOO_LONG;
 use lines::LONGEST;
@@ -24,6 +26,7 @@ ghost use Rattle.rules.specs.Refusal.{_⇒_∣_};
 ghost use Rattle.words.specs.Words.{tablesIn, programIn, answerIn};
 ghost use Rattle.writing.specs.Texts.{sheetText, sheetFault, answerText, answerFault};
 ghost use Rattle.writing.specs.Buffer.{Penned};
+ghost use Rattle.scribes.specs.Form.{formLines, formText};
 
 // The number of the refusal, or 0, and the bytes written.
 pub struct Written {
@@ -44,6 +47,13 @@ fn answer_length(answer: &AnswerWords) -> usize
 {
     let mut scratch = [0u8; 32769];
     put_answer(&mut scratch, answer)
+}
+
+fn form_length(tables: &TableWords, program: &ProgramWords) -> usize
+    ensures { λ r. ⌜ r ≡ min 32769 (length (formLines (tablesIn (now (tables .entry))) (programIn (now (program .entry))))) ⌝ }
+{
+    let mut scratch = [0u8; 32769];
+    put_form(&mut scratch, tables, program)
 }
 
 // 1 before 6, of a text of so many bytes.
@@ -96,5 +106,26 @@ pub fn write_answer(answer: &AnswerWords, out: &mut [u8]) -> Written
         return Written { refused, bytes: 0 };
     }
     let bytes = put_answer(out, answer);
+    Written { refused: 0, bytes }
+}
+
+// The form of tables and a program, as rows of cells.
+pub fn write_form(tables: &TableWords, program: &ProgramWords, out: &mut [u8]) -> Written
+    ensures { λ r. ⌜ Penned (sheetFault (tablesIn (now (tables .entry))) (programIn (now (program .entry))))
+        (formText (tablesIn (now (tables .entry))) (programIn (now (program .entry)))) (now (out .entry)) (now (out .exit)) (r .refused) (r .bytes) ⌝ }
+{
+    let fault = sheet_fault(tables, program);
+    if fault != 0 {
+        return Written {
+            refused: fault,
+            bytes: 0,
+        };
+    }
+    let refused = room_fault(form_length(tables, program), out.len());
+    if refused != 0 {
+        return Written { refused, bytes: 0 };
+    }
+    let bytes = put_form(out, tables, program);
+    cells::put_cells(out, bytes);
     Written { refused: 0, bytes }
 }

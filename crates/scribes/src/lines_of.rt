@@ -33,7 +33,7 @@ ghost use Rattle.writing.specs.Texts.{instructionRow, stepRow, typeText, sheetT
 ghost use Rattle.scribes.specs.Parts.{keyOf, rowsText, kindText, kindsText, headText, firstText, typesText, programText};
 
 // So many rows of type i.
-fn put_rows(t: &mut [u8], tables: &TableWords, rows: Rows, i: u32, count: u32) -> usize
+pub(crate) fn put_rows(t: &mut [u8], tables: &TableWords, rows: Rows, i: u32, count: u32) -> usize
     ensures { λ r. ⌜ Written (now (t .entry)) (rowsText rows (tablesIn (now (tables .entry))) i count) (now (t .exit)) 0 r ⌝ }
 {
     let mut used: usize = 0;
@@ -123,7 +123,7 @@ fn put_instruction(t: &mut [u8], program: &ProgramWords, j: u32) -> usize
     write_do(t, verb, id, number, provider, provideport)
 }
 
-fn put_instructions(t: &mut [u8], program: &ProgramWords, count: u32) -> usize
+pub(crate) fn put_instructions(t: &mut [u8], program: &ProgramWords, count: u32) -> usize
     ensures { λ r. ⌜ Written (now (t .entry)) (inTurn (λ j. doText (instructionRow (programIn (now (program .entry))) j)) count) (now (t .exit)) 0 r ⌝ }
 {
     let mut used: usize = 0;

@@ -1,0 +1,2 @@
+-- The laws of rows and cells.
+pub mod Laws

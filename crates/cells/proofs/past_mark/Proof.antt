@@ -1,0 +1,20 @@
+use native.Mathlib.Omega.{arith}
+use Rattle.texts.specs.Says.{dueSays}
+use Rattle.texts.proofs.Laws.{told}
+use Rattle.cells.proofs.Laws.{marked, not-marked}
+use borrow.Author.Needs.{needs}
+use Rattle.cells.proofs.past_mark.Statement.{statement}
+use Rattle.cells.proofs.past_mark.Tie as tie
+
+returns : tie.Need-returns
+returns c = (omega arith, not-marked _ (told dueSays _ (c .before .before .past-key .ensures) (c .enum-told .given .1) .same))
+
+returns-2 : tie.Need-returns-2
+returns-2 c =
+    let h = told dueSays _ (c .before .before .before .past-key .ensures) (c .before .start .given .1) in (h .within, marked _ (h .same))
+
+pub past-mark-spec : {M : Type 1} → statement M
+past-mark-spec =
+    tie.close
+    (tie.spec
+    (λ c. search needs) (λ c κs. search needs) (λ c. search needs) (λ c. search needs) returns returns-2)

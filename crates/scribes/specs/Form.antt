@@ -1,0 +1,30 @@
+-- Tables and a program as a form: the lines of a sheet without those of the counts, as rows of cells. docs/FORM.md has it for setters.
+use Prim.Native.Nat.{ℕ}
+use mathlib.Core.List.{List, _++_}
+use Rattle.forms.specs.Reader.{bytes}
+use Rattle.forms.specs.Write.{inTurn}
+use Rattle.model.specs.declared.Tables.{Tables}
+use Rattle.model.specs.declared.Program.{Program}
+use Rattle.model.specs.View.{typeOf}
+use Rattle.report.specs.Report.{countText}
+use Rattle.writing.specs.Kinds.{initialText, doText}
+use Rattle.writing.specs.Texts.{instructionRow}
+use Rattle.word_lines.specs.declared.Rows.the-variants.{Transitions, Behaviors, Ports}
+use Rattle.cells.specs.Cells.{cellsOf}
+use Rattle.scribes.specs.Parts.{rowsText}
+
+-- `type=` its places, `initial=`, then its rows by kind
+unfoldable pub typeLinesText : Tables → ℕ → List ℕ
+typeLinesText t i = countText (bytes "type=") (typeOf t i .places) ++ initialText (typeOf t i .initial)
+
+unfoldable pub typeRowsText : Tables → ℕ → List ℕ
+typeRowsText t i =
+    rowsText Transitions t i (typeOf t i .transitions) ++ rowsText Behaviors t i (typeOf t i .behaviors) ++ rowsText Ports t i (typeOf t i .ports)
+
+unfoldable pub formLines : Tables → Program → List ℕ
+formLines t p =
+    countText (bytes "depth=") (t .depth) ++ inTurn (λ i. typeLinesText t i ++ typeRowsText t i) (t .count)
+    ++ inTurn (λ j. doText (instructionRow p j)) (p .count)
+
+unfoldable pub formText : Tables → Program → List ℕ
+formText t p = cellsOf (formLines t p)

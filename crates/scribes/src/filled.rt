@@ -1,0 +1,73 @@
+// Tables and a program as the lines of a form, each written into the part of the buffer that is still free.
+use crate::lines_of::put_instructions;
+use crate::lines_of::put_rows;
+use crate::rows::count_of;
+use sheet_inks::write_initial;
+use sheet_inks::write_one;
+use word_lines::Rows;
+use words::ProgramWords;
+use words::TableWords;
+use words::program::instructions;
+use words::tables::depth;
+use words::tables::initial_of;
+use words::tables::places_of;
+use words::tables::types;
+ghost use mathlib.Core.List.{_++_};
+ghost use Rattle.forms.specs.Write.{inTurn};
+ghost use Rattle.inks.specs.Written.{Written};
+ghost use Rattle.words.specs.Words.{tablesIn, programIn};
+ghost use Rattle.scribes.specs.Form.{typeLinesText, typeRowsText, formLines};
+
+// type=, initial=
+fn put_type_lines(t: &mut [u8], tables: &TableWords, i: u32) -> usize
+    ensures { λ r. ⌜ Written (now (t .entry)) (typeLinesText (tablesIn (now (tables .entry))) i) (now (t .exit)) 0 r ⌝ }
+{
+    let places = places_of(tables, i);
+    let initial = initial_of(tables, i);
+    let used = write_one(t, b"type=", places);
+    used + write_initial(&mut t[used..], initial)
+}
+
+// tran=, behavior=, port=
+fn put_type_rows(t: &mut [u8], tables: &TableWords, i: u32) -> usize
+    ensures { λ r. ⌜ Written (now (t .entry)) (typeRowsText (tablesIn (now (tables .entry))) i) (now (t .exit)) 0 r ⌝ }
+{
+    let ends = count_of(tables, Rows::Transitions, i);
+    let sets = count_of(tables, Rows::Behaviors, i);
+    let groups = count_of(tables, Rows::Ports, i);
+    let mut used = put_rows(t, tables, Rows::Transitions, i, ends);
+    used += put_rows(&mut t[used..], tables, Rows::Behaviors, i, sets);
+    used + put_rows(&mut t[used..], tables, Rows::Ports, i, groups)
+}
+
+fn put_form_type(t: &mut [u8], tables: &TableWords, i: u32) -> usize
+    ensures { λ r. ⌜ Written (now (t .entry)) (typeLinesText (tablesIn (now (tables .entry))) i ++ typeRowsText (tablesIn (now (tables .entry))) i)
+        (now (t .exit)) 0 r ⌝ }
+{
+    let used = put_type_lines(t, tables, i);
+    used + put_type_rows(&mut t[used..], tables, i)
+}
+
+fn put_form_types(t: &mut [u8], tables: &TableWords, count: u32) -> usize
+    ensures { λ r. ⌜ Written (now (t .entry))
+        (inTurn (λ i. typeLinesText (tablesIn (now (tables .entry))) i ++ typeRowsText (tablesIn (now (tables .entry))) i) count) (now (t .exit)) 0 r ⌝ }
+{
+    let mut used: usize = 0;
+    let mut i: u32 = 0;
+    while i < count {
+        used += put_form_type(&mut t[used..], tables, i);
+        i += 1;
+    }
+    used
+}
+
+pub(crate) fn put_form(t: &mut [u8], tables: &TableWords, program: &ProgramWords) -> usize
+    ensures { λ r. ⌜ Written (now (t .entry)) (formLines (tablesIn (now (tables .entry))) (programIn (now (program .entry)))) (now (t .exit)) 0 r ⌝ }
+{
+    let deep = depth(tables);
+    let count = types(tables);
+    let lines = instructions(program);
+    let mut used = write_one(t, b"depth=", deep);
+    used += put_form_types(&mut t[used..], tables, count);
+    used + put_instructions(&mut t[used..], program, lines)
+}
