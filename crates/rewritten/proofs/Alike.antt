@@ -30,7 +30,8 @@ use Rattle.rules.specs.PushB.{depthOf}
 use Rattle.rules.specs.Walk.{walkAnswer}
 use Rattle.judged.specs.Course.{Course, faulty, reached, goOn, defaultDepth, short, read, sheetCourse, both, courseUnder, course}
 use Rattle.judged.specs.Judged.{ending, judged, printing, printed}
-use Rattle.demands.proofs.AnswerText.{due-back, count-back, not-on, on-value, run-then, line-then}
+use Rattle.report.specs.Report.{countText}
+use Rattle.writing.proofs.Took.{takes-due, takes-count, not-on, on-value, run-then, line-then}
 use Rattle.rewritten.specs.Under.{judgedUnder, printedUnder, UnderTheNewRule}
 use Rattle.rewritten.specs.Rewritten.{oldDefault, oldHead, newHead, sheetAfter, rewritten, NothingElseAltered, LengthStays, AnotherDepthUnchanged, RewrittenOnce, JudgedAlike}
 use Rattle.rewritten.proofs.Depth.{deep, walk-same, mapRun, map-next, types-deep}
@@ -57,13 +58,13 @@ deep-on d (on t s) q = ap (λ (t : Tables). t .depth) (sym (on-value q))
 deep-on d (stop n s) q = absurd (not-on q)
 
 pub begins : (s r : List ℕ) (t : Tables) (p : Program) → sheet s ≡ on (t, p) r → t .depth ≡ 0 → (x : List ℕ) × (s ≡ oldHead ++ x)
-unfolding sheet headed oneText numberText digitsIn
+unfolding sheet headed countText oneText numberText digitsIn
 begins s r t p q z =
     line-then (dueLine (bytes "sheet=") 1) _ s q λ _ s₁ e₁ q. line-then (countLine (bytes "depth=") depthOk) _ s₁ q λ d s₂ e₂ q. line-then (countLine (bytes "types=") typesOk) _ s₂ q λ n s₃ e₃ q.
     run-then (each typeLines n 0 (headed d n) s₃) _ q λ u s₄ e₄ q. line-then (countLine (bytes "program=") programOk) _ s₄ q λ k s₅ e₅ q.
     run-then (each (instructionAt n) k 0 (programOf k) s₅) _ q λ v s₆ e₆ q. run-then (atEnd s₆) _ q λ _ s₇ e₇ q.
     let is : d ≡ 0 = sym (deep-on d (each typeLines n 0 (headed 0 n) s₃) (sym (types-deep d n 0 (headed 0 n) s₃) ∙ e₄)) ∙ ap (λ (x : Tables × Program). x .0 .depth) (on-value q) ∙ z in
-    (s₂, due-back (bytes "sheet=") 1 s e₁ ∙ ap (λ (l : List ℕ). bytes "sheet=1\n" ++ l) (count-back (bytes "depth=") depthOk s₁ e₂ .0 ∙ ap (λ (n : ℕ). bytes "depth=" ++ oneText n ++ s₂) is))
+    (s₂, takes-due (bytes "sheet=") 1 s e₁ ∙ ap (λ (l : List ℕ). bytes "sheet=1\n" ++ l) (takes-count (bytes "depth=") depthOk s₁ e₂ .0 ∙ ap (λ (n : ℕ). bytes "depth=" ++ oneText n ++ s₂) is))
 
 -- with the depth d in the tables
 deeper : ℕ → Tables × Program → Tables × Program

@@ -9,7 +9,7 @@ use Rattle.model.specs.View.{typeOf}
 use Rattle.report.specs.Report.{countText}
 use Rattle.writing.specs.Kinds.{initialText, doText}
 use Rattle.writing.specs.Texts.{instructionRow}
-use Rattle.word_lines.specs.declared.Rows.the-variants.{Transitions, Behaviors, Ports}
+use Rattle.sheet_lines.specs.declared.Rows.the-variants.{Transitions, Behaviors, Ports}
 use Rattle.cells.specs.Cells.{cellsOf}
 use Rattle.scribes.specs.Parts.{rowsText}
 

@@ -4,7 +4,7 @@ use crate::lines_of::put_rows;
 use crate::rows::count_of;
 use sheet_inks::write_initial;
 use sheet_inks::write_one;
-use word_lines::Rows;
+use sheet_lines::Rows;
 use words::ProgramWords;
 use words::TableWords;
 use words::program::instructions;
