@@ -54,3 +54,14 @@ pub fn tell(unread: bool) {
         io::write_all(HEARD, b"0");
     }
 }
+
+// The same of a program that may refuse what it read: 4 where it did.
+pub fn tell_of(unread: bool, refused: bool) {
+    if unread {
+        io::write_all(HEARD, b"3");
+    } else if refused {
+        io::write_all(HEARD, b"4");
+    } else {
+        io::write_all(HEARD, b"0");
+    }
+}

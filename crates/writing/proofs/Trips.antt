@@ -1,11 +1,12 @@
 -- The round trips of both texts, and what a writer promises of a lent buffer holds of one answer only.
 -- Assumes nothing.
-use Prim.Native.Nat.{ℕ}
+use Prim.Native.Nat.{ℕ, _+_, _≤_}
 use mathlib.Core.Bool.{true}
 use mathlib.Core.List.{List, [], _++_}
 use mathlib.Core.Path.{_≡_, sym, ap, ap₂, _∙_}
 use mathlib.Core.Logic.{_≢_}
-use lib.ListN.{length, drop}
+use native.Mathlib.Omega.{arith}
+use lib.ListN.{length, drop, length-append}
 use Rattle.model.specs.declared.Tables.{Tables}
 use Rattle.model.specs.declared.Program.{Program}
 use Rattle.model.specs.declared.Answer.{Answer}
@@ -60,3 +61,10 @@ unfolding NoOtherPenned
 no-other-penned n x old b c k l v w p q =
     let same : v ≡ w = p .written-is ∙ sym (q .written-is) in
     (p .new-is ∙ ap (λ (i : ℕ). penned n x (length old) ++ drop i old) same ∙ sym (q .new-is), p .refused-is ∙ sym (q .refused-is), same)
+
+-- what was written lies within the buffer
+pub penned-within : {n : ℕ} {x old new : List ℕ} {k b : ℕ} → Penned n x old new k b → b ≤ length new
+penned-within {n} {x} {old} {new} {k} {b} p =
+    let l = length-append (penned n x (length old)) (drop b old) in
+    let e : length new ≡ length (penned n x (length old)) + length (drop b old) = ap length (p .new-is) ∙ l in
+    omega (arith, p .written-is)
