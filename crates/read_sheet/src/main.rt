@@ -1,5 +1,5 @@
 // A sheet as a form: the sheet from standard input; out goes the form, rows of cells, or on standard error the number and the line at fault.
-// Promised by word_sheets and scribes: what each of the two calls in `form_of` gives. Shown here: no index is out of range, and the program ends.
+// Promised by sheets and scribes: what each of the two calls in `form_of` gives. Shown here: no index is out of range, and the program ends.
 // Called with an argument, as bin/read-sheet calls it, it tells on descriptor 3 how it ended.
 use libc::STDERR_FILENO;
 use libc::STDIN_FILENO;
@@ -31,7 +31,7 @@ fn form_of(sheet: &[u8], out: &mut [u8]) -> Drafted
 {
     let mut tables = [0u32; 2002];
     let mut program = [0u32; 1281];
-    let read = word_sheets::fill_sheet(sheet, &mut tables, &mut program);
+    let read = sheets::fill_sheet(sheet, &mut tables, &mut program);
     if read.refused != 0 {
         let line = line_at_fault(sheet, read.refused, read.place);
         let fault = Fault {

@@ -1,5 +1,5 @@
 // A form as a sheet: the form, rows of cells, from standard input; out goes the sheet, or on standard error the number and the row at fault.
-// Promised by cells, word_sheets and scribes: what each of the three calls in `sheet_of` gives. Shown here: no index is out of range, and the program ends.
+// Promised by cells, sheets and scribes: what each of the three calls in `sheet_of` gives. Shown here: no index is out of range, and the program ends.
 // Called with an argument, as bin/write-sheet calls it, it tells on descriptor 3 how it ended.
 use forms::TOO_LONG;
 use libc::STDERR_FILENO;
@@ -26,7 +26,7 @@ fn write_lines(rows: &[u8], text: &mut [u8]) -> usize
 fn read_form(rows: &[u8], tables: &mut TableWords, program: &mut ProgramWords) -> Fault {
     let mut text = [0u8; 32769];
     let used = write_lines(rows, &mut text);
-    let read = word_sheets::fill_form(&text[..used], tables, program);
+    let read = sheets::fill_form(&text[..used], tables, program);
     if read.refused == 0 {
         return Fault {
             refused: 0,
