@@ -6,6 +6,7 @@ use judged::Verdict;
 use judging::Judged;
 use libc::STDIN_FILENO;
 use libc::STDOUT_FILENO;
+use model::Concerned;
 use model::Text;
 use texts::Digits;
 use texts::Due;
@@ -217,6 +218,7 @@ fn judge_plan(sheet: &[u8], answer: &[u8], report: &mut [u8]) -> Judged
     let text = said.text;
     let verdict = Verdict {
         refused: said.refused,
+        port: Concerned::NoPort,
         accepted: said.accepted,
         next: 0,
         written: said.written,
