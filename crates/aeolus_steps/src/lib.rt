@@ -483,7 +483,8 @@ fn carry_out(universe: &Universe, deployed: &mut Deployed, step: Step)
 // An action whose own condition holds: 68 or 69 and nothing changed, or 0 and what it does.
 fn reach(universe: &Universe, deployed: &mut Deployed, step: Step) -> u32
     ensures { λ r. ⌜ record { refused = r; configuration = configurationIn (now (deployed .exit)) } ≡ settle
-        (reachedCheck (universeIn (now (universe .entry))) (effect (universeIn (now (universe .entry))) (configurationIn (now (deployed .entry))) (actionOf step)))
+        (reachedCheck (universeIn (now (universe .entry)))
+        (effect (universeIn (now (universe .entry))) (configurationIn (now (deployed .entry))) (actionOf step)))
         (configurationIn (now (deployed .entry))) (effect (universeIn (now (universe .entry))) (configurationIn (now (deployed .entry))) (actionOf step)) ⌝ }
 {
     let before = *deployed;

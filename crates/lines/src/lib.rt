@@ -122,7 +122,8 @@ pub fn within_at(
     least: u32,
     greatest: u32,
 ) -> Line
-    ensures { λ r. ⌜ CountsIn (now (text .entry)) least greatest r (countLineIn (most digits) (now (key .entry)) (inRange least greatest) (drop at (now (text .entry)))) ⌝ }
+    ensures { λ r. ⌜ CountsIn (now (text .entry)) least greatest r
+        (countLineIn (most digits) (now (key .entry)) (inRange least greatest) (drop at (now (text .entry)))) ⌝ }
 {
     let start = texts::place_in(text, at);
     let line = within_line(&text[start..], key, digits, least, greatest);
