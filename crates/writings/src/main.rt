@@ -46,7 +46,7 @@ fn pen_answer(answer: &[u32; 3073], out: &mut [u8]) -> Written
 fn same_sheet(text: &[u8]) -> bool {
     let mut tables = [0u32; 2002];
     let mut program = [0u32; 1281];
-    word_sheets::fill_sheet(text, &mut tables, &mut program);
+    sheets::fill_sheet(text, &mut tables, &mut program);
     let mut out = [0u8; 32768];
     let written = pen_sheet(&tables, &program, &mut out);
     let bytes = written.bytes;
@@ -55,7 +55,7 @@ fn same_sheet(text: &[u8]) -> bool {
 
 fn same_answer(text: &[u8]) -> bool {
     let mut answer = [0u32; 3073];
-    word_answers::fill_answer(text, &mut answer);
+    answers::fill_answer(text, &mut answer);
     let mut out = [0u8; 32768];
     let written = pen_answer(&answer, &mut out);
     let bytes = written.bytes;
@@ -115,7 +115,7 @@ fn write_sheet(all: &[u32; 6358], out: &mut [u8]) {
     lend(all, 2002, 1281, &mut program);
     let written = pen_sheet(&tables, &program, out);
     let bytes = written.bytes;
-    let read = word_sheets::fill_sheet(&out[..bytes], &mut tables, &mut program);
+    let read = sheets::fill_sheet(&out[..bytes], &mut tables, &mut program);
     show_written(written.refused, bytes, read.refused, out);
 }
 
@@ -124,7 +124,7 @@ fn write_answer(all: &[u32; 6358], out: &mut [u8]) {
     lend(all, 3283, 3073, &mut answer);
     let written = pen_answer(&answer, out);
     let bytes = written.bytes;
-    let read = word_answers::fill_answer(&out[..bytes], &mut answer);
+    let read = answers::fill_answer(&out[..bytes], &mut answer);
     show_written(written.refused, bytes, read.refused, out);
 }
 
