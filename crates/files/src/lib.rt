@@ -1,5 +1,6 @@
 // What the programs read, with the reads that failed, and what they tell the script that called them.
 // Promised: a count within the lent buffer, and no more. What a file holds and whether a call succeeds no contract can say.
+use libc::STDERR_FILENO;
 ghost use Rattle.io.specs.Counts.{Counts};
 
 // The descriptor on which a script hears how a program ended, since a program has no exit status.
@@ -46,16 +47,8 @@ pub fn read_text(file: i32, text: &mut [u8]) -> Read
     }
 }
 
-// What the script ends with: 0, or 3 where something could not be read. A program that could not write all of its report tells nothing.
-pub fn tell(unread: bool) {
-    if unread {
-        io::write_all(HEARD, b"3");
-    } else {
-        io::write_all(HEARD, b"0");
-    }
-}
-
-// The same of a program that may refuse what it read: 4 where it did.
+// What the script ends with: 0, 3 where something could not be read, or 4 where what was read is refused. A program that could not write all of its report
+// tells nothing.
 pub fn tell_of(unread: bool, refused: bool) {
     if unread {
         io::write_all(HEARD, b"3");
@@ -64,4 +57,19 @@ pub fn tell_of(unread: bool, refused: bool) {
     } else {
         io::write_all(HEARD, b"0");
     }
+}
+
+// The same of a program whose report says what is refused.
+pub fn tell(unread: bool) {
+    tell_of(unread, false);
+}
+
+// On standard error: the text that is refused, the line at fault, and the number.
+pub fn say_fault(text: &[u8], line: usize, refused: u8) {
+    io::write_all(STDERR_FILENO, text);
+    io::write_all(STDERR_FILENO, b"line=");
+    io::print_decimal(STDERR_FILENO, line as u64);
+    io::write_all(STDERR_FILENO, b"\nrefused=");
+    io::print_decimal(STDERR_FILENO, refused as u64);
+    io::write_all(STDERR_FILENO, b"\n");
 }

@@ -1,7 +1,6 @@
 // A sheet as a form: the sheet from standard input; out goes the form, rows of cells, or on standard error the number and the line at fault.
 // Promised by sheets and scribes: what each of the two calls in `form_of` gives. Shown here: no index is out of range, and the program ends.
 // Called with an argument, as bin/read-sheet calls it, it tells on descriptor 3 how it ended.
-use libc::STDERR_FILENO;
 use libc::STDIN_FILENO;
 use libc::STDOUT_FILENO;
 ghost use Rattle.io.specs.Counts.{Counts};
@@ -51,14 +50,6 @@ fn form_of(sheet: &[u8], out: &mut [u8]) -> Drafted
     }
 }
 
-fn say(fault: Fault) -> bool {
-    io::write_all(STDERR_FILENO, b"text=sheet\nline=");
-    io::print_decimal(STDERR_FILENO, fault.line as u64);
-    io::write_all(STDERR_FILENO, b"\nrefused=");
-    io::print_decimal(STDERR_FILENO, fault.refused as u64);
-    io::write_all(STDERR_FILENO, b"\n")
-}
-
 // A sheet has room for a byte more than it may have, so that a longer one still gets 1.
 fn main() {
     let mut sheet = [0u8; 32769];
@@ -70,14 +61,13 @@ fn main() {
     let mut out = [0u8; 32768];
     let drafted = form_of(&sheet[..n], &mut out);
     let used = drafted.bytes;
-    let mut done = io::write_all(STDOUT_FILENO, &out[..used]);
+    let done = io::write_all(STDOUT_FILENO, &out[..used]);
     let fault = drafted.fault;
-    if fault.refused != 0 {
-        done = say(fault);
+    let refused = fault.refused != 0;
+    if refused {
+        files::say_fault(b"text=sheet\n", fault.line, fault.refused);
     }
-    if done {
-        if 1 < os::arg_count() {
-            files::tell_of(read.failed, fault.refused != 0);
-        }
+    if done & (1 < os::arg_count()) {
+        files::tell_of(read.failed, refused);
     }
 }

@@ -2,7 +2,6 @@
 // Promised by cells, sheets and scribes: what each of the three calls in `sheet_of` gives. Shown here: no index is out of range, and the program ends.
 // Called with an argument, as bin/write-sheet calls it, it tells on descriptor 3 how it ended.
 use forms::TOO_LONG;
-use libc::STDERR_FILENO;
 use libc::STDIN_FILENO;
 use libc::STDOUT_FILENO;
 use lines::LONGEST;
@@ -73,14 +72,6 @@ fn sheet_of(rows: &[u8], out: &mut [u8]) -> Drafted
     }
 }
 
-fn say(fault: Fault) -> bool {
-    io::write_all(STDERR_FILENO, b"text=form\nline=");
-    io::print_decimal(STDERR_FILENO, fault.line as u64);
-    io::write_all(STDERR_FILENO, b"\nrefused=");
-    io::print_decimal(STDERR_FILENO, fault.refused as u64);
-    io::write_all(STDERR_FILENO, b"\n")
-}
-
 // A form has room for a byte more than it may have, so that a longer one still gets 1.
 fn main() {
     let mut rows = [0u8; 32769];
@@ -92,14 +83,13 @@ fn main() {
     let mut out = [0u8; 32768];
     let drafted = sheet_of(&rows[..n], &mut out);
     let used = drafted.bytes;
-    let mut done = io::write_all(STDOUT_FILENO, &out[..used]);
+    let done = io::write_all(STDOUT_FILENO, &out[..used]);
     let fault = drafted.fault;
-    if fault.refused != 0 {
-        done = say(fault);
+    let refused = fault.refused != 0;
+    if refused {
+        files::say_fault(b"text=form\n", fault.line, fault.refused);
     }
-    if done {
-        if 1 < os::arg_count() {
-            files::tell_of(read.failed, fault.refused != 0);
-        }
+    if done & (1 < os::arg_count()) {
+        files::tell_of(read.failed, refused);
     }
 }
