@@ -8,7 +8,7 @@ use model::Text;
 
 fn tell(refused: bool) {
     if 1 < os::arg_count() {
-        files::tell(refused);
+        files::tell_of(false, refused);
     }
 }
 
