@@ -1,13 +1,15 @@
 -- The answer's text: read as what it says or refused with its number, what was read is written as it was, and lawful is just what has no fault.
 -- Assumes nothing.
-use Prim.Native.Nat.{ℕ, suc, _+_, _*_, _^_, _≤_, _<_}
-use mathlib.Core.Bool.{Bool, true, false, _&&_, _||_, cond, or-false}
+use Prim.Native.Nat.{ℕ, zero, suc, _+_, _*_, _^_, _≤_, _<_}
+use mathlib.Core.Bool.{Bool, true, false, not, _&&_, _||_, cond}
+use mathlib.Core.Logic.{_≢_, by-cases}
 use mathlib.Core.List.{List, [], _++_, append-nil}
 use mathlib.Core.Path.{_≡_, refl, sym, ap, _∙_}
 use native.Mathlib.Omega.{arith}
-use lib.Dec.{eqb, ltb}
+use native.Mathlib.Decide.{ℕ-discrete}
+use lib.Dec.{eqb, leb, ltb}
 use lib.ListN.{length, length-append}
-use borrow.Author.Tests.{leb-true, eqb-true}
+use borrow.Author.Tests.{leb-true, eqb-true, le-leb, eq-eqb, ne-eqb}
 use Rattle.sets.specs.Test.{allBelow}
 use Rattle.sets.proofs.Laws.{all-at, all-of}
 use Rattle.forms.specs.Reader.{bytes}
@@ -24,15 +26,17 @@ use Rattle.reading.specs.Fill.{answerOf, withStep}
 use Rattle.reading.specs.Texts.{stepAt, answer}
 use Rattle.reading.specs.Lawful.{stepLawful, answerLawful}
 use Rattle.reading.proofs.Slots.{stepSlots, steps-sound}
+use Rattle.rules.specs.Refusal.{_⇒_∣_, orNumber}
 use Rattle.report.specs.Report.{countText}
 use Rattle.report.proofs.Sums.{length-inTurn, sum-le}
 use Rattle.report.proofs.Widths.{number-le}
 use Rattle.report.proofs.Bound.{count-le}
 use Rattle.writing.specs.Kinds.{limitFault, stepText, stepFault}
 use Rattle.writing.specs.Texts.{firstOf, stepRow, answerText, answerFault}
+use Rattle.writing.specs.Buffer.{writeNumber}
 use Rattle.writing.specs.Cleared.{column, spokenStep, clearedAnswer}
-use Rattle.writing.specs.Round.{Digits, DigitsOfStep, HeldSteps, AnswersAreShort}
-use Rattle.writing.proofs.Turns.{or-both, first-none, first-zero, limit-met}
+use Rattle.writing.specs.Round.{Digits, DigitsOfStep, HeldSteps, AnswersAreShort, OneNeverOfAnswers}
+use Rattle.writing.proofs.Turns.{or-zero, or-some, or-both, first-none, first-zero, limit-met}
 use Rattle.writing.proofs.Says.{Says, says-line, says-map, says-all, Ends, ends-then, ends-here}
 use Rattle.writing.proofs.Written.{says-due, says-count, says-step}
 use Rattle.writing.proofs.Columns.{column-none, column-set, up-none, up-next}
@@ -190,3 +194,45 @@ answers-are-short a e =
       length-inTurn (λ j. stepText (stepRow a j)) (a .count),
       sum-le (λ j. length (stepText (stepRow a j))) 17 (a .count) (λ j h. step-le (stepRow a j) (lines j h)),
     ))
+
+-- no line of an answer gets 1
+limit-not-one : (b : Bool) → limitFault b ≢ 1
+limit-not-one true e = omega arith
+limit-not-one false e = omega arith
+
+or-not-one : (a b : ℕ) → a ≢ 1 → b ≢ 1 → orNumber a b ≢ 1
+or-not-one a b p q e = by-cases (ℕ-discrete a 0) (λ z. q (sym (or-zero a b z) ∙ e)) (λ z. p (sym (or-some a b z) ∙ e))
+
+first-not-one : (f : ℕ → ℕ) → ((x : ℕ) → f x ≢ 1) → (n : ℕ) → firstOf f n ≢ 1
+unfolding firstOf
+first-not-one f h zero e = omega arith
+first-not-one f h (suc n) e = or-not-one (firstOf f n) (f n) (first-not-one f h n) (h n) e
+
+step-not-one : (x : Step) → stepFault x ≢ 1
+unfolding stepFault
+step-not-one x =
+    go (eqb (x .verb) nextVerb) (eqb (x .verb) fireVerb || eqb (x .verb) enterVerb) (eqb (x .verb) endVerb) (eqb (x .verb) finishVerb)
+  where
+    go : (n f e z : Bool) → cond n 0 (cond f (limitFault (idOk (x .id) && placeOk (x .number))) (cond e (limitFault (idOk (x .id) && transitionOk (x .number))) (cond z (limitFault (idOk (x .id))) 2))) ≢ 1
+    go true f e z q = omega arith
+    go false true e z q = limit-not-one (idOk (x .id) && placeOk (x .number)) q
+    go false false true z q = limit-not-one (idOk (x .id) && transitionOk (x .number)) q
+    go false false false true q = limit-not-one (idOk (x .id)) q
+    go false false false false q = omega arith
+
+fault-not-one : (a : Answer) → answerFault a ≢ 1
+unfolding answerFault
+fault-not-one a =
+    or-not-one (limitFault (stepsOk (a .count))) (firstOf (λ j. stepFault (stepRow a j)) (a .count)) (limit-not-one (stepsOk (a .count)))
+    (first-not-one (λ j. stepFault (stepRow a j)) (λ j. step-not-one (stepRow a j)) (a .count))
+
+pub one-never-of-answers : OneNeverOfAnswers
+unfolding OneNeverOfAnswers writeNumber AnswersAreShort
+one-never-of-answers a room e =
+    by-cases (ℕ-discrete (answerFault a) 0)
+    (λ z. not-one (leb (length (answerText a)) room) (rw (eq-eqb (answerFault a) 0 z, le-leb (length (answerText a)) 32768 (omega (arith, answers-are-short a z))) at e))
+    (λ z. fault-not-one a (rw (ne-eqb (answerFault a) 0 z) at e))
+  where
+    not-one : (b : Bool) → (not b ⇒ 6 ∣ 0) ≢ 1
+    not-one true q = omega arith
+    not-one false q = omega arith

@@ -15,6 +15,8 @@ use Rattle.reading.specs.Lines.{Lines, on, stop}
 use Rattle.reading.specs.Texts.{sheet, answer}
 use Rattle.reading.specs.Lawful.{Lawful, answerLawful}
 use Rattle.writing.specs.Texts.{sheetText, sheetFault, answerText, answerFault, transitionRow, behaviorRow, portRow, instructionRow, stepRow}
+use Rattle.forms.specs.Refusal.{tooLong}
+use Rattle.writing.specs.Buffer.{writeNumber}
 use Rattle.writing.specs.Cleared.{cleared, spoken, clearedProgram, spokenStep, clearedAnswer}
 
 -- what can be written so that it is read: a number has at most five digits, a mask members below 32; only rows that count are looked at
@@ -102,3 +104,6 @@ AnswersRoundTrip = RoundTrips anAnswer
 -- an answer is never too long: 9 bytes, 11 bytes, and 17 for each of 1,024 steps
 unfoldable pub AnswersAreShort : Type 0
 AnswersAreShort = (a : Answer) → answerFault a ≡ 0 → length (answerText a) ≤ 17428
+
+unfoldable pub OneNeverOfAnswers : Type 0
+OneNeverOfAnswers = (a : Answer) (room : ℕ) → writeNumber (answerFault a) (answerText a) room ≢ tooLong

@@ -1,5 +1,6 @@
-// A test program. An argument names a sheet or an answer: it is read, written and compared, `NAME same`. Or it names words, lines `PLACE,HIGH,LOW`, the
-// others 0, and a room: `NAME refused=N bytes=B read=R`, what the writer answers and what the reader says of the text, then the text. make.py writes the cases.
+// A test program. An argument names a sheet or an answer: it is read, written and compared, a sheet by way of a form too, `NAME same`. Or it names words,
+// lines `PLACE,HIGH,LOW`, the others 0, with a room: `NAME refused=N bytes=B read=R beside=S`, what the writer answers, what the reader says of the text, and
+// how many bytes of the buffer are as they were; then the text. make.py writes the cases.
 mod lent;
 
 use lent::lend;
@@ -43,6 +44,28 @@ fn pen_answer(answer: &[u32; 3073], out: &mut [u8]) -> Written
     scribes::write_answer(answer, out)
 }
 
+fn pen_form(tables: &[u32; 2002], program: &[u32; 1281], out: &mut [u8]) -> Written
+    ensures { λ r. ⌜ Counts (r .bytes) (now (out .exit)) ⌝ }
+{
+    scribes::write_form(tables, program, out)
+}
+
+fn write_lines(rows: &[u8], text: &mut [u8]) -> usize
+    ensures { λ r. ⌜ Counts r (now (text .exit)) ⌝ }
+{
+    cells::write_lines(rows, text)
+}
+
+// Through a form and back.
+fn through_form(tables: &mut [u32; 2002], program: &mut [u32; 1281]) {
+    let mut out = [0u8; 32768];
+    let written = pen_form(tables, program, &mut out);
+    let bytes = written.bytes;
+    let mut text = [0u8; 32769];
+    let used = write_lines(&out[..bytes], &mut text);
+    word_sheets::fill_form(&text[..used], tables, program);
+}
+
 fn same_sheet(text: &[u8]) -> bool {
     let mut tables = [0u32; 2002];
     let mut program = [0u32; 1281];
@@ -50,7 +73,11 @@ fn same_sheet(text: &[u8]) -> bool {
     let mut out = [0u8; 32768];
     let written = pen_sheet(&tables, &program, &mut out);
     let bytes = written.bytes;
-    check::same(&out[..bytes], text)
+    let same = check::same(&out[..bytes], text);
+    through_form(&mut tables, &mut program);
+    let written = pen_sheet(&tables, &program, &mut out);
+    let bytes = written.bytes;
+    same & check::same(&out[..bytes], text)
 }
 
 fn same_answer(text: &[u8]) -> bool {
