@@ -63,7 +63,7 @@ fn through_form(tables: &mut [u32; 2002], program: &mut [u32; 1281]) {
     let bytes = written.bytes;
     let mut text = [0u8; 32769];
     let used = write_lines(&out[..bytes], &mut text);
-    word_sheets::fill_form(&text[..used], tables, program);
+    sheets::fill_form(&text[..used], tables, program);
 }
 
 fn same_sheet(text: &[u8]) -> bool {
