@@ -1,7 +1,5 @@
--- The lowest that fails (Lowest), what a port gets by itself (Told); the port check by what is had before and after a move is the port check by
--- the instance after it (Ports); where nothing has ended nothing can be entered (Ended); the provide ports in use, row by row (InUse).
+-- The port check by what is had before and after a move is the port check by the instance after it (Ports); where nothing has ended nothing can be entered (Ended); the provide ports in use, row by row (InUse).
 pub mod Lowest
-pub mod Told
 pub mod Ports
 pub mod InUse
 pub mod Ended

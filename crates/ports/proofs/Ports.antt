@@ -35,7 +35,6 @@ use Rattle.words.specs.Parts.{serverOf}
 use Rattle.words.proofs.Served.{hasServer, looked}
 use Rattle.ports.specs.declared.Sets.{Sets}
 use Rattle.ports.proofs.Lowest.{lowest-low, lowest-same}
-use Rattle.ports.proofs.Told.{told, unconnected-told, unserved-told, refusing-told, ending-told, use-told}
 use Rattle.ports.specs.Turns.{activeIn, leavesBy, refusingAt, useRefusal, portRefusal, setsOf, gets, endingBelow, aboutOf, answered, found, portsRefusal, checked, changed, turned, turnAnswer}
 
 -- ---- places that would leave
@@ -74,6 +73,68 @@ module _ (t : Tables) (c : Configuration) (full : length (c .servers) ≡ 512) (
   use-looked before = rw (linked-looked, serves-looked, blocks-looked)
 
 -- ---- all ports in one pass
+
+-- what a port gets: a use port or not, active after and before, connected, served, refused
+abbrev told : Bool → Bool → Bool → Bool → Bool → Bool → ℕ
+told u a b l s k =
+    cond u (cond a (not l ⇒ unconnected ∣ not s ⇒ unserved ∣ not b && k ⇒ providerRefusing ∣ allowed) allowed) (b && not a ⇒ serviceInUse ∣ allowed)
+
+unconnected-told : (u a b l s k : Bool) → eqb (told u a b l s k) unconnected ≡ (u && (a && not l))
+unconnected-told true true b false s k = refl
+unconnected-told true true b true false k = refl
+unconnected-told true true true true true k = refl
+unconnected-told true true false true true true = refl
+unconnected-told true true false true true false = refl
+unconnected-told true false b l s k = refl
+unconnected-told false true true l s k = refl
+unconnected-told false true false l s k = refl
+unconnected-told false false true l s k = refl
+unconnected-told false false false l s k = refl
+
+unserved-told : (u a b l s k : Bool) → (u && (a && not l)) ≡ false → eqb (told u a b l s k) unserved ≡ (u && (a && not s))
+unserved-told true true b false s k e = absurd (false≢true (sym e))
+unserved-told true true b true false k e = refl
+unserved-told true true true true true k e = refl
+unserved-told true true false true true true e = refl
+unserved-told true true false true true false e = refl
+unserved-told true false b l s k e = refl
+unserved-told false true true l s k e = refl
+unserved-told false true false l s k e = refl
+unserved-told false false true l s k e = refl
+unserved-told false false false l s k e = refl
+
+refusing-told : (u a b l s k : Bool) → (u && (a && not l)) ≡ false → (u && (a && not s)) ≡ false
+    → eqb (told u a b l s k) providerRefusing ≡ (u && (a && (not b && k)))
+refusing-told true true b false s k e f = absurd (false≢true (sym e))
+refusing-told true true b true false k e f = absurd (false≢true (sym f))
+refusing-told true true true true true k e f = refl
+refusing-told true true false true true true e f = refl
+refusing-told true true false true true false e f = refl
+refusing-told true false b l s k e f = refl
+refusing-told false true true l s k e f = refl
+refusing-told false true false l s k e f = refl
+refusing-told false false true l s k e f = refl
+refusing-told false false false l s k e f = refl
+
+ending-told : (u a b l s k : Bool) → eqb (told u a b l s k) serviceInUse ≡ (not u && (b && not a))
+ending-told true true b false s k = refl
+ending-told true true b true false k = refl
+ending-told true true true true true k = refl
+ending-told true true false true true true = refl
+ending-told true true false true true false = refl
+ending-told true false b l s k = refl
+ending-told false true true l s k = refl
+ending-told false true false l s k = refl
+ending-told false false true l s k = refl
+ending-told false false false l s k = refl
+
+-- 38 and 34 are of use ports
+use-told : (u a b l s k : Bool) → (eqb (told u a b l s k) unconnected || eqb (told u a b l s k) unserved) ≡ true → u ≡ true
+use-told true a b l s k e = refl
+use-told false true true l s k e = e
+use-told false true false l s k e = e
+use-told false false true l s k e = e
+use-told false false false l s k e = e
 
 -- those below n that pass, of the 32, one by one
 module _ (p : ℕ → Bool) (q : ℕ) where

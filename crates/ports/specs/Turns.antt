@@ -98,8 +98,7 @@ abbrev pub aboutOf : ℕ → ℕ → ℕ → Concerned
 aboutOf first second m = cond (eqb m unconnected) (UsePort first) (cond (eqb m unserved) (UsePort second) NoPort)
 
 unfoldable pub portsRefusal : Tables → Configuration → ℕ → Sets → Answered
-portsRefusal t c i next =
-    answered (aboutOf (found t c i next .unconnected) (found t c i next .unserved)) (numberFound t c i (portsOf t (instance c i)) (found t c i next))
+portsRefusal t c i next = answered (aboutOf (found t c i next .unconnected) (found t c i next .unserved)) (numberFound t c i (portsOf t (instance c i)) (found t c i next))
 
 -- the port check where instance i becomes w
 abbrev pub checked : Tables → Configuration → ℕ → Instance → Answered
