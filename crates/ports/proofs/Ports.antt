@@ -21,6 +21,7 @@ use Rattle.model.specs.declared.Tables.{Tables}
 use Rattle.model.specs.declared.Instance.{Instance}
 use Rattle.model.specs.declared.Connection.{Connection}
 use Rattle.model.specs.declared.Configuration.{Configuration}
+use Rattle.model.specs.declared.Concerned.the-variants.{NoPort}
 use Rattle.model.specs.Empty.{absent}
 use Rattle.model.specs.View.{isUse, instance, groupPlaces, groupTransitions}
 use Rattle.rules.specs.Refusal.{_⇒_∣_, allowed, unconnected, unserved, providerRefusing, serviceInUse}
@@ -34,8 +35,9 @@ use Rattle.words.specs.Words.{tablesIn}
 use Rattle.words.specs.Parts.{serverOf}
 use Rattle.words.proofs.Served.{hasServer, looked}
 use Rattle.ports.specs.declared.Sets.{Sets}
-use Rattle.ports.proofs.Lowest.{lowest-low, lowest-same}
-use Rattle.ports.specs.Turns.{activeIn, leavesBy, refusingAt, useRefusal, portRefusal, setsOf, gets, endingBelow, aboutOf, answered, found, portsRefusal, checked, changed, turned, turnAnswer}
+use Rattle.ports.specs.declared.Answered.{Answered}
+use Rattle.ports.proofs.Lowest.{lowest-same}
+use Rattle.ports.specs.Turns.{activeIn, leavesBy, refusingAt, useRefusal, portRefusal, setsOf, gets, endingBelow, isUnconnected, aboutOf, answered, portsRefusal, checked, changed, turned, turnAnswer}
 
 -- ---- places that would leave
 
@@ -57,7 +59,7 @@ module _ (t : Tables) (c : Configuration) (full : length (c .servers) ≡ 512) (
   unfolding blocks
   blocks-looked = looked c full i q (λ k. refusingAt t c (k .provider) (k .provideport))
 
-  linked-looked : someConnection c (isOf i q) ≡ hasServer c full i q
+  pub linked-looked : someConnection c (isOf i q) ≡ hasServer c full i q
   unfolding isOf
   linked-looked =
       ap (someConnection c) (λ j k. eqb (k .user) i && sym (and-true (eqb (k .useport) q)) j)
@@ -171,11 +173,11 @@ use-low ws k q e =
     (λ far. absurd (false≢true (ap (λ (x : ℕ). eqb x 1) (sym (past-end (column ws 1024 256 3 0) 0 {i = k * 16 + q} (length-list 256 _) (omega arith))) ∙ e)))
 
 -- past 34 no port is named
-about-late : (r o : Bool) (a b d e : ℕ)
-    → answered (aboutOf a b) (r ⇒ providerRefusing ∣ o ⇒ serviceInUse ∣ allowed) ≡ answered (aboutOf d e) (r ⇒ providerRefusing ∣ o ⇒ serviceInUse ∣ allowed)
-about-late true o a b d e = refl
-about-late false true a b d e = refl
-about-late false false a b d e = refl
+pub late-unnamed : (r o : Bool) (a b : ℕ)
+    → _≡_ {A = Answered} (record { refused = r ⇒ providerRefusing ∣ o ⇒ serviceInUse ∣ allowed; port = NoPort }) (answered (aboutOf a b) (r ⇒ providerRefusing ∣ o ⇒ serviceInUse ∣ allowed))
+late-unnamed true o a b = refl
+late-unnamed false true a b = refl
+late-unnamed false false a b = refl
 
 module _ (t : Tables) (c : Configuration) (i : ℕ) where
   abbrev employed : ℕ → Bool
@@ -231,6 +233,12 @@ module _ (t : Tables) (c : Configuration) (i : ℕ) where
   unfolding portRefusal useRefusal
   gets-use next q = use-told (isUse t (v .kind) q) (activeIn t (v .kind) next q) (activeIn t (v .kind) (setsOf v) q) (linked q) (served q) (refused q)
 
+  -- 38 by the connection alone
+  pub gets-unconnected : (next : Sets) (q : ℕ) → gets t c i next unconnected q ≡ isUnconnected t c i (v .kind) next q
+  unfolding portRefusal useRefusal isUnconnected
+  gets-unconnected next q =
+      unconnected-told (isUse t (v .kind) q) (activeIn t (v .kind) next q) (activeIn t (v .kind) (setsOf v) q) (linked q) (served q) (refused q)
+
   module _ (w : Instance) (kind : w .kind ≡ v .kind) where
     gets-told : (number q : ℕ) → gets t c i (setsOf w) number q
         ≡ eqb (told (isUse t (w .kind) q) (active t w q) (active t v q) (linked q) (served q) (refused q)) number
@@ -283,17 +291,23 @@ module _ (t : Tables) (c : Configuration) (i : ℕ) where
               rw (lt-ltb q n h, ends, on),
             )
 
-    -- the numbers and the ports by what the pass found
+    -- the numbers and the ports by what each port gets
     pub ports-check : portsRefusal t c i (setsOf w) ≡ checked t c i w
-    unfolding portsRefusal found portCheck concerned
+    unfolding portsRefusal portCheck concerned
     ports-check =
         by-test (anyBelow n (failsUnconnected t (standing c) c i w))
-        (λ on. rw (lowest-low n (gets t c i (setsOf w) unconnected), first, on, lowest-same n _ _ (λ q h. unconnected-at q)))
+        (λ on. rw (first, on, lowest-same n _ _ (λ q h. unconnected-at q)))
         (λ off. by-test (anyBelow n (failsUnserved t (standing c) c i w))
-        (λ on. rw (lowest-low n (gets t c i (setsOf w) unconnected), first, off, lowest-low n (gets t c i (setsOf w) unserved), second off, on, lowest-same n _ _ (λ q h. unserved-at q (any-none n _ off q h))))
-        (λ out. rw (lowest-low n (gets t c i (setsOf w) unconnected), first, off, lowest-low n (gets t c i (setsOf w) unserved), second off, out, third off out, by-sets)
-        (about-late (anyBelow n (failsRefusing t (standing c) c i v w)) (anyBelow n (failsInUse t (standing c) c i v w)) _ _ _ _)))
+        (λ on. rw (first, off, second off, on, lowest-same n _ _ (λ q h. unserved-at q (any-none n _ off q h))))
+        (λ out. rw (first, off, second off, out, third off out, by-sets)
+        (sym (late-unnamed late used _ _) ∙ late-unnamed late used _ _)))
       where
+        late : Bool
+        late = anyBelow n (failsRefusing t (standing c) c i v w)
+
+        used : Bool
+        used = anyBelow n (failsInUse t (standing c) c i v w)
+
         first : anyBelow n (gets t c i (setsOf w) unconnected) ≡ anyBelow n (failsUnconnected t (standing c) c i w)
         first = any-same n _ _ (λ q h. unconnected-at q)
 

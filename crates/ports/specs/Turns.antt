@@ -1,6 +1,6 @@
 -- The port check by what an instance has before and after a move, port by port, and what a move takes and gives.
 use mathlib.Core.Bool.{Bool, not, _&&_, _||_, cond}
-use Prim.Native.Nat.{ℕ, _+_}
+use Prim.Native.Nat.{ℕ}
 use lib.Dec.{eqb, ltb}
 use Rattle.sets.specs.Test.{anyBelow, lowest}
 use Rattle.sets.specs.Mask.{collect, overlaps, joined, without}
@@ -16,7 +16,6 @@ use Rattle.rules.specs.Instance.{held, active, leaving, fired, portsOf}
 use Rattle.rules.specs.Ports.{behavior, refusing, isOf, serves, blocks, inUse, portCheck, concerned}
 use Rattle.ports.specs.declared.Sets.{Sets}
 use Rattle.ports.specs.declared.Answered.{Answered}
-use Rattle.ports.specs.declared.Found.{Found}
 
 -- the end of transition x, where it leaves or where it leads
 abbrev pub endOf : Tables → Bool → ℕ → ℕ → ℕ
@@ -65,40 +64,46 @@ gets t c i next n q = eqb (portRefusal t c i (instance c i .kind) (setsOf (insta
 abbrev pub endingBelow : Tables → Configuration → ℕ → Sets → ℕ → ℕ
 endingBelow t c i next n = collect 32 (λ q. ltb q n && gets t c i next serviceInUse q)
 
--- what the pass over the first n ports finds, and over all
-abbrev pub foundBelow : Tables → Configuration → ℕ → Sets → ℕ → Found
-foundBelow t c i next n = record {
-  unconnected = lowest n (gets t c i next unconnected);
-  unserved = lowest n (gets t c i next unserved);
-  refuses = anyBelow n (gets t c i next providerRefusing);
-  ending = endingBelow t c i next n;
-}
+-- port q of i is unconnected or unserved
+abbrev pub fails : Tables → Configuration → ℕ → Sets → ℕ → Bool
+fails t c i next q = gets t c i next unconnected q || gets t c i next unserved q
 
-unfoldable pub found : Tables → Configuration → ℕ → Sets → Found
-found t c i next = foundBelow t c i next (portsOf t (instance c i))
+-- the numbers past 38 and 34
+abbrev pub lateNumber : Tables → Configuration → ℕ → Sets → ℕ
+lateNumber t c i next =
+    anyBelow (portsOf t (instance c i)) (gets t c i next providerRefusing) ⇒ providerRefusing
+    ∣ overlaps (endingBelow t c i next (portsOf t (instance c i))) (inUse t (standing c) c i) ⇒ serviceInUse
+    ∣ allowed
 
--- of the first q and one more: the lowest that fails, where low is that of the first q
-abbrev pub lowestAfter : ℕ → ℕ → Bool → ℕ
-lowestAfter low q fails = cond (eqb low q && not fails) (low + 1) low
+-- what the first port gets that is unconnected or unserved, else the numbers past those
+unfoldable pub firstRefusal : Tables → Configuration → ℕ → Sets → Answered
+firstRefusal t c i next =
+    let low = lowest (portsOf t (instance c i)) (fails t c i next) in
+    cond (anyBelow (portsOf t (instance c i)) (fails t c i next))
+    (record { refused = portRefusal t c i (instance c i .kind) (setsOf (instance c i)) next low; port = UsePort low })
+    (record { refused = lateNumber t c i next; port = NoPort })
+
+-- port q of i, of type k, is a use port active after the move and has no connection
+unfoldable pub isUnconnected : Tables → Configuration → ℕ → ℕ → Sets → ℕ → Bool
+isUnconnected t c i k next q = isUse t k q && (activeIn t k next q && not (someConnection c (isOf i q)))
+
+unfoldable pub lowestUnconnected : Tables → Configuration → ℕ → Sets → ℕ
+lowestUnconnected t c i next = lowest (portsOf t (instance c i)) (gets t c i next unconnected)
 
 -- a number, and the use port it is about
 abbrev pub answered : (ℕ → Concerned) → ℕ → Answered
 answered about n = record { refused = n; port = about n }
 
--- the numbers by what was found, and the use port that each is about
-abbrev pub numberFound : Tables → Configuration → ℕ → ℕ → Found → ℕ
-numberFound t c i n f =
-    ltb (f .unconnected) n ⇒ unconnected
-    ∣ ltb (f .unserved) n ⇒ unserved
-    ∣ f .refuses ⇒ providerRefusing
-    ∣ overlaps (f .ending) (inUse t (standing c) c i) ⇒ serviceInUse
-    ∣ allowed
-
 abbrev pub aboutOf : ℕ → ℕ → ℕ → Concerned
 aboutOf first second m = cond (eqb m unconnected) (UsePort first) (cond (eqb m unserved) (UsePort second) NoPort)
 
+-- the numbers by what each port gets, and the use port that each is about
 unfoldable pub portsRefusal : Tables → Configuration → ℕ → Sets → Answered
-portsRefusal t c i next = answered (aboutOf (found t c i next .unconnected) (found t c i next .unserved)) (numberFound t c i (portsOf t (instance c i)) (found t c i next))
+portsRefusal t c i next =
+    answered (aboutOf (lowest (portsOf t (instance c i)) (gets t c i next unconnected)) (lowest (portsOf t (instance c i)) (gets t c i next unserved)))
+    (anyBelow (portsOf t (instance c i)) (gets t c i next unconnected) ⇒ unconnected
+    ∣ anyBelow (portsOf t (instance c i)) (gets t c i next unserved) ⇒ unserved
+    ∣ lateNumber t c i next)
 
 -- the port check where instance i becomes w
 abbrev pub checked : Tables → Configuration → ℕ → Instance → Answered

@@ -24,7 +24,7 @@ ghost use Rattle.model.specs.declared.Concerned.the-variants.{NoPort, UsePort};
 ghost use Rattle.model.specs.View.{instance};
 ghost use Rattle.rules.specs.Refusal.{_⇒_∣_};
 ghost use Rattle.words.specs.Words.{tablesIn, stateIn};
-ghost use Rattle.ports.specs.Turns.{useRefusal, portRefusal, lowestAfter, found, portsRefusal, turnAnswer};
+ghost use Rattle.ports.specs.Turns.{useRefusal, portRefusal, firstRefusal, isUnconnected, lowestUnconnected, portsRefusal, turnAnswer};
 
 const UNCONNECTED: u32 = 38;
 
@@ -44,15 +44,6 @@ pub struct Sets {
 pub struct Answered {
     pub refused: u32,
     pub port: Concerned,
-}
-
-// What one pass over the ports finds: the lowest that is unconnected and the lowest unserved, as many as there are where none is; whether
-// a provider refuses one; and those whose service ends.
-pub struct Found {
-    pub unconnected: u32,
-    pub unserved: u32,
-    pub refuses: bool,
-    pub ending: u32,
 }
 
 // The first test that holds gives its number, else what follows.
@@ -106,47 +97,6 @@ fn port_refusal(
     }
 }
 
-// The lowest port of the first q that failed, q where none did, becomes that of one more.
-fn lowest_after(low: u32, q: u32, fails: bool) -> u32
-    requires { ⌜ low < 4294967295 ⌝ }
-    ensures { λ r. ⌜ r ≡ lowestAfter low q fails ⌝ }
-{
-    if (low == q) & !fails { low + 1 } else { low }
-}
-
-// All ports of instance i in one pass, where after the move it has so much.
-fn look_over(tables: &TableWords, state: &StateWords, i: u32, next: Sets) -> Found
-    ensures { λ r. ⌜ r ≡ found (tablesIn (now (tables .entry))) (stateIn (now (state .entry))) i next ⌝ }
-{
-    let k = kind(state, i);
-    let was = Sets {
-        places: marked(state, i),
-        holds: held(state, i),
-    };
-    let n = ports_of(tables, k);
-    let mut unconnected: u32 = 0;
-    let mut unserved: u32 = 0;
-    let mut refuses = false;
-    let mut ending: u32 = 0;
-    let mut q: u32 = 0;
-    while q < n {
-        let x = port_refusal(tables, state, i, k, was, next, q);
-        unconnected = lowest_after(unconnected, q, x == UNCONNECTED);
-        unserved = lowest_after(unserved, q, x == UNSERVED);
-        refuses = refuses | (x == PROVIDER_REFUSING);
-        if x == SERVICE_IN_USE {
-            ending = sets::with(ending, q);
-        }
-        q += 1;
-    }
-    Found {
-        unconnected,
-        unserved,
-        refuses,
-        ending,
-    }
-}
-
 // A refusal that is about no port, and one about port q.
 pub fn about_none(refused: u32) -> Answered
     ensures { λ r. ⌜ r ≡ record { refused = refused; port = NoPort } ⌝ }
@@ -163,26 +113,92 @@ fn about(refused: u32, q: u32) -> Answered
     Answered { refused, port }
 }
 
-// What the pass tells of the move. Who uses the instance is looked up once, and only where a service ends.
-fn ports_refusal(tables: &TableWords, state: &StateWords, i: u32, next: Sets) -> Answered
-    ensures { λ r. ⌜ r ≡ portsRefusal (tablesIn (now (tables .entry))) (stateIn (now (state .entry))) i next ⌝ }
+// All ports of instance i in one pass, where after the move it has so much, up to the first that is unconnected or unserved. Who uses the
+// instance is looked up once, and only where a service ends.
+fn first_refusal(tables: &TableWords, state: &StateWords, i: u32, next: Sets) -> Answered
+    ensures { λ r. ⌜ r ≡ firstRefusal (tablesIn (now (tables .entry))) (stateIn (now (state .entry))) i next ⌝ }
 {
-    let n = ports_of(tables, kind(state, i));
-    let f = look_over(tables, state, i, next);
-    if f.unconnected < n {
-        return about(UNCONNECTED, f.unconnected);
+    let k = kind(state, i);
+    let was = Sets {
+        places: marked(state, i),
+        holds: held(state, i),
+    };
+    let n = ports_of(tables, k);
+    let mut refuses = false;
+    let mut ending: u32 = 0;
+    let mut q: u32 = 0;
+    while q < n {
+        let x = port_refusal(tables, state, i, k, was, next, q);
+        if x == UNCONNECTED {
+            return about(UNCONNECTED, q);
+        }
+        if x == UNSERVED {
+            return about(UNSERVED, q);
+        }
+        refuses = refuses | (x == PROVIDER_REFUSING);
+        if x == SERVICE_IN_USE {
+            ending = sets::with(ending, q);
+        }
+        q += 1;
     }
-    if f.unserved < n {
-        return about(UNSERVED, f.unserved);
-    }
-    if f.refuses {
+    if refuses {
         return about_none(PROVIDER_REFUSING);
     }
-    if f.ending == 0 {
+    if ending == 0 {
         return about_none(0);
     }
     let used = in_use(tables, state, i);
-    about_none(refuse_if(sets::overlaps(f.ending, used), SERVICE_IN_USE, 0))
+    about_none(refuse_if(sets::overlaps(ending, used), SERVICE_IN_USE, 0))
+}
+
+// Port q of instance i, which is of type k, is a use port active after the move and has no connection.
+fn is_unconnected(
+    tables: &TableWords,
+    state: &StateWords,
+    i: u32,
+    k: u32,
+    next: Sets,
+    q: u32,
+) -> bool
+    ensures { λ r. ⌜ r ≡ isUnconnected (tablesIn (now (tables .entry))) (stateIn (now (state .entry))) i k next q ⌝ }
+{
+    if is_use(tables, k, q) {
+        active_with(tables, k, next.places, next.holds, q) & (server_of(state, i, q) == 0)
+    } else {
+        false
+    }
+}
+
+// The lowest port of instance i that is unconnected, as many as there are where none is.
+fn lowest_unconnected(tables: &TableWords, state: &StateWords, i: u32, next: Sets) -> u32
+    ensures { λ r. ⌜ r ≡ lowestUnconnected (tablesIn (now (tables .entry))) (stateIn (now (state .entry))) i next ⌝ }
+{
+    let k = kind(state, i);
+    let n = ports_of(tables, k);
+    let mut q: u32 = 0;
+    while q < n {
+        if is_unconnected(tables, state, i, k, next, q) {
+            return q;
+        }
+        q += 1;
+    }
+    n
+}
+
+// What the move gets, and the use port concerned. Where the first that fails is unserved a later one may be unconnected, which goes before.
+fn ports_refusal(tables: &TableWords, state: &StateWords, i: u32, next: Sets) -> Answered
+    ensures { λ r. ⌜ r ≡ portsRefusal (tablesIn (now (tables .entry))) (stateIn (now (state .entry))) i next ⌝ }
+{
+    let first = first_refusal(tables, state, i, next);
+    if first.refused != UNSERVED {
+        return first;
+    }
+    let n = ports_of(tables, kind(state, i));
+    let low = lowest_unconnected(tables, state, i, next);
+    if low < n {
+        return about(UNCONNECTED, low);
+    }
+    first
 }
 
 // The port check of a move by which instance i loses and gains so much.
