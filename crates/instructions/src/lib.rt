@@ -7,6 +7,17 @@ use connections::is_named;
 use connections::stands;
 use ports::instance::active;
 use ports::refuse_if;
+use rules::ALREADY_CONNECTED;
+use rules::ID_ABSENT;
+use rules::ID_PRESENT;
+use rules::NO_MORE_CONNECTIONS;
+use rules::NO_SUCH;
+use rules::NO_SUCH_CONNECTION;
+use rules::ONE_INSTANCE;
+use rules::QUEUE_FULL;
+use rules::QUEUE_NOT_EMPTY;
+use rules::STILL_CONNECTED;
+use rules::USE_PORT_ACTIVE;
 use words::StateWords;
 use words::TableWords;
 use words::more;
@@ -36,28 +47,6 @@ ghost use Rattle.rules.specs.DCon.{dconCheck};
 ghost use Rattle.rules.specs.Wait.{waitCheck};
 ghost use Rattle.words.specs.Words.{tablesIn, stateIn};
 ghost use Rattle.words.specs.Parts.{bare, connectionOfWords};
-
-const ID_ABSENT: u32 = 11;
-
-const ID_PRESENT: u32 = 12;
-
-const NO_SUCH: u32 = 13;
-
-const ONE_INSTANCE: u32 = 14;
-
-const ALREADY_CONNECTED: u32 = 15;
-
-const NO_MORE_CONNECTIONS: u32 = 16;
-
-const NO_SUCH_CONNECTION: u32 = 17;
-
-const STILL_CONNECTED: u32 = 18;
-
-const QUEUE_FULL: u32 = 20;
-
-const QUEUE_NOT_EMPTY: u32 = 21;
-
-const USE_PORT_ACTIVE: u32 = 22;
 
 pub fn add_check(state: &StateWords, i: u32) -> u32
     ensures { λ r. ⌜ r ≡ addCheck (stateIn (now (state .entry))) i ⌝ }
@@ -120,16 +109,11 @@ pub fn pushb_check(default: u32, tables: &TableWords, state: &StateWords, i: u32
     ensures value { λ r. ⌜ r ≡ pushbCheck default (tablesIn (now (tables .entry))) (stateIn (now (state .entry))) i b ⌝ }
     ensures room { λ r. ⌜ (r ≡ 0 → instance (stateIn (now (state .entry))) i .queued < 4294967295) ⌝ }
 {
-    if !present(state, i) {
-        return ID_ABSENT;
-    }
-    if behaviors_of(tables, kind(state, i)) <= b {
-        return NO_SUCH;
-    }
-    if depth_of(default, tables) <= queued(state, i) {
-        return QUEUE_FULL;
-    }
-    0
+    let here = present(state, i);
+    let exists = b < behaviors_of(tables, kind(state, i));
+    let room = queued(state, i) < depth_of(default, tables);
+    let late = refuse_if(!room, QUEUE_FULL, 0);
+    refuse_if(!here, ID_ABSENT, refuse_if(!exists, NO_SUCH, late))
 }
 
 pub fn push_to(state: &mut StateWords, i: u32, b: u32)

@@ -1,7 +1,7 @@
 // Every present instance of the configuration, and every use port, present or not.
-use crate::types::mask_ok;
 use instructions::depth_of;
 use instructions::is_port;
+use sets::mask_ok;
 use words::StateWords;
 use words::TableWords;
 use words::state::ended;

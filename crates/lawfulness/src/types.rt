@@ -1,4 +1,5 @@
 // Every type of the tables, by its rows.
+use sets::mask_ok;
 use words::TableWords;
 use words::tables::behavior_of;
 use words::tables::behaviors_of;
@@ -15,7 +16,6 @@ ghost use mathlib.Core.Path.{_≡_};
 ghost use mathlib.Core.Bool.{_&&_};
 ghost use lib.Dec.{leb};
 ghost use Rattle.sets.specs.Test.{allBelow};
-ghost use Rattle.reading.specs.Limits.{maskOk};
 ghost use Rattle.reading.specs.Lawful.{transitionLawful, behaviorLawful, portLawful, typeLawful};
 ghost use Rattle.words.specs.Words.{tablesIn};
 ghost use Rattle.lawfulness.specs.Parts.{partLawful};
@@ -25,13 +25,6 @@ pub enum Part {
     Transition,
     Behavior,
     Port,
-}
-
-// All members of the set lie below n, which a lent table may give as any number.
-pub fn mask_ok(n: u32, m: u32) -> bool
-    ensures { λ r. ⌜ r ≡ maskOk n m ⌝ }
-{
-    if n < 32 { m < 1 << n } else { true }
 }
 
 fn transition_lawful(tables: &TableWords, k: u32, x: u32) -> bool

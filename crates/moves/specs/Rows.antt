@@ -1,11 +1,11 @@
--- The checks that the moves share: the two that all four begin with, and the row of fire and enter; what finish asks of a marked place; and what fire and enter answer.
-use mathlib.Core.Bool.{Bool, not, _&&_}
+-- The checks that the moves share: the two that all four begin with, and the row of fire and enter; and what fire and enter answer.
+use mathlib.Core.Bool.{Bool, not, cond}
 use Prim.Native.Nat.{ℕ}
-use lib.Dec.{eqb, ltb}
+use lib.Dec.{eqb}
 use Rattle.model.specs.declared.Tables.{Tables}
 use Rattle.model.specs.declared.Instance.{Instance}
 use Rattle.model.specs.declared.Configuration.{Configuration}
-use Rattle.rules.specs.Instance.{leaving}
+use Rattle.model.specs.declared.Concerned.the-variants.{NoPort}
 use Rattle.rules.specs.Action.{Action, concern}
 use Rattle.rules.specs.Fire.{fireCheck}
 use Rattle.rules.specs.Enter.{enterCheck}
@@ -20,9 +20,9 @@ firstly v rest = not (v .present) ⇒ idAbsent ∣ eqb (v .queued) 0 ⇒ queueEm
 abbrev pub row : ℕ → Bool → Bool → ℕ
 row xs ready taken = eqb xs 0 ⇒ noTransition ∣ not ready ⇒ notReady ∣ taken ⇒ heldOrMarked ∣ allowed
 
--- some transition of the behavior m leaves p, one of the 16 places
-abbrev pub leavable : Tables → ℕ → ℕ → ℕ → Bool
-leavable t k m p = ltb p 16 && not (eqb (leaving t k m p) 0)
+-- a number that is about no port, else what follows
+abbrev pub asked : ℕ → Answered → Answered
+asked n rest = cond (eqb n 0) rest (record { refused = n; port = NoPort })
 
 -- the number of a fire and the use port it is about, and those of an enter
 abbrev pub fireAnswer : Tables → Configuration → ℕ → ℕ → Answered

@@ -7,8 +7,15 @@ use ports::instance::behavior;
 use ports::instance::entering;
 use ports::instance::held;
 use ports::instance::leaving;
+use ports::instance::some_leaves;
 use ports::port_check;
 use ports::refuse_if;
+use rules::HELD_OR_MARKED;
+use rules::ID_ABSENT;
+use rules::NO_TRANSITION;
+use rules::NOT_READY;
+use rules::QUEUE_EMPTY;
+use rules::TOO_EARLY;
 use words::StateWords;
 use words::TableWords;
 use words::fewer;
@@ -24,27 +31,15 @@ use words::state::queued;
 use words::state::running;
 use words::state::slot_at;
 ghost use mathlib.Core.Path.{_≡_};
-ghost use Rattle.sets.specs.Test.{anyBelow};
 ghost use Rattle.model.specs.View.{instance, withQueue};
 ghost use Rattle.rules.specs.Closing.{closed};
 ghost use Rattle.rules.specs.Fire.{leavers, fireTo};
 ghost use Rattle.rules.specs.End.{endCheck, endTo};
 ghost use Rattle.rules.specs.Enter.{enterers, enterTo};
-ghost use Rattle.rules.specs.Finish.{mayLeave, finishCheck, finished};
+ghost use Rattle.rules.specs.Finish.{finishCheck, finished};
 ghost use Rattle.words.specs.Words.{tablesIn, stateIn};
-ghost use Rattle.moves.specs.Rows.{firstly, row, leavable, fireAnswer, enterAnswer};
-
-const ID_ABSENT: u32 = 11;
-
-const QUEUE_EMPTY: u32 = 30;
-
-const NOT_READY: u32 = 31;
-
-const NO_TRANSITION: u32 = 32;
-
-const HELD_OR_MARKED: u32 = 33;
-
-const TOO_EARLY: u32 = 37;
+ghost use Rattle.ports.specs.Turns.{turnAnswer};
+ghost use Rattle.moves.specs.Rows.{firstly, row, asked, fireAnswer, enterAnswer};
 
 // What every move asks first.
 fn first(state: &StateWords, i: u32, rest: u32) -> u32
@@ -63,6 +58,25 @@ fn row(xs: u32, ready: bool, taken: bool) -> u32
 {
     let late = refuse_if(taken, HELD_OR_MARKED, 0);
     refuse_if(xs == 0, NO_TRANSITION, refuse_if(!ready, NOT_READY, late))
+}
+
+// What a move asks first, and where nothing is refused the port check of what instance i loses and gains.
+fn asked(
+    tables: &TableWords,
+    state: &StateWords,
+    i: u32,
+    rest: u32,
+    loses: Sets,
+    gains: Sets,
+) -> Answered
+    ensures { λ r. ⌜ r ≡ asked (firstly (instance (stateIn (now (state .entry))) i) rest)
+        (turnAnswer (tablesIn (now (tables .entry))) (stateIn (now (state .entry))) i loses gains) ⌝ }
+{
+    let refused = first(state, i, rest);
+    if refused != 0 {
+        return about_none(refused);
+    }
+    port_check(tables, state, i, loses, gains)
 }
 
 // What leaves p in the current behavior of instance i, and what leads to it.
@@ -84,10 +98,6 @@ pub fn fire_check(tables: &TableWords, state: &StateWords, i: u32, p: u32) -> An
     let xs = leavers(tables, state, i, p);
     let ready = sets::member(marked(state, i), p);
     let taken = sets::overlaps(xs, held(state, i));
-    let refused = first(state, i, row(xs, ready, taken));
-    if refused != 0 {
-        return about_none(refused);
-    }
     let loses = Sets {
         places: sets::only(p),
         holds: 0,
@@ -96,7 +106,7 @@ pub fn fire_check(tables: &TableWords, state: &StateWords, i: u32, p: u32) -> An
         places: 0,
         holds: xs,
     };
-    port_check(tables, state, i, loses, gains)
+    asked(tables, state, i, row(xs, ready, taken), loses, gains)
 }
 
 // The mark of p goes and what leaves it runs.
@@ -132,10 +142,6 @@ pub fn enter_check(tables: &TableWords, state: &StateWords, i: u32, p: u32) -> A
     let xs = enterers(tables, state, i, p);
     let ready = sets::within(xs, ended(state, i));
     let taken = sets::member(marked(state, i), p);
-    let refused = first(state, i, row(xs, ready, taken));
-    if refused != 0 {
-        return about_none(refused);
-    }
     let loses = Sets {
         places: 0,
         holds: xs,
@@ -144,7 +150,7 @@ pub fn enter_check(tables: &TableWords, state: &StateWords, i: u32, p: u32) -> A
         places: sets::only(p),
         holds: 0,
     };
-    port_check(tables, state, i, loses, gains)
+    asked(tables, state, i, row(xs, ready, taken), loses, gains)
 }
 
 // What leads to p is neither running nor ended, and p is marked.
@@ -158,33 +164,11 @@ pub fn enter_to(tables: &TableWords, state: &mut StateWords, i: u32, p: u32)
     put_sets(state, i, marks, runs, ends);
 }
 
-// Some transition of the set m leaves p, which is one of the 16 places.
-fn may_leave(tables: &TableWords, k: u32, m: u32, p: u32) -> bool
-    ensures { λ r. ⌜ r ≡ leavable (tablesIn (now (tables .entry))) k m p ⌝ }
-{
-    p < 16 && leaving(tables, k, m, p) != 0
-}
-
 // A place that may be left counts, also where every firing would fail its ports.
-fn some_leaver(tables: &TableWords, state: &StateWords, i: u32, m: u32) -> bool
-    ensures { λ r. ⌜ r ≡ anyBelow 16 (mayLeave (tablesIn (now (tables .entry))) (instance (stateIn (now (state .entry))) i) m) ⌝ }
-{
-    let k = kind(state, i);
-    let mut rest = marked(state, i);
-    while rest != 0 {
-        let p = sets::least(rest);
-        if may_leave(tables, k, m, p) {
-            return true;
-        }
-        rest = sets::without(rest, sets::only(p));
-    }
-    false
-}
-
 pub fn finish_check(tables: &TableWords, state: &StateWords, i: u32) -> u32
     ensures { λ r. ⌜ r ≡ finishCheck (tablesIn (now (tables .entry))) (stateIn (now (state .entry))) i ⌝ }
 {
-    let leaver = some_leaver(tables, state, i, behavior(tables, state, i));
+    let leaver = some_leaves(tables, state, i, behavior(tables, state, i), true, 0);
     let busy = (held(state, i) != 0) | leaver;
     first(state, i, refuse_if(busy, TOO_EARLY, 0))
 }

@@ -11,10 +11,10 @@ use native.Mathlib.Decide.{ℕ-discrete, decLt}
 use lib.Dec.{eqb}
 use borrow.Author.Tests.{eqb-true, eq-eqb, ne-eqb, lt-ltb}
 use Rattle.sets.specs.Test.{anyBelow}
-use Rattle.sets.specs.Mask.{member, collect, with, least}
+use Rattle.sets.specs.Mask.{member, collect, with, least, later}
 use Rattle.sets.proofs.Laws.{none-any, any-same, member-none, member-past, member-collect, collect-lt, collect-is, collect-same}
 use Rattle.sets.proofs.Searches.{any-rows, any-one-more}
-use Rattle.sets.proofs.Members.{later, Rest, least-of, least-lt, least-member, later-own, later-other}
+use Rattle.sets.proofs.Members.{Rest, least-of, least-lt, least-member, later-own, later-other}
 use Rattle.forms.proofs.Tests.{by-test}
 use Rattle.model.specs.declared.Tables.{Tables}
 use Rattle.model.specs.declared.Connection.{Connection}

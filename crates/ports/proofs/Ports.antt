@@ -14,6 +14,7 @@ use borrow.Author.Tests.{eqb-true, eq-eqb, ne-eqb, lt-ltb, le-ltb, ltb-true, ltb
 use Rattle.sets.specs.Test.{anyBelow}
 use Rattle.sets.specs.Mask.{member, collect, with, overlaps, joined, without}
 use Rattle.sets.proofs.Laws.{any-none, any-same, member-none, member-collect, collect-is, collect-same, member-joined, member-without, none-overlaps}
+use Rattle.sets.proofs.Booleans.{both, same, same-is, by-six}
 use Rattle.sets.proofs.Searches.{any-alike}
 use Rattle.sets.proofs.Members.{members-low}
 use Rattle.forms.proofs.Tests.{by-test}
@@ -26,7 +27,8 @@ use Rattle.model.specs.Empty.{absent}
 use Rattle.model.specs.View.{isUse, instance, groupPlaces, groupTransitions}
 use Rattle.rules.specs.Refusal.{_⇒_∣_, allowed, unconnected, unserved, providerRefusing, serviceInUse}
 use Rattle.rules.specs.Standing.{standing, someConnection}
-use Rattle.rules.specs.Instance.{held, active, portsOf}
+use Rattle.rules.specs.Instance.{held, active, leaving, portsOf}
+use Rattle.rules.specs.Finish.{mayLeave}
 use Rattle.rules.specs.Ports.{wouldLeave, isOf, serves, blocks, employs, failsUnconnected, failsUnserved, failsRefusing, failsInUse, inUse, portCheck, concerned}
 use Rattle.rules.proofs.Connections.{Stands, some-stands}
 use Rattle.model.proofs.View.{past-end, length-list}
@@ -37,13 +39,15 @@ use Rattle.words.proofs.Served.{hasServer, looked}
 use Rattle.ports.specs.declared.Sets.{Sets}
 use Rattle.ports.specs.declared.Answered.{Answered}
 use Rattle.ports.proofs.Lowest.{lowest-same}
-use Rattle.ports.specs.Turns.{activeIn, leavesBy, refusingAt, useRefusal, portRefusal, setsOf, gets, endingBelow, isUnconnected, aboutOf, answered, portsRefusal, checked, changed, turned, turnAnswer}
+use Rattle.ports.specs.Turns.{activeIn, leavesBy, leftBy, refusingAt, useRefusal, portRefusal, setsOf, gets, endingBelow, isUnconnected, aboutOf, answered, portsRefusal, checked, changed, turned, turnAnswer}
 
 -- ---- places that would leave
 
-pub marked-leaves : (t : Tables) (v : Instance) (m q : ℕ) → anyBelow 32 (λ p. member p (v .marked) && leavesBy t v m q p) ≡ anyBelow 16 (wouldLeave t v m q)
-unfolding leavesBy wouldLeave
-marked-leaves t v m q = members-low (v .marked) _ 16 (omega arith)
+pub marked-leaves : (t : Tables) (v : Instance) (m : ℕ) (any : Bool) (q : ℕ)
+    → anyBelow 32 (λ p. member p (v .marked) && leavesBy t v m any q p) ≡ anyBelow 16 (leftBy t v m any q)
+unfolding leavesBy mayLeave wouldLeave
+marked-leaves t v m true q = members-low (v .marked) (λ p. not (eqb (leaving t (v .kind) m p) 0) && true) 16 (omega arith) ∙ any-same 16 _ _ (λ p _. ap (_&&_ (member p (v .marked))) (and-true (not (eqb (leaving t (v .kind) m p) 0))))
+marked-leaves t v m false q = members-low (v .marked) _ 16 (omega arith)
 
 -- ---- one look
 
@@ -82,61 +86,29 @@ told u a b l s k =
     cond u (cond a (not l ⇒ unconnected ∣ not s ⇒ unserved ∣ not b && k ⇒ providerRefusing ∣ allowed) allowed) (b && not a ⇒ serviceInUse ∣ allowed)
 
 unconnected-told : (u a b l s k : Bool) → eqb (told u a b l s k) unconnected ≡ (u && (a && not l))
-unconnected-told true true b false s k = refl
-unconnected-told true true b true false k = refl
-unconnected-told true true true true true k = refl
-unconnected-told true true false true true true = refl
-unconnected-told true true false true true false = refl
-unconnected-told true false b l s k = refl
-unconnected-told false true true l s k = refl
-unconnected-told false true false l s k = refl
-unconnected-told false false true l s k = refl
-unconnected-told false false false l s k = refl
+unfolding both
+unconnected-told u a b l s k = same-is _ _ (by-six (λ u a b l s k. same (eqb (told u a b l s k) unconnected) (u && (a && not l))) refl u a b l s k)
 
 unserved-told : (u a b l s k : Bool) → (u && (a && not l)) ≡ false → eqb (told u a b l s k) unserved ≡ (u && (a && not s))
-unserved-told true true b false s k e = absurd (false≢true (sym e))
-unserved-told true true b true false k e = refl
-unserved-told true true true true true k e = refl
-unserved-told true true false true true true e = refl
-unserved-told true true false true true false e = refl
-unserved-told true false b l s k e = refl
-unserved-told false true true l s k e = refl
-unserved-told false true false l s k e = refl
-unserved-told false false true l s k e = refl
-unserved-told false false false l s k e = refl
+unfolding both
+unserved-told u a b l s k e =
+    same-is _ _ (rw e at (by-six (λ u a b l s k. (u && (a && not l)) || same (eqb (told u a b l s k) unserved) (u && (a && not s))) refl u a b l s k))
 
 refusing-told : (u a b l s k : Bool) → (u && (a && not l)) ≡ false → (u && (a && not s)) ≡ false
     → eqb (told u a b l s k) providerRefusing ≡ (u && (a && (not b && k)))
-refusing-told true true b false s k e f = absurd (false≢true (sym e))
-refusing-told true true b true false k e f = absurd (false≢true (sym f))
-refusing-told true true true true true k e f = refl
-refusing-told true true false true true true e f = refl
-refusing-told true true false true true false e f = refl
-refusing-told true false b l s k e f = refl
-refusing-told false true true l s k e f = refl
-refusing-told false true false l s k e f = refl
-refusing-told false false true l s k e f = refl
-refusing-told false false false l s k e f = refl
+unfolding both
+refusing-told u a b l s k e f =
+    same-is _ _
+    (rw (e, f) at (by-six (λ u a b l s k. (u && (a && not l)) || ((u && (a && not s)) || same (eqb (told u a b l s k) providerRefusing) (u && (a && (not b && k))))) refl u a b l s k))
 
 ending-told : (u a b l s k : Bool) → eqb (told u a b l s k) serviceInUse ≡ (not u && (b && not a))
-ending-told true true b false s k = refl
-ending-told true true b true false k = refl
-ending-told true true true true true k = refl
-ending-told true true false true true true = refl
-ending-told true true false true true false = refl
-ending-told true false b l s k = refl
-ending-told false true true l s k = refl
-ending-told false true false l s k = refl
-ending-told false false true l s k = refl
-ending-told false false false l s k = refl
+unfolding both
+ending-told u a b l s k = same-is _ _ (by-six (λ u a b l s k. same (eqb (told u a b l s k) serviceInUse) (not u && (b && not a))) refl u a b l s k)
 
 -- 38 and 34 are of use ports
 use-told : (u a b l s k : Bool) → (eqb (told u a b l s k) unconnected || eqb (told u a b l s k) unserved) ≡ true → u ≡ true
 use-told true a b l s k e = refl
-use-told false true true l s k e = e
-use-told false true false l s k e = e
-use-told false false true l s k e = e
-use-told false false false l s k e = e
+use-told false a b l s k e = by-test (b && not a) (λ on. rw on at e) (λ off. rw off at e)
 
 -- those below n that pass, of the 32, one by one
 module _ (p : ℕ → Bool) (q : ℕ) where

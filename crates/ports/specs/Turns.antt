@@ -13,7 +13,8 @@ use Rattle.model.specs.View.{source, destination, groupPlaces, groupTransitions
 use Rattle.rules.specs.Refusal.{_⇒_∣_, allowed, unconnected, unserved, providerRefusing, serviceInUse}
 use Rattle.rules.specs.Standing.{standing, someConnection}
 use Rattle.rules.specs.Instance.{held, active, leaving, fired, portsOf}
-use Rattle.rules.specs.Ports.{behavior, refusing, isOf, serves, blocks, inUse, portCheck, concerned}
+use Rattle.rules.specs.Ports.{behavior, wouldLeave, refusing, isOf, serves, blocks, inUse, portCheck, concerned}
+use Rattle.rules.specs.Finish.{mayLeave}
 use Rattle.ports.specs.declared.Sets.{Sets}
 use Rattle.ports.specs.declared.Answered.{Answered}
 
@@ -28,11 +29,15 @@ activeWith t k marked held q = overlaps marked (groupPlaces t k q) || overlaps h
 abbrev pub activeIn : Tables → ℕ → Sets → ℕ → Bool
 activeIn t k s q = activeWith t k (s .places) (s .holds) q
 
--- of one of the 16 places that is marked: firing it would make port q inactive
-unfoldable pub leavesBy : Tables → Instance → ℕ → ℕ → ℕ → Bool
-leavesBy t v m q p =
+-- of one of the 16 places that is marked: it may be left, and where not any such place counts firing it would make port q inactive
+unfoldable pub leavesBy : Tables → Instance → ℕ → Bool → ℕ → ℕ → Bool
+leavesBy t v m any q p =
     ltb p 16 && (not (eqb (leaving t (v .kind) m p) 0)
-    && (not (overlaps (leaving t (v .kind) m p) (held v)) && not (active t (fired v p (leaving t (v .kind) m p)) q)))
+    && (any || (not (overlaps (leaving t (v .kind) m p) (held v)) && not (active t (fired v p (leaving t (v .kind) m p)) q))))
+
+-- the marked places that may be left, and of them those whose leaving would make port q inactive
+abbrev pub leftBy : Tables → Instance → ℕ → Bool → ℕ → ℕ → Bool
+leftBy t v m any q = cond any (mayLeave t v m) (wouldLeave t v m q)
 
 -- provide port q of instance i refuses
 abbrev pub refusingAt : Tables → Configuration → ℕ → ℕ → Bool

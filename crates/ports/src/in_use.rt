@@ -64,7 +64,7 @@ fn with_user(set: u32, tables: &TableWords, state: &StateWords, i: u32, u: u32) 
     while rest != 0 {
         let y = sets::least(rest);
         all = with_server(all, tables, state, u, y - 1);
-        rest = sets::without(rest, sets::only(y));
+        rest = sets::later(rest);
     }
     all
 }

@@ -17,9 +17,9 @@ ghost use Rattle.sets.specs.Test.{anyBelow};
 ghost use Rattle.sets.specs.Mask.{collect};
 ghost use Rattle.model.specs.View.{instance};
 ghost use Rattle.rules.specs.Instance.{held, active, endsAt, leaving, entering};
-ghost use Rattle.rules.specs.Ports.{behavior, wouldLeave, wouldEnter};
+ghost use Rattle.rules.specs.Ports.{behavior, wouldEnter};
 ghost use Rattle.words.specs.Words.{tablesIn, stateIn};
-ghost use Rattle.ports.specs.Turns.{endOf, activeWith, leavesBy, refusingAt};
+ghost use Rattle.ports.specs.Turns.{endOf, activeWith, leavesBy, leftBy, refusingAt};
 
 // Where transition x of type k leaves, or where it leads.
 fn end_of(tables: &TableWords, out: bool, k: u32, x: u32) -> u32
@@ -43,7 +43,7 @@ fn ending_at(tables: &TableWords, out: bool, k: u32, m: u32, p: u32) -> u32
         if end_of(tables, out, k, x) == p {
             xs = sets::with(xs, x);
         }
-        rest = sets::without(rest, sets::only(x));
+        rest = sets::later(rest);
     }
     xs
 }
@@ -90,9 +90,18 @@ pub fn behavior(tables: &TableWords, state: &StateWords, i: u32) -> u32
     behavior_of(tables, kind(state, i), slot(state, i, 0))
 }
 
-// Firing the marked place p would make port q inactive: some transition leaves it, and none that does is held.
-fn would_leave(tables: &TableWords, state: &StateWords, i: u32, m: u32, q: u32, p: u32) -> bool
-    ensures { λ r. ⌜ r ≡ leavesBy (tablesIn (now (tables .entry))) (instance (stateIn (now (state .entry))) i) m q p ⌝ }
+// The marked place p may be left: some transition leaves it. Where not any such place counts, none of these is held, and firing it would
+// make port q inactive.
+fn would_leave(
+    tables: &TableWords,
+    state: &StateWords,
+    i: u32,
+    m: u32,
+    any: bool,
+    q: u32,
+    p: u32,
+) -> bool
+    ensures { λ r. ⌜ r ≡ leavesBy (tablesIn (now (tables .entry))) (instance (stateIn (now (state .entry))) i) m any q p ⌝ }
 {
     if 16 <= p {
         return false;
@@ -102,13 +111,11 @@ fn would_leave(tables: &TableWords, state: &StateWords, i: u32, m: u32, q: u32, 
     if xs == 0 {
         return false;
     }
-    if sets::overlaps(xs, held(state, i)) {
-        return false;
-    }
+    let free = !sets::overlaps(xs, held(state, i));
     let marks = sets::without(marked(state, i), sets::only(p));
     let runs = sets::joined(running(state, i), xs);
     let holds = sets::joined(runs, ended(state, i));
-    !active_with(tables, k, marks, holds, q)
+    any | (free & !active_with(tables, k, marks, holds, q))
 }
 
 // The unmarked place p could be entered by tokens alone, and entering it would make port q inactive.
@@ -121,29 +128,31 @@ fn would_enter(tables: &TableWords, state: &StateWords, i: u32, m: u32, q: u32, 
         return false;
     }
     let ends = ended(state, i);
-    if !sets::within(xs, ends) {
-        return false;
-    }
     let marks = marked(state, i);
-    if sets::member(marks, p) {
-        return false;
-    }
+    let ready = sets::within(xs, ends);
+    let free = !sets::member(marks, p);
     let runs = sets::without(running(state, i), xs);
     let holds = sets::joined(runs, sets::without(ends, xs));
-    !active_with(tables, k, sets::with(marks, p), holds, q)
+    ready & (free & !active_with(tables, k, sets::with(marks, p), holds, q))
 }
 
-// Some place would be left so.
-fn some_leaves(tables: &TableWords, state: &StateWords, i: u32, m: u32, q: u32) -> bool
-    ensures { λ r. ⌜ r ≡ anyBelow 16 (wouldLeave (tablesIn (now (tables .entry))) (instance (stateIn (now (state .entry))) i) m q) ⌝ }
+// Some place may be left so: any, or one whose leaving would make port q inactive.
+pub fn some_leaves(
+    tables: &TableWords,
+    state: &StateWords,
+    i: u32,
+    m: u32,
+    any: bool,
+    q: u32,
+) -> bool
+    ensures { λ r. ⌜ r ≡ anyBelow 16 (leftBy (tablesIn (now (tables .entry))) (instance (stateIn (now (state .entry))) i) m any q) ⌝ }
 {
     let mut rest = marked(state, i);
     while rest != 0 {
-        let p = sets::least(rest);
-        if would_leave(tables, state, i, m, q, p) {
+        if would_leave(tables, state, i, m, any, q, sets::least(rest)) {
             return true;
         }
-        rest = sets::without(rest, sets::only(p));
+        rest = sets::later(rest);
     }
     false
 }
@@ -170,7 +179,7 @@ pub fn refusing(tables: &TableWords, state: &StateWords, i: u32, q: u32) -> bool
         return false;
     }
     let m = behavior(tables, state, i);
-    if some_leaves(tables, state, i, m, q) {
+    if some_leaves(tables, state, i, m, false, q) {
         return true;
     }
     if ended(state, i) == 0 {

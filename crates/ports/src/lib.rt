@@ -9,6 +9,10 @@ use instance::active_with;
 use instance::held;
 use instance::refusing;
 use model::Concerned;
+use rules::PROVIDER_REFUSING;
+use rules::SERVICE_IN_USE;
+use rules::UNCONNECTED;
+use rules::UNSERVED;
 use words::StateWords;
 use words::TableWords;
 use words::state::kind;
@@ -25,14 +29,6 @@ ghost use Rattle.model.specs.View.{instance};
 ghost use Rattle.rules.specs.Refusal.{_⇒_∣_};
 ghost use Rattle.words.specs.Words.{tablesIn, stateIn};
 ghost use Rattle.ports.specs.Turns.{useRefusal, portRefusal, firstRefusal, isUnconnected, lowestUnconnected, portsRefusal, turnAnswer};
-
-const UNCONNECTED: u32 = 38;
-
-const UNSERVED: u32 = 34;
-
-const PROVIDER_REFUSING: u32 = 35;
-
-const SERVICE_IN_USE: u32 = 36;
 
 // What a move takes from an instance, or gives it, or what the instance has: marks, and transitions that are held.
 pub struct Sets {

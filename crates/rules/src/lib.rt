@@ -1,1 +1,43 @@
-// Definitions only: the step rules of 01, one file for each rule, with its number and its effect on every slot; step; walk.
+// Definitions: the step rules of 01, one file for each rule, with its number and its effect on every slot; step; walk.
+// Beside them the refusals' numbers by the names that specs/Refusal has for them.
+pub const NO_INSTRUCTION_LEFT: u32 = 10;
+
+pub const ID_ABSENT: u32 = 11;
+
+pub const ID_PRESENT: u32 = 12;
+
+pub const NO_SUCH: u32 = 13;
+
+pub const ONE_INSTANCE: u32 = 14;
+
+pub const ALREADY_CONNECTED: u32 = 15;
+
+pub const NO_MORE_CONNECTIONS: u32 = 16;
+
+pub const NO_SUCH_CONNECTION: u32 = 17;
+
+pub const STILL_CONNECTED: u32 = 18;
+
+pub const QUEUE_FULL: u32 = 20;
+
+pub const QUEUE_NOT_EMPTY: u32 = 21;
+
+pub const USE_PORT_ACTIVE: u32 = 22;
+
+pub const QUEUE_EMPTY: u32 = 30;
+
+pub const NOT_READY: u32 = 31;
+
+pub const NO_TRANSITION: u32 = 32;
+
+pub const HELD_OR_MARKED: u32 = 33;
+
+pub const UNSERVED: u32 = 34;
+
+pub const PROVIDER_REFUSING: u32 = 35;
+
+pub const SERVICE_IN_USE: u32 = 36;
+
+pub const TOO_EARLY: u32 = 37;
+
+pub const UNCONNECTED: u32 = 38;

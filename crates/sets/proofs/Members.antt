@@ -11,7 +11,7 @@ use lib.Count.{trailingZeros, under}
 use lib.Dec.{eqb, ltb}
 use borrow.Author.Tests.{eq-eqb, ne-eqb, lt-ltb, ltb-true}
 use Rattle.sets.specs.Test.{anyBelow, tally}
-use Rattle.sets.specs.Mask.{member, collect, only, with, without, least}
+use Rattle.sets.specs.Mask.{member, collect, only, with, without, least, later}
 use Rattle.sets.proofs.Laws.{any-hit, any-none, none-any, member-zero, member-suc, member-none, member-far, member-collect, member-only, member-without, collect-is, collect-same, collect-lt}
 use Rattle.sets.proofs.Searches.{any-alike}
 use Rattle.sets.proofs.Tally.{tally-one}
@@ -29,10 +29,6 @@ least-in (suc d) m n h = go (m % 2) refl (λ e. least-in d (m / 2) (λ z. n (ome
     go (suc r) e half = (member-zero m ∙ rw (let one : m % 2 ≡ 1 = omega arith in one), omega arith)
 
 -- ---- what is left of m, and its least member
-
--- the rest after the least
-abbrev pub later : ℕ → ℕ
-later r = without r (only (least r))
 
 pub record Rest (m r : ℕ) : Type 0 where
   pub fits : r < 2 ^ 32

@@ -23,6 +23,7 @@ use moves::fire_check;
 use moves::fire_to;
 use ports::Answered;
 use ports::about_none;
+use rules::NO_INSTRUCTION_LEFT;
 use words::AnswerWords;
 use words::ProgramWords;
 use words::StateWords;
@@ -49,8 +50,6 @@ ghost use Rattle.words.specs.Words.{tablesIn, programIn, answerIn, stateIn};
 ghost use Rattle.words.specs.Parts.{stepOf};
 ghost use Rattle.walks.specs.Reached.{tally, answerAt, stepped, passed, walked};
 ghost use Rattle.walks.specs.Fits.{PortFits, PortsFit};
-
-const NO_INSTRUCTION_LEFT: u32 = 10;
 
 // How far a walk came: the steps allowed, the number of the refusal, or 0, and the use port concerned.
 pub struct Passed {

@@ -15,30 +15,11 @@ Inv-loop n program count j₀ j = Passed count (λ x. instructionLawful n (getD 
 abbrev μ-loop : tie.MeasureT-loop
 μ-loop n program count j₀ j = count - j
 
-returns : tie.Need-returns Inv-loop μ-loop
-unfolding programLawful
-returns c = rw (← c .before .instructions .ensures, lt-leb _ _ (c .if1 .taken))
-
-loop-holds : tie.Need-loop-holds Inv-loop μ-loop
-loop-holds c = none-yet _ _
-
-returns-2 : tie.Need-returns-2 Inv-loop μ-loop
-unfolding programLawful
-returns-2 c =
-    let l = c .before .before .before in
-    rw (← l .before .before .instructions .ensures, le-leb _ _ (l .before .if1 .left))
-    (one-fails _ _ (l .loop .j) _ (c .before .before .loop-test .taken) (c .before .instruction-lawful .ensures) (c .if2 .taken))
-
-loop-again : tie.Need-loop-again Inv-loop μ-loop
-loop-again c =
-    let l = c .before .before .before in
-    one-more _ _ (l .loop .j) _ (c .before .before .loop-test .taken) (c .before .instruction-lawful .ensures) (l .loop .inv) (c .if2 .left)
-
-returns-3 : tie.Need-returns-3 Inv-loop μ-loop
-unfolding programLawful
-returns-3 c =
-    let l = c .before in
-    rw (← l .before .before .instructions .ensures, le-leb _ _ (l .before .if1 .left)) (all-passed _ _ (l .loop .j) (l .loop .inv) (c .loop-test .left))
-
 pub program-lawful-spec : {M : Type 1} → statement M
-program-lawful-spec = tie.close (tie.spec Inv-loop μ-loop (λ c κs. search needs) returns loop-holds (λ c κs. search needs) returns-2 (λ c. search needs) (λ c. search needs) loop-again returns-3)
+unfolding programLawful
+program-lawful-spec = tie.close (tie.spec Inv-loop μ-loop (λ c κs. search needs)
+    (λ c. rw (← c .before .instructions .ensures, lt-leb _ _ (c .if1 .taken)))
+    (λ c. none-yet _ _) (λ c κs. search needs)
+    (λ c. let l = c .before .before .before in rw (← l .before .before .instructions .ensures, le-leb _ _ (l .before .if1 .left)) (one-fails _ _ (l .loop .j) _ (c .before .before .loop-test .taken) (c .before .instruction-lawful .ensures) (c .if2 .taken))) (λ c. search needs) (λ c. search needs)
+    (λ c. let l = c .before .before .before in one-more _ _ (l .loop .j) _ (c .before .before .loop-test .taken) (c .before .instruction-lawful .ensures) (l .loop .inv) (c .if2 .left))
+    (λ c. let l = c .before in rw (← l .before .before .instructions .ensures, le-leb _ _ (l .before .if1 .left)) (all-passed _ _ (l .loop .j) (l .loop .inv) (c .loop-test .left))))

@@ -5,15 +5,9 @@ use borrow.Author.Needs.{needs}
 use Rattle.moves.proofs.end_to.Statement.{statement}
 use Rattle.moves.proofs.end_to.Tie as tie
 
-returns : tie.Need-returns
-unfolding endTo endedBy
-returns c =
-    let w = c .before .before in
-    let e = w .before in
-    let o = e .before .before in
-    let r = o .before .before in
-    c .put-sets .ensures
-    ∙ rw (w .with .ensures, e .ended .ensures, o .without .ensures, o .before .only .ensures, r .running .ensures, r .before .before .marked .ensures)
-
 pub end-to-spec : {M : Type 1} → statement M
-end-to-spec = tie.close (tie.spec (λ c κs. search needs) (λ c κs. search needs) (λ c κs. search needs) (λ c κs. search needs) (λ c κs. search needs) (λ c κs. search needs) (λ c κs. search needs) returns)
+unfolding endTo endedBy
+end-to-spec =
+    tie.close
+    (tie.spec (λ c κs. search needs) (λ c κs. search needs) (λ c κs. search needs) (λ c κs. search needs) (λ c κs. search needs) (λ c κs. search needs) (λ c κs. search needs)
+    (λ c. c .put-sets .ensures ∙ rw (c .before .before .with .ensures, c .before .before .before .ended .ensures, c .before .before .before .before .before .without .ensures, c .before .before .before .before .before .before .only .ensures, c .before .before .before .before .before .before .before .running .ensures, c .before .before .before .before .before .before .before .before .before .marked .ensures)))

@@ -13,27 +13,10 @@ Inv-loop default tables state i n r₀ r = Passed n (queuedLawful (tablesIn tabl
 abbrev μ-loop : tie.MeasureT-loop
 μ-loop default tables state i n r₀ r = n - r
 
-returns : tie.Need-returns Inv-loop μ-loop
-returns c = rw (← c .before .before .queued .ensures, ← c .before .depth-of .ensures, lt-leb _ _ (c .if1 .taken))
-
-loop-holds : tie.Need-loop-holds Inv-loop μ-loop
-loop-holds c = none-yet _ _
-
-returns-2 : tie.Need-returns-2 Inv-loop μ-loop
-returns-2 c =
-    let l = c .before .before .before in
-    rw (← l .before .before .before .queued .ensures, ← l .before .before .depth-of .ensures, le-leb _ _ (l .before .if1 .left))
-    (one-fails _ _ (l .loop .r) _ (c .before .before .loop-test .taken) (c .before .queued-lawful .ensures) (c .if2 .taken))
-
-loop-again : tie.Need-loop-again Inv-loop μ-loop
-loop-again c =
-    let l = c .before .before .before in
-    one-more _ _ (l .loop .r) _ (c .before .before .loop-test .taken) (c .before .queued-lawful .ensures) (l .loop .inv) (c .if2 .left)
-
-returns-3 : tie.Need-returns-3 Inv-loop μ-loop
-returns-3 c =
-    let l = c .before in
-    rw (← l .before .before .before .queued .ensures, ← l .before .before .depth-of .ensures, le-leb _ _ (l .before .if1 .left)) (all-passed _ _ (l .loop .r) (l .loop .inv) (c .loop-test .left))
-
 pub queue-lawful-spec : {M : Type 1} → statement M
-queue-lawful-spec = tie.close (tie.spec Inv-loop μ-loop (λ c κs. search needs) (λ c κs. search needs) returns loop-holds (λ c κs. search needs) returns-2 (λ c. search needs) (λ c. search needs) loop-again returns-3)
+queue-lawful-spec = tie.close (tie.spec Inv-loop μ-loop (λ c κs. search needs) (λ c κs. search needs)
+    (λ c. rw (← c .before .before .queued .ensures, ← c .before .depth-of .ensures, lt-leb _ _ (c .if1 .taken)))
+    (λ c. none-yet _ _) (λ c κs. search needs)
+    (λ c. let l = c .before .before .before in rw (← l .before .before .before .queued .ensures, ← l .before .before .depth-of .ensures, le-leb _ _ (l .before .if1 .left)) (one-fails _ _ (l .loop .r) _ (c .before .before .loop-test .taken) (c .before .queued-lawful .ensures) (c .if2 .taken))) (λ c. search needs) (λ c. search needs)
+    (λ c. let l = c .before .before .before in one-more _ _ (l .loop .r) _ (c .before .before .loop-test .taken) (c .before .queued-lawful .ensures) (l .loop .inv) (c .if2 .left))
+    (λ c. let l = c .before in rw (← l .before .before .before .queued .ensures, ← l .before .before .depth-of .ensures, le-leb _ _ (l .before .if1 .left)) (all-passed _ _ (l .loop .r) (l .loop .inv) (c .loop-test .left))))

@@ -4,7 +4,7 @@ use Prim.Native.Nat.{_-_, _<_}
 use native.Mathlib.Omega.{arith}
 use borrow.Author.Needs.{needs}
 use Rattle.sets.specs.Mask.{collect}
-use Rattle.sets.proofs.Members.{later, Rest, rest-start, rest-later, left, left-less}
+use Rattle.sets.proofs.Members.{Rest, rest-start, rest-later, left, left-less}
 use Rattle.words.specs.Words.{tablesIn, stateIn}
 use Rattle.ports.specs.InUse.{usesOf}
 use Rattle.ports.proofs.InUse.{employedBut, users-start, least-port, users-more, users-end}
@@ -34,21 +34,18 @@ above c =
 sub-with-server : tie.Need-sub-with-server Inv-loop μ-loop
 sub-with-server c = omega (arith, above c .0)
 
-next : (c : tie.After-without Inv-loop μ-loop) → c .without .result ≡ later (c .before .before .before .before .before .loop .rest)
-next c = c .without .ensures ∙ rw (c .before .only .ensures, c .before .before .before .least .ensures)
-
 loop-less : tie.Need-loop-less Inv-loop μ-loop
 loop-less c =
-    let t = c .before .before .before .before in
-    rw (next c) (left-less _ (t .before .loop .rest) (t .before .loop .inv .0) (t .loop-test .taken))
+    let t = c .before .before .before in
+    rw (c .later .ensures) (left-less _ (t .before .loop .rest) (t .before .loop .inv .0) (t .loop-test .taken))
 
 loop-again : tie.Need-loop-again Inv-loop μ-loop
 loop-again c =
-    let w = c .before .before in
+    let w = c .before in
     let t = w .before .before in
     let l = t .before .loop in
     let some = t .loop-test .taken in
-    rw (next c) (
+    rw (c .later .ensures) (
       rest-later _ (l .rest) (l .inv .0) some,
       w .with-server .ensures ∙ rw (w .before .least .ensures) (users-more _ _ _ _ (l .rest) (l .inv .0) some _ (l .all) (l .inv .1)),
     )
@@ -59,5 +56,5 @@ returns c = let l = c .before .loop in l .inv .1 ∙ users-end _ _ _ _ _ (l .res
 pub with-user-spec : {M : Type 1} → statement M
 with-user-spec =
     tie.close
-    (tie.spec Inv-loop μ-loop (λ c κs. search needs) loop-holds (λ c κs. search needs) sub-with-server (λ c κs. search needs) (λ c κs. search needs) (λ c κs. search needs)
+    (tie.spec Inv-loop μ-loop (λ c κs. search needs) loop-holds (λ c κs. search needs) sub-with-server (λ c κs. search needs) (λ c κs. search needs)
     loop-less loop-again returns)

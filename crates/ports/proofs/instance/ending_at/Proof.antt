@@ -6,7 +6,7 @@ use lib.Dec.{eqb}
 use borrow.Author.Needs.{needs}
 use borrow.Author.Tests.{eq-eqb, ne-eqb}
 use Rattle.sets.specs.Mask.{collect, with, least}
-use Rattle.sets.proofs.Members.{later, Rest, rest-start, rest-later, left, left-less, behind, members-start, members-in, members-out, members-end}
+use Rattle.sets.proofs.Members.{Rest, rest-start, rest-later, left, left-less, behind, members-start, members-in, members-out, members-end}
 use Rattle.rules.specs.Instance.{endsAt}
 use Rattle.words.specs.Words.{tablesIn}
 use Rattle.ports.specs.Turns.{endOf}
@@ -22,15 +22,10 @@ abbrev μ-loop : tie.MeasureT-loop
 loop-holds : tie.Need-loop-holds Inv-loop μ-loop
 loop-holds c = (rest-start (c .args .m) (c .fits .m .fits), members-start (c .args .m) _)
 
--- what is left after this turn
-next : (c : tie.After-without Inv-loop μ-loop) → c .without .result ≡ later (c .before .before .before .before .before .before .loop .rest)
-next c = c .without .ensures ∙ rw (c .before .only .ensures, c .before .before .before .before .least .ensures)
-
 loop-less : tie.Need-loop-less Inv-loop μ-loop
 loop-less c =
-    let t = c .before .before .before .before .before in
-    let l = t .before .loop in
-    rw (next c) (left-less _ (l .rest) (l .inv .0) (t .loop-test .taken))
+    let t = c .before .before .before .before in
+    rw (c .later .ensures) (left-less _ (t .before .loop .rest) (t .before .loop .inv .0) (t .loop-test .taken))
 
 -- the transition looked at
 abbrev passed : tie.After-end-of Inv-loop μ-loop → Bool → Type 0
@@ -43,16 +38,16 @@ own e b h = rw (← e .before .least .ensures, ← e .end-of .ensures) h
 
 loop-again : tie.Need-loop-again Inv-loop μ-loop
 loop-again c =
-    let e = c .before .before .before in
+    let e = c .before .before in
     let t = e .before .before in
     let l = t .before .loop in
     let some = t .loop-test .taken in
-    rw (next c) (
+    rw (c .later .ensures) (
       rest-later _ (l .rest) (l .inv .0) some,
       ⊎-elim
           (λ w. w .2 ∙ w .1 .ensures ∙ ap₂ with (e .before .least .ensures) (l .inv .1) ∙ members-in _ _ (l .rest) (l .inv .0) some (own e true (eq-eqb _ _ (w .0 .taken))))
           (λ w. w .1 ∙ l .inv .1 ∙ members-out _ _ (l .rest) (l .inv .0) some (own e false (ne-eqb _ _ (w .0 .left))))
-          (c .before .before .if1 .came),
+          (c .before .if1 .came),
     )
 
 returns : tie.Need-returns Inv-loop μ-loop
@@ -62,5 +57,5 @@ returns c = let l = c .before .loop in l .inv .1 ∙ members-end _ _ (l .rest) (
 pub ending-at-spec : {M : Type 1} → statement M
 ending-at-spec =
     tie.close
-    (tie.spec Inv-loop μ-loop loop-holds (λ c κs. search needs) (λ c κs. search needs) (λ c κs. search needs) (λ c κs. search needs) (λ c κs. search needs)
+    (tie.spec Inv-loop μ-loop loop-holds (λ c κs. search needs) (λ c κs. search needs) (λ c κs. search needs) (λ c κs. search needs)
     loop-less loop-again returns)

@@ -1,23 +1,22 @@
 -- None of the marked places that are behind is one.
-use mathlib.Core.Path.{_≡_, sym, ap, _∙_}
+use mathlib.Core.Path.{_≡_, sym, _∙_}
 use mathlib.Core.Bool.{Bool, true, false, _&&_}
 use borrow.Author.Needs.{needs}
 use Rattle.sets.specs.Test.{anyBelow}
 use Rattle.sets.specs.Mask.{member, least}
-use Rattle.sets.proofs.Members.{later, Rest, rest-start, rest-later, left, left-less, behind, none-start, members-hit, members-more, none-end}
+use Rattle.sets.proofs.Members.{Rest, rest-start, rest-later, left, left-less, behind, none-start, members-hit, members-more, none-end}
 use Rattle.model.specs.View.{instance}
-use Rattle.rules.specs.Ports.{wouldLeave}
 use Rattle.words.specs.Words.{tablesIn, stateIn}
-use Rattle.ports.specs.Turns.{leavesBy}
+use Rattle.ports.specs.Turns.{leavesBy, leftBy}
 use Rattle.ports.proofs.Ports.{marked-leaves}
 use Rattle.ports.proofs.instance.some_leaves.Statement.{statement}
 use Rattle.ports.proofs.instance.some_leaves.Tie as tie
 
 abbrev Inv-loop : tie.InvT-loop
-Inv-loop tables state i m q rest₀ rest = Rest rest₀ rest × (anyBelow 32 (behind rest₀ (leavesBy (tablesIn tables) (instance (stateIn state) i) m q) rest) ≡ false)
+Inv-loop tables state i m any q rest₀ rest = Rest rest₀ rest × (anyBelow 32 (behind rest₀ (leavesBy (tablesIn tables) (instance (stateIn state) i) m any q) rest) ≡ false)
 
 abbrev μ-loop : tie.MeasureT-loop
-μ-loop tables state i m q rest₀ rest = left rest
+μ-loop tables state i m any q rest₀ rest = left rest
 
 loop-holds : tie.Need-loop-holds Inv-loop μ-loop
 loop-holds c = (rest-start (c .marked .result) (c .marked .ok), none-start (c .marked .result) _)
@@ -25,15 +24,15 @@ loop-holds c = (rest-start (c .marked .result) (c .marked .ok), none-start (c .m
 -- the search over the marked places tells
 told : (c : tie.After-marked Inv-loop μ-loop) (b : Bool)
     → let a = c .before .args in
-    anyBelow 32 (λ p. member p (c .marked .result) && leavesBy (tablesIn (a .tables .now)) (instance (stateIn (a .state .now)) (a .i)) (a .m) (a .q) p) ≡ b
-    → b ≡ anyBelow 16 (wouldLeave (tablesIn (a .tables .now)) (instance (stateIn (a .state .now)) (a .i)) (a .m) (a .q))
-told c b e = sym e ∙ rw (c .marked .ensures) (marked-leaves _ _ _ _)
+    anyBelow 32 (λ p. member p (c .marked .result) && leavesBy (tablesIn (a .tables .now)) (instance (stateIn (a .state .now)) (a .i)) (a .m) (a .any) (a .q) p) ≡ b
+    → b ≡ anyBelow 16 (leftBy (tablesIn (a .tables .now)) (instance (stateIn (a .state .now)) (a .i)) (a .m) (a .any) (a .q))
+told c b e = sym e ∙ rw (c .marked .ensures) (marked-leaves _ _ _ _ _)
 
 -- the place looked at
 own : (e : tie.After-would-leave Inv-loop μ-loop) (b : Bool) → e .would-leave .result ≡ b
     → let l = e .before .before .before in
     let a = l .before .before .args in
-    leavesBy (tablesIn (a .tables .now)) (instance (stateIn (a .state .now)) (a .i)) (a .m) (a .q) (least (l .loop .rest)) ≡ b
+    leavesBy (tablesIn (a .tables .now)) (instance (stateIn (a .state .now)) (a .i)) (a .m) (a .any) (a .q) (least (l .loop .rest)) ≡ b
 own e b h = rw (← e .before .least .ensures) (sym (e .would-leave .ensures) ∙ h)
 
 returns : tie.Need-returns Inv-loop μ-loop
@@ -42,22 +41,19 @@ returns c =
     let l = e .before .before .before in
     told (l .before) true (members-hit _ _ (l .loop .rest) (l .loop .inv .0) (e .before .before .loop-test .taken) (own e true (c .if1 .taken)))
 
-next : (c : tie.After-without Inv-loop μ-loop) → c .without .result ≡ later (c .before .before .before .before .before .before .loop .rest)
-next c = c .without .ensures ∙ rw (c .before .only .ensures, c .before .before .before .before .least .ensures)
-
 loop-less : tie.Need-loop-less Inv-loop μ-loop
 loop-less c =
-    let t = c .before .before .before .before .before in
-    rw (next c) (left-less _ (t .before .loop .rest) (t .before .loop .inv .0) (t .loop-test .taken))
+    let t = c .before .before .before .before in
+    rw (c .later .ensures) (left-less _ (t .before .loop .rest) (t .before .loop .inv .0) (t .loop-test .taken))
 
 loop-again : tie.Need-loop-again Inv-loop μ-loop
 loop-again c =
-    let e = c .before .before .before in
+    let e = c .before .before in
     let t = e .before .before in
     let l = t .before .loop in
     let some = t .loop-test .taken in
-    rw (next c)
-    (rest-later _ (l .rest) (l .inv .0) some, members-more _ _ (l .rest) (l .inv .0) some (l .inv .1) (own e false (c .before .before .if1 .left)))
+    rw (c .later .ensures)
+    (rest-later _ (l .rest) (l .inv .0) some, members-more _ _ (l .rest) (l .inv .0) some (l .inv .1) (own e false (c .before .if1 .left)))
 
 returns-2 : tie.Need-returns-2 Inv-loop μ-loop
 returns-2 c = let l = c .before in told (l .before) false (none-end _ _ (l .loop .rest) (c .loop-test .left) (l .loop .inv .1))
@@ -66,4 +62,4 @@ pub some-leaves-spec : {M : Type 1} → statement M
 some-leaves-spec =
     tie.close
     (tie.spec Inv-loop μ-loop (λ c κs. search needs) loop-holds (λ c κs. search needs) (λ c κs. search needs)
-    returns (λ c κs. search needs) (λ c κs. search needs) loop-less loop-again returns-2)
+    returns (λ c κs. search needs) loop-less loop-again returns-2)

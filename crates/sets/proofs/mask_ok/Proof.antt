@@ -6,8 +6,8 @@ use lib.Dec.{ltb}
 use lib.Pow.{shl-exact, pow-mono}
 use borrow.Author.Tests.{lt-ltb}
 use borrow.Author.Needs.{needs}
-use Rattle.lawfulness.proofs.types.mask_ok.Statement.{statement}
-use Rattle.lawfulness.proofs.types.mask_ok.Tie as tie
+use Rattle.sets.proofs.mask_ok.Statement.{statement}
+use Rattle.sets.proofs.mask_ok.Tie as tie
 
 returns : tie.Need-returns
 returns c = ap (ltb (c .before .args .m)) (shl-exact 1 (c .before .args .n) 32 (omega arith) (omega (arith, c .if1 .taken)) ∙ one-mul (2 ^ c .before .args .n))
