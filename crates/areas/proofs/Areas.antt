@@ -152,7 +152,7 @@ no-word zero k = refl
 no-word (suc m) zero = refl
 no-word (suc m) (suc k) = no-word m k
 
-all-alike : {A : Type 0} (n : ℕ) (f : ℕ → A) (a : A) → ((k : ℕ) → f k ≡ a) → listOf n f ≡ replicate n a
+pub all-alike : {A : Type 0} (n : ℕ) (f : ℕ → A) (a : A) → ((k : ℕ) → f k ≡ a) → listOf n f ≡ replicate n a
 unfolding listOf
 all-alike zero f a e = refl
 all-alike (suc n) f a e = ap₂ _∷_ (e 0) (all-alike n (λ k. f (suc k)) a (λ k. e (suc k)))

@@ -2,6 +2,7 @@
 -- Assumes nothing.
 use mathlib.Core.Path.{_≡_, refl}
 use mathlib.Core.Bool.{Bool, true, false}
+use lib.Dec.{leb}
 use lib.ListN.{getD}
 use Prim.Native.Nat.{ℕ}
 use borrow.Author.Tests.{eq-eqb}
@@ -12,20 +13,11 @@ use Rattle.model.specs.declared.Configuration.{Configuration}
 use Rattle.model.specs.Empty.{noInstruction}
 use Rattle.rules.specs.Action.{Action, add, del, pushb, con, dcon, wait, fire, end, enter, finish, moveAction, effect}
 use Rattle.rules.specs.Step.{isNext, actionAt, action, stepCheckWith, stepCheck, stepTo, checkAt}
-use Rattle.rules.proofs.Actions.{instruction-cases, move-cases}
+use Rattle.rules.proofs.Actions.{instruction-cases, move-cases, kindOf}
 use Rattle.rules.proofs.Local.{change, touches, changes}
 
 unfoldable pub isMove : Action → Bool
-isMove (fire i p) = true
-isMove (end i x) = true
-isMove (enter i p) = true
-isMove (finish i) = true
-isMove (add i k) = false
-isMove (del i) = false
-isMove (pushb i b) = false
-isMove (con k) = false
-isMove (dcon k) = false
-isMove (wait i) = false
+isMove a = leb 6 (kindOf a)
 
 pub line-no-move : (p : Program) (n : ℕ) → isMove (actionAt p n) ≡ false
 unfolding actionAt isMove

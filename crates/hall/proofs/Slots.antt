@@ -79,9 +79,9 @@ module _ (t : Tables) (c : Configuration) (whole : Whole c) where
     room (con k) new e = tt
     room (dcon k) new e = tt
     room (wait i) new e = tt
-    room (fire i p) new e = (in-array i (fire-facts t c i p e .present), tt)
+    room (fire i p) new e = (in-array i (fire-facts t c i p e .row .present), tt)
     room (end i x) new e = (in-array i (end-facts c i x e .present), tt)
-    room (enter i p) new e = (in-array i (enter-facts t c i p e .present), tt)
+    room (enter i p) new e = (in-array i (enter-facts t c i p e .row .present), tt)
     room (finish i) new e =
         let f = finish-facts t c i e in
         let h = short i (f .present) in

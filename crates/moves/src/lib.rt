@@ -168,7 +168,7 @@ pub fn enter_to(tables: &TableWords, state: &mut StateWords, i: u32, p: u32)
 pub fn finish_check(tables: &TableWords, state: &StateWords, i: u32) -> u32
     ensures { λ r. ⌜ r ≡ finishCheck (tablesIn (now (tables .entry))) (stateIn (now (state .entry))) i ⌝ }
 {
-    let leaver = some_leaves(tables, state, i, behavior(tables, state, i), true, 0);
+    let leaver = some_leaves(tables, state, i, true, 0);
     let busy = (held(state, i) != 0) | leaver;
     first(state, i, refuse_if(busy, TOO_EARLY, 0))
 }

@@ -39,6 +39,10 @@ leavesBy t v m any q p =
 abbrev pub leftBy : Tables → Instance → ℕ → Bool → ℕ → ℕ → Bool
 leftBy t v m any q = cond any (mayLeave t v m) (wouldLeave t v m q)
 
+-- some place may be left so by the current behavior of i
+abbrev pub someLeaves : Tables → Configuration → ℕ → Bool → ℕ → Bool
+someLeaves t c i any q = anyBelow 16 (leftBy t (instance c i) (behavior t c i) any q)
+
 -- provide port q of instance i refuses
 abbrev pub refusingAt : Tables → Configuration → ℕ → ℕ → Bool
 refusingAt t c i q = refusing t (instance c i) (behavior t c i) q

@@ -19,7 +19,7 @@ ghost use Rattle.model.specs.View.{instance};
 ghost use Rattle.rules.specs.Instance.{held, active, endsAt, leaving, entering};
 ghost use Rattle.rules.specs.Ports.{behavior, wouldEnter};
 ghost use Rattle.words.specs.Words.{tablesIn, stateIn};
-ghost use Rattle.ports.specs.Turns.{endOf, activeWith, leavesBy, leftBy, refusingAt};
+ghost use Rattle.ports.specs.Turns.{endOf, activeWith, leavesBy, someLeaves, refusingAt};
 
 // Where transition x of type k leaves, or where it leads.
 fn end_of(tables: &TableWords, out: bool, k: u32, x: u32) -> u32
@@ -137,16 +137,10 @@ fn would_enter(tables: &TableWords, state: &StateWords, i: u32, m: u32, q: u32, 
 }
 
 // Some place may be left so: any, or one whose leaving would make port q inactive.
-pub fn some_leaves(
-    tables: &TableWords,
-    state: &StateWords,
-    i: u32,
-    m: u32,
-    any: bool,
-    q: u32,
-) -> bool
-    ensures { λ r. ⌜ r ≡ anyBelow 16 (leftBy (tablesIn (now (tables .entry))) (instance (stateIn (now (state .entry))) i) m any q) ⌝ }
+pub fn some_leaves(tables: &TableWords, state: &StateWords, i: u32, any: bool, q: u32) -> bool
+    ensures { λ r. ⌜ r ≡ someLeaves (tablesIn (now (tables .entry))) (stateIn (now (state .entry))) i any q ⌝ }
 {
+    let m = behavior(tables, state, i);
     let mut rest = marked(state, i);
     while rest != 0 {
         if would_leave(tables, state, i, m, any, q, sets::least(rest)) {
@@ -178,12 +172,11 @@ pub fn refusing(tables: &TableWords, state: &StateWords, i: u32, q: u32) -> bool
     if !active(tables, state, i, q) {
         return false;
     }
-    let m = behavior(tables, state, i);
-    if some_leaves(tables, state, i, m, false, q) {
+    if some_leaves(tables, state, i, false, q) {
         return true;
     }
     if ended(state, i) == 0 {
         return false;
     }
-    some_enters(tables, state, i, m, q)
+    some_enters(tables, state, i, behavior(tables, state, i), q)
 }

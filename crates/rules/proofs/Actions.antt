@@ -35,17 +35,21 @@ module _ (P : Action → Type 0) where
       go false false true = c
       go false false false = d
 
+-- the ten kinds by number: the six instructions, then the four moves
+abbrev pub kindOf : Action → ℕ
+kindOf (add i k) = 0
+kindOf (del i) = 1
+kindOf (pushb i b) = 2
+kindOf (con k) = 3
+kindOf (dcon k) = 4
+kindOf (wait i) = 5
+kindOf (fire i p) = 6
+kindOf (end i x) = 7
+kindOf (enter i p) = 8
+kindOf (finish i) = 9
+
 unfoldable pub isAdd : Action → Bool
-isAdd (add i k) = true
-isAdd (del i) = false
-isAdd (pushb i b) = false
-isAdd (con k) = false
-isAdd (dcon k) = false
-isAdd (wait i) = false
-isAdd (fire i p) = false
-isAdd (end i x) = false
-isAdd (enter i p) = false
-isAdd (finish i) = false
+isAdd a = eqb (kindOf a) 0
 
 pub not-add : {a : Action} {i k : ℕ} → isAdd a ≡ false → a ≡ add i k → ⊥
 unfolding isAdd

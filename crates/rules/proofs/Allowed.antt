@@ -124,16 +124,8 @@ dcon-facts t c k e =
     let (stands, e₁) = meets (someConnection c (sameConnection k)) _ e in
     record { stands = stands; idle = passes (active t (instance c (k .user)) (k .useport)) _ e₁ .0 }
 
--- `fire` and `enter`: instance i goes to w by the transitions xs; what they ask, `ready`, and what is in their way, `busy`
-pub record MoveFacts (t : Tables) (c : Configuration) (i xs : ℕ) (ready busy : Bool) (w : Instance) : Type 0 where
-  pub present : instance c i .present ≡ true
-  pub queued : 0 < instance c i .queued
-  pub some : eqb xs 0 ≡ false
-  pub ready-is : ready ≡ true
-  pub free : busy ≡ false
-  pub ports : portCheck t (standing c) c i (instance c i) w ≡ 0
-
-moveRow : Instance → ℕ → Bool → Bool → ℕ
+-- `fire` and `enter` by the transitions xs: what they ask of the instance v, `ready`, and what is in their way, `busy`
+abbrev pub moveRow : Instance → ℕ → Bool → Bool → ℕ
 moveRow v xs ready busy =
     not (v .present) ⇒ idAbsent
     ∣ eqb (v .queued) 0 ⇒ queueEmpty
@@ -142,24 +134,39 @@ moveRow v xs ready busy =
     ∣ busy ⇒ heldOrMarked
     ∣ allowed
 
-move-facts : (t : Tables) (c : Configuration) (i xs : ℕ) (ready busy : Bool) (w : Instance)
-    → orNumber (moveRow (instance c i) xs ready busy) (portCheck t (standing c) c i (instance c i) w) ≡ 0 → MoveFacts t c i xs ready busy w
-unfolding moveRow
-move-facts t c i xs ready busy w e =
-    let (row, ports) = or-else (moveRow (instance c i) xs ready busy) (portCheck t (standing c) c i (instance c i) w) e in
-    let (present, e₁) = meets (instance c i .present) _ row in
-    let (queued, e₂) = passes (eqb (instance c i .queued) 0) _ e₁ in
+pub record RowFacts (v : Instance) (xs : ℕ) (ready busy : Bool) : Type 0 where
+  pub present : v .present ≡ true
+  pub queued : 0 < v .queued
+  pub some : eqb xs 0 ≡ false
+  pub ready-is : ready ≡ true
+  pub free : busy ≡ false
+
+pub row-facts : (v : Instance) (xs : ℕ) (ready busy : Bool) → moveRow v xs ready busy ≡ 0 → RowFacts v xs ready busy
+row-facts v xs ready busy e =
+    let (present, e₁) = meets (v .present) _ e in
+    let (queued, e₂) = passes (eqb (v .queued) 0) _ e₁ in
     let (some, e₃) = passes (eqb xs 0) _ e₂ in
     let (ready-is, e₄) = meets ready _ e₃ in
     let (free, _) = passes busy _ e₄ in
-    record { present = present; queued = positive (instance c i .queued) queued; some = some; ready-is = ready-is; free = free; ports = ports }
+    record { present = present; queued = positive (v .queued) queued; some = some; ready-is = ready-is; free = free }
+
+-- and instance i goes to w
+pub record MoveFacts (t : Tables) (c : Configuration) (i xs : ℕ) (ready busy : Bool) (w : Instance) : Type 0 where
+  pub row : RowFacts (instance c i) xs ready busy
+  pub ports : portCheck t (standing c) c i (instance c i) w ≡ 0
+
+move-facts : (t : Tables) (c : Configuration) (i xs : ℕ) (ready busy : Bool) (w : Instance)
+    → orNumber (moveRow (instance c i) xs ready busy) (portCheck t (standing c) c i (instance c i) w) ≡ 0 → MoveFacts t c i xs ready busy w
+move-facts t c i xs ready busy w e =
+    let (row, ports) = or-else (moveRow (instance c i) xs ready busy) (portCheck t (standing c) c i (instance c i) w) e in
+    record { row = row-facts (instance c i) xs ready busy row; ports = ports }
 
 abbrev pub FireFacts : Tables → Configuration → ℕ → ℕ → Type 0
 FireFacts t c i p =
     MoveFacts t c i (leavers t c i p) (member p (instance c i .marked)) (overlaps (leavers t c i p) (held (instance c i))) (afterFire t c i p)
 
 pub fire-facts : (t : Tables) (c : Configuration) (i p : ℕ) → fireCheck t (standing c) c i p ≡ 0 → FireFacts t c i p
-unfolding fireCheck fireRow moveRow
+unfolding fireCheck fireRow
 fire-facts t c i p = move-facts t c i (leavers t c i p) _ _ (afterFire t c i p)
 
 abbrev pub EnterFacts : Tables → Configuration → ℕ → ℕ → Type 0
@@ -167,7 +174,7 @@ EnterFacts t c i p =
     MoveFacts t c i (enterers t c i p) (within (enterers t c i p) (instance c i .ended)) (member p (instance c i .marked)) (afterEnter t c i p)
 
 pub enter-facts : (t : Tables) (c : Configuration) (i p : ℕ) → enterCheck t (standing c) c i p ≡ 0 → EnterFacts t c i p
-unfolding enterCheck enterRow moveRow
+unfolding enterCheck enterRow
 enter-facts t c i p = move-facts t c i (enterers t c i p) _ _ (afterEnter t c i p)
 
 pub record EndFacts (c : Configuration) (i x : ℕ) : Type 0 where
@@ -237,9 +244,9 @@ owner-known default t c (pushb i b) e q = inr (pushb-facts default t c i b e .pr
 owner-known default t c (con k) e q = absurd (false≢true q)
 owner-known default t c (dcon k) e q = absurd (false≢true q)
 owner-known default t c (wait i) e q = absurd (false≢true q)
-owner-known default t c (fire i p) e q = inr (fire-facts t c i p e .present)
+owner-known default t c (fire i p) e q = inr (fire-facts t c i p e .row .present)
 owner-known default t c (end i x) e q = inr (end-facts c i x e .present)
-owner-known default t c (enter i p) e q = inr (enter-facts t c i p e .present)
+owner-known default t c (enter i p) e q = inr (enter-facts t c i p e .row .present)
 owner-known default t c (finish i) e q = inr (finish-facts t c i e .present)
 
 -- a present instance is one of the array

@@ -26,7 +26,7 @@ use Rattle.rules.specs.Fire.{fireRow, leavers, afterFire}
 use Rattle.rules.specs.Enter.{enterRow, enterers, afterEnter}
 use Rattle.rules.specs.Proper.{WellFormed}
 use Rattle.rules.specs.Holding.{Ready, ReadyToCut, ReadyIsRefusing, RefusingIsReady, NewUsersHoldNobody}
-use Rattle.rules.proofs.Allowed.{passes, meets, welcome}
+use Rattle.rules.proofs.Allowed.{welcome, row-facts}
 use Rattle.rules.proofs.Connections.{Joined, some-joined, joined-none, joined-joins}
 
 module _ (t : Tables) (c : Configuration) (j p q : ℕ) where
@@ -35,25 +35,11 @@ module _ (t : Tables) (c : Configuration) (j p q : ℕ) where
 
   fire-cuts : fireRow v p (leavers t c j p) ≡ 0 → active t (afterFire t c j p) q ≡ false → wouldLeave t v (behavior t c j) q p ≡ true
   unfolding fireRow wouldLeave
-  fire-cuts e off =
-      let xs = leavers t c j p in
-      let (_, e₁) = meets (v .present) _ e in
-      let (_, e₂) = passes (eqb (v .queued) 0) _ e₁ in
-      let (some, e₃) = passes (eqb xs 0) _ e₂ in
-      let (marked, e₄) = meets (member p (v .marked)) _ e₃ in
-      let (free, _) = passes (overlaps xs (held v)) _ e₄ in
-      rw (marked, some, free, off)
+  fire-cuts e off = let f = row-facts v (leavers t c j p) (member p (v .marked)) (overlaps (leavers t c j p) (held v)) e in rw (f .ready-is, f .some, f .free, off)
 
   enter-cuts : enterRow v p (enterers t c j p) ≡ 0 → active t (afterEnter t c j p) q ≡ false → wouldEnter t v (behavior t c j) q p ≡ true
   unfolding enterRow wouldEnter
-  enter-cuts e off =
-      let xs = enterers t c j p in
-      let (_, e₁) = meets (v .present) _ e in
-      let (_, e₂) = passes (eqb (v .queued) 0) _ e₁ in
-      let (some, e₃) = passes (eqb xs 0) _ e₂ in
-      let (ended, e₄) = meets (within xs (v .ended)) _ e₃ in
-      let (free, _) = passes (member p (v .marked)) _ e₄ in
-      rw (some, ended, free, off)
+  enter-cuts e off = let f = row-facts v (enterers t c j p) (within (enterers t c j p) (v .ended)) (member p (v .marked)) e in rw (f .some, f .ready-is, f .free, off)
 
 pub ready-is-refusing : ReadyIsRefusing
 unfolding ReadyIsRefusing Ready refusing

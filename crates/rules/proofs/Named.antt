@@ -92,28 +92,22 @@ pub record Asked (t : Tables) (x : Standing) (c : Configuration) (a : Action) (n
   pub checked : portCheck t x c id (instance c id) after ≡ n
   pub about : concern t x c a n ≡ concerned t x c id (instance c id) after n
 
+-- a move whose row gives neither: its ports gave the number
+at-ports : (t : Tables) (x : Standing) (c : Configuration) (a : Action) (n i : ℕ) (w : Instance) (row : ℕ) → Moves t c a i w → Other row
+    → (row ≡ 0 → instance c i .present ≡ true) → concern t x c a n ≡ concerned t x c i (instance c i) w n
+    → orNumber row (portCheck t x c i (instance c i) w) ≡ n → ported n ≡ true → Asked t x c a n
+at-ports t x c a n i w row moves o here about e h =
+    let (passed, checked) = or-ported row _ n o e h in
+    record { id = i; after = w; moves = moves; present = here passed; checked = checked; about = about }
+
 asked : (default : ℕ) (t : Tables) (x : Standing) (c : Configuration) (a : Action) (n : ℕ) → actionCheck default t x c a ≡ n → ported n ≡ true → Asked t x c a n
 unfolding actionCheck addCheck delCheck pushbCheck conCheck dconCheck waitCheck fireCheck fireRow endCheck enterCheck enterRow finishCheck finishRow concern
 asked default t x c (fire i p) n e h =
-    let (passed, checked) = or-ported (fireRow (instance c i) p (leavers t c i p)) _ n (search others depth 8) e h in
-    record {
-      id = i;
-      after = afterFire t c i p;
-      moves = (p, inl (refl, refl));
-      present = meets (instance c i .present) _ passed .0;
-      checked = checked;
-      about = refl;
-    }
+    at-ports t x c (fire i p) n i (afterFire t c i p) (fireRow (instance c i) p (leavers t c i p)) (p, inl (refl, refl))
+    (search others depth 8) (λ o. meets (instance c i .present) _ o .0) refl e h
 asked default t x c (enter i p) n e h =
-    let (passed, checked) = or-ported (enterRow (instance c i) p (enterers t c i p)) _ n (search others depth 8) e h in
-    record {
-      id = i;
-      after = afterEnter t c i p;
-      moves = (p, inr (refl, refl));
-      present = meets (instance c i .present) _ passed .0;
-      checked = checked;
-      about = refl;
-    }
+    at-ports t x c (enter i p) n i (afterEnter t c i p) (enterRow (instance c i) p (enterers t c i p)) (p, inr (refl, refl))
+    (search others depth 8) (λ o. meets (instance c i .present) _ o .0) refl e h
 asked default t x c (add i k) n e h = both (subst Other e (search others)) h
 asked default t x c (del i) n e h = both (subst Other e (search others)) h
 asked default t x c (pushb i b) n e h = both (subst Other e (search others)) h

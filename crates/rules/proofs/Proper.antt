@@ -194,10 +194,10 @@ module _ (default : ℕ) (t : Tables) (p : Program) (law : Facts default t p) wh
     own-proper (dcon k) new e q h = absurd (false≢true q)
     own-proper (wait i) new e q h = absurd (false≢true q)
     own-proper (fire i x) new e q h =
-        let f = fire-facts t c i x e in fire-proper (instance c i) (slot c i) (now .each i (f .present)) x (f .queued) (f .free)
+        let f = fire-facts t c i x e .row in fire-proper (instance c i) (slot c i) (now .each i (f .present)) x (f .queued) (f .free)
     own-proper (end i x) new e q h = let f = end-facts c i x e in end-proper (instance c i) (slot c i) (now .each i (f .present)) x (f .running)
     own-proper (enter i x) new e q h =
-        let f = enter-facts t c i x e in enter-proper (instance c i) (slot c i) (now .each i (f .present)) x (f .queued) (f .some)
+        let f = enter-facts t c i x e .row in enter-proper (instance c i) (slot c i) (now .each i (f .present)) x (f .queued) (f .some)
     own-proper (finish i) new e q h = let f = finish-facts t c i e in finish-proper (instance c i) (slot c i) (now .each i (f .present))
 
     module _ (a : Action) (new : Lawfully t a) (ok : checkAt default t c a ≡ 0) where

@@ -104,8 +104,12 @@ module _ (m : ℕ) (p : ℕ → Bool) where
     pub members-hit : p (least r) ≡ true → anyBelow 32 (λ j. member j m && p j) ≡ true
     members-hit e = any-hit 32 _ (least r) (least-lt m r rest some) (rw (least-member m r rest some, e))
 
-    pub members-more : anyBelow 32 (behind r) ≡ false → p (least r) ≡ false → anyBelow 32 (behind (later r)) ≡ false
+    members-more : anyBelow 32 (behind r) ≡ false → p (least r) ≡ false → anyBelow 32 (behind (later r)) ≡ false
     members-more off e = none-any 32 _ (λ j h. behind-more j h ∙ rw (any-none 32 (behind r) off j h, e) (and-false (eqb j (least r))))
+
+    -- none yet, and none by one more
+    pub searched : anyBelow 32 (behind r) ≡ false → p (least r) ≡ false → Rest m (later r) × (anyBelow 32 (behind (later r)) ≡ false)
+    searched off e = (rest-later m r rest some, members-more off e)
 
   pub members-start : 0 ≡ collect 32 (behind m)
   members-start = collect-is 32 (behind m) 0 (omega arith) (λ j h. member-none j ∙ sym (none-behind j))

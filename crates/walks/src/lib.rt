@@ -32,22 +32,19 @@ use words::answer::step_id;
 use words::answer::step_number;
 use words::answer::step_verb;
 use words::answer::steps;
-use words::program::instruction_id;
-use words::program::instruction_number;
-use words::program::instruction_provideport;
-use words::program::instruction_provider;
-use words::program::instruction_verb;
+use words::program::InstructionWords;
+use words::program::instruction;
 use words::program::instructions;
 use words::state::done;
 use words::state::put_done;
 ghost use mathlib.Core.Path.{_≡_};
 ghost use Prim.Native.Nat.{ℕ, _<_, min};
 ghost use Rattle.model.specs.View.{stepsOf};
-ghost use Rattle.rules.specs.Action.{moveAction, effect};
-ghost use Rattle.rules.specs.Step.{actionAt, checkAt, step};
+ghost use Rattle.rules.specs.Action.{instructionAction, moveAction, effect};
+ghost use Rattle.rules.specs.Step.{checkAt, step};
 ghost use Rattle.rules.specs.Walk.{walk};
 ghost use Rattle.words.specs.Words.{tablesIn, programIn, answerIn, stateIn};
-ghost use Rattle.words.specs.Parts.{stepOf};
+ghost use Rattle.words.specs.Parts.{said, stepOf};
 ghost use Rattle.walks.specs.Reached.{tally, answerAt, stepped, passed, walked};
 ghost use Rattle.walks.specs.Fits.{PortFits, PortsFit};
 
@@ -81,50 +78,38 @@ fn move_to(tables: &TableWords, state: &mut StateWords, verb: u32, i: u32, n: u3
     }
 }
 
-// The number of instruction n, by its verb: an unknown one counts as the last. Where it is 0 there is room for one more.
-fn line_check(
-    default: u32,
-    tables: &TableWords,
-    program: &ProgramWords,
-    state: &StateWords,
-    n: u32,
-) -> u32
-    ensures value { λ r. ⌜ r ≡ checkAt default (tablesIn (now (tables .entry))) (stateIn (now (state .entry)))
-        (actionAt (programIn (now (program .entry))) n) ⌝ }
-    ensures room { λ r. ⌜ (PortFits (actionAt (programIn (now (program .entry))) n) → r ≡ 0
-        → tally (stateIn (now (state .entry))) (actionAt (programIn (now (program .entry))) n) < 4294967295) ⌝ }
+// The number of an instruction, by its verb: an unknown one counts as the last. Where it is 0 there is room for one more.
+fn line_check(default: u32, tables: &TableWords, state: &StateWords, line: InstructionWords) -> u32
+    ensures value { λ r. ⌜ r ≡ checkAt default (tablesIn (now (tables .entry))) (stateIn (now (state .entry))) (instructionAction (said line)) ⌝ }
+    ensures room { λ r. ⌜ (PortFits (instructionAction (said line)) → r ≡ 0
+        → tally (stateIn (now (state .entry))) (instructionAction (said line)) < 4294967295) ⌝ }
 {
-    let v = instruction_verb(program, n);
-    let i = instruction_id(program, n);
-    let m = instruction_number(program, n);
-    let w = instruction_provider(program, n);
-    let q = instruction_provideport(program, n);
-    match v {
+    let verb = line.verb;
+    let i = line.id;
+    let n = line.number;
+    match verb {
         0 => add_check(state, i),
         1 => del_check(state, i),
-        2 => pushb_check(default, tables, state, i, m),
-        3 => con_check(tables, state, i, m, w, q),
-        4 => dcon_check(tables, state, i, m, w, q),
+        2 => pushb_check(default, tables, state, i, n),
+        3 => con_check(tables, state, i, n, line.provider, line.provideport),
+        4 => dcon_check(tables, state, i, n, line.provider, line.provideport),
         _ => wait_check(state, i),
     }
 }
 
-fn line_to(tables: &TableWords, program: &ProgramWords, state: &mut StateWords, n: u32)
-    ensures { λ r. ⌜ (tally (stateIn (now (state .entry))) (actionAt (programIn (now (program .entry))) n) < 4294967295
-        → stateIn (now (state .exit)) ≡ effect (tablesIn (now (tables .entry))) (stateIn (now (state .entry)))
-        (actionAt (programIn (now (program .entry))) n)) ⌝ }
+fn line_to(tables: &TableWords, state: &mut StateWords, line: InstructionWords)
+    ensures { λ r. ⌜ (tally (stateIn (now (state .entry))) (instructionAction (said line)) < 4294967295
+        → stateIn (now (state .exit)) ≡ effect (tablesIn (now (tables .entry))) (stateIn (now (state .entry))) (instructionAction (said line))) ⌝ }
 {
-    let v = instruction_verb(program, n);
-    let i = instruction_id(program, n);
-    let m = instruction_number(program, n);
-    let w = instruction_provider(program, n);
-    let q = instruction_provideport(program, n);
-    match v {
-        0 => add_to(tables, state, i, m),
+    let verb = line.verb;
+    let i = line.id;
+    let n = line.number;
+    match verb {
+        0 => add_to(tables, state, i, n),
         1 => del_to(state, i),
-        2 => push_to(state, i, m),
-        3 => connect(state, i, m, w, q),
-        4 => disconnect(state, i, m),
+        2 => push_to(state, i, n),
+        3 => connect(state, i, n, line.provider, line.provideport),
+        4 => disconnect(state, i, n),
         _ => {}
     }
 }
@@ -154,11 +139,12 @@ pub fn step(
     if instructions(program) <= at {
         return about_none(NO_INSTRUCTION_LEFT);
     }
-    let refused = line_check(default, tables, program, state, at);
+    let line = instruction(program, at);
+    let refused = line_check(default, tables, state, line);
     if refused != 0 {
         return about_none(refused);
     }
-    line_to(tables, program, state, at);
+    line_to(tables, state, line);
     put_done(state, at + 1);
     about_none(0)
 }

@@ -22,7 +22,8 @@ use Rattle.rules.specs.Instance.{withQueued}
 use Rattle.words.specs.Rows.{word, row, rowAt, rows, puts, putsIn}
 use Rattle.words.specs.Words.{instanceIn, stateIn}
 use Rattle.words.specs.Parts.{withSets, bare, withSlot, withServer, changed}
-use Rattle.words.proofs.Rows.{Apart, one-put, in-far, rows-put, rows-far, rows-same, rows-at, rows-none, none-word}
+use Rattle.areas.proofs.Areas.{no-word}
+use Rattle.words.proofs.Rows.{Apart, one-put, in-far, rows-put, rows-far, rows-same, rows-at, rows-none}
 
 -- ---- fields
 
@@ -190,10 +191,10 @@ module _ (ws : List ℕ) (full : length ws ≡ 930) where
 pub start-in : stateIn (replicate 930 0) ≡ start
 unfolding stateIn start
 start-in j = record {
-  instances = (ap (λ (m : ℕ). rows (instanceIn m) (replicate 930 0) 1 32 5) (none-word 930 0) ∙ rows-none (instanceIn 0) absent 1 32 5 930 none) j;
+  instances = (ap (λ (m : ℕ). rows (instanceIn m) (replicate 930 0) 1 32 5) (no-word 930 0) ∙ rows-none (instanceIn 0) absent 1 32 5 930 none) j;
   queue = rows-none (λ k r. word r 0) 0 161 256 1 930 (λ k. refl) j;
   servers = rows-none (λ k r. word r 0) 0 417 512 1 930 (λ k. refl) j;
-  done = none-word 930 929 j;
+  done = no-word 930 929 j;
 }
   where
     none : (k : ℕ) → instanceIn 0 k (replicate 5 0) ≡ absent

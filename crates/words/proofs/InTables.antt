@@ -15,7 +15,8 @@ use Rattle.reading.specs.Fill.{withTransition, withPort}
 use Rattle.words.specs.Rows.{word, rowAt, rows, column, puts, putsIn}
 use Rattle.words.specs.Words.{typeIn, tablesIn}
 use Rattle.words.specs.Parts.{withHead, withEnds, withBehavior, withGroup, withKind, typeOfWords}
-use Rattle.words.proofs.Rows.{Apart, in-far, rows-put, rows-far, rows-same, rows-at, rows-none, none-word}
+use Rattle.areas.proofs.Areas.{no-word}
+use Rattle.words.proofs.Rows.{Apart, in-far, rows-put, rows-far, rows-same, rows-at, rows-none}
 
 pub type-at : (ws : List ℕ) (k : ℕ) (get : ComponentType → ℕ) → get (typeIn k []) ≡ get noType → get (typeOf (tablesIn ws) k) ≡ get (typeIn k (rowAt ws 1920 16 5 k))
 unfolding tablesIn
@@ -114,8 +115,8 @@ module _ (ws : List ℕ) (full : length ws ≡ 2002) (j : ℕ) where
 pub no-tables : tablesIn (replicate 2002 0) ≡ noTables
 unfolding tablesIn noTables listOf
 no-tables i = record {
-  depth = none-word 2002 2000 i;
-  count = none-word 2002 2001 i;
+  depth = no-word 2002 2000 i;
+  count = no-word 2002 2001 i;
   types = rows-none typeIn noType 1920 16 5 2002 (λ k. refl) i;
   transitions = record { source = none 0 512 2 0 refl i; destination = none 0 512 2 1 refl i };
   behaviors = none 1792 128 1 0 refl i;

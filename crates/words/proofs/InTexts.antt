@@ -17,7 +17,8 @@ use Rattle.reading.specs.Fill.{withInstruction, withStep}
 use Rattle.words.specs.Rows.{word, rowAt, rows, puts, putsIn}
 use Rattle.words.specs.Words.{instructionIn, programIn, stepIn, answerIn}
 use Rattle.words.specs.Parts.{instructionOf, stepOf, withInstructions, withSteps}
-use Rattle.words.proofs.Rows.{in-far, rows-put, rows-same, rows-at, rows-none, none-word}
+use Rattle.areas.proofs.Areas.{no-word}
+use Rattle.words.proofs.Rows.{in-far, rows-put, rows-same, rows-at, rows-none}
 
 module _ (ws : List ℕ) (n : ℕ) where
   pub step-at : (get : Step → ℕ) → get (stepIn n []) ≡ get noStep → get (getD (answerIn ws .steps) n noStep) ≡ get (stepIn n (rowAt ws 0 1024 3 n))
@@ -46,7 +47,7 @@ module _ (ws : List ℕ) (n : ℕ) where
 
 pub no-answer : answerIn (replicate 3073 0) ≡ noAnswer
 unfolding answerIn noAnswer
-no-answer i = record { steps = rows-none stepIn noStep 0 1024 3 3073 (λ k. refl) i; count = none-word 3073 3072 i }
+no-answer i = record { steps = rows-none stepIn noStep 0 1024 3 3073 (λ k. refl) i; count = no-word 3073 3072 i }
 
 pub answer-count : (ws : List ℕ) (n : ℕ) → length ws ≡ 3073 → answerIn (set ws 3072 n) ≡ withSteps (answerIn ws) n
 unfolding answerIn
@@ -57,7 +58,7 @@ answer-count ws n full i = record {
 
 pub no-program : programIn (replicate 1281 0) ≡ noProgram
 unfolding programIn noProgram
-no-program i = record { instructions = rows-none instructionIn noInstruction 0 256 5 1281 (λ k. refl) i; count = none-word 1281 1280 i }
+no-program i = record { instructions = rows-none instructionIn noInstruction 0 256 5 1281 (λ k. refl) i; count = no-word 1281 1280 i }
 
 pub program-count : (ws : List ℕ) (n : ℕ) → length ws ≡ 1281 → programIn (set ws 1280 n) ≡ withInstructions (programIn ws) n
 unfolding programIn

@@ -15,6 +15,7 @@ use lib.Seq.{getD-set-same, getD-set-other, set-out, ext-getD, take-suc, take-al
 use borrow.Author.Tests.{lt-ltb, le-ltb}
 use Rattle.model.specs.View.{listOf}
 use Rattle.model.proofs.View.{past-end, list-at, list-same, length-list}
+use Rattle.areas.proofs.Areas.{no-word, all-alike}
 use Rattle.words.specs.Rows.{word, row, rowAt, rows, puts, putsIn}
 
 -- ---- rows lie apart
@@ -161,21 +162,11 @@ module _ {A : Type 0} (make : ℕ → List ℕ → A) (at n w : ℕ) where
 
 -- ---- words that are all 0
 
-pub none-word : (m k : ℕ) → word (replicate m 0) k ≡ 0
-none-word zero k = refl
-none-word (suc m) zero = refl
-none-word (suc m) (suc k) = none-word m k
-
-all-one : {A : Type 0} (n : ℕ) (f : ℕ → A) (a : A) → ((k : ℕ) → f k ≡ a) → listOf n f ≡ replicate n a
-unfolding listOf
-all-one zero f a e = refl
-all-one (suc n) f a e = ap₂ _∷_ (e 0) (all-one n (λ k. f (suc k)) a (λ k. e (suc k)))
-
 pub rows-none : {A : Type 0} (make : ℕ → List ℕ → A) (d : A) (at n w m : ℕ) → ((k : ℕ) → make k (replicate w 0) ≡ d)
     → rows make (replicate m 0) at n w ≡ replicate n d
 rows-none make d at n w m e =
-    all-one n (λ k. make k (row (replicate m 0) at w k)) d
-    (λ k. ap (make k) (all-one w (λ f. word (replicate m 0) (at + k * w + f)) 0 (λ f. none-word m (at + k * w + f))) ∙ e k)
+    all-alike n (λ k. make k (row (replicate m 0) at w k)) d
+    (λ k. ap (make k) (all-alike w (λ f. word (replicate m 0) (at + k * w + f)) 0 (λ f. no-word m (at + k * w + f))) ∙ e k)
 
 -- ---- the words of a list put one after the other
 

@@ -6,6 +6,8 @@ use lib.Dec.{ltb}
 use lib.ListN.{set}
 use Rattle.sets.specs.Mask.{with, without, only}
 use Rattle.model.specs.declared.ComponentType.{ComponentType}
+use Rattle.model.specs.declared.Transitions.{Transitions}
+use Rattle.model.specs.declared.Ports.{Ports}
 use Rattle.model.specs.declared.Tables.{Tables}
 use Rattle.model.specs.declared.Instruction.{Instruction}
 use Rattle.model.specs.declared.Program.{Program}
@@ -17,17 +19,14 @@ use Rattle.model.specs.declared.Configuration.{Configuration}
 use Rattle.model.specs.Empty.{noServer}
 use Rattle.model.specs.View.{portNumber, server, withQueue, withServers}
 use Rattle.reading.specs.Fill.{withTransition, withPort}
+use Rattle.words.specs.declared.program.InstructionWords.{InstructionWords}
+
+abbrev tables : ℕ → ℕ → List ComponentType → Transitions → List ℕ → Ports → Tables
+tables d n ks xs bs qs = record { depth = d; count = n; types = ks; transitions = xs; behaviors = bs; ports = qs }
 
 -- the depth as it is written, and how many types, instructions, steps there are
 abbrev pub withHead : Tables → ℕ → ℕ → Tables
-withHead t d n = record {
-  depth = d;
-  count = n;
-  types = t .types;
-  transitions = t .transitions;
-  behaviors = t .behaviors;
-  ports = t .ports;
-}
+withHead t d n = tables d n (t .types) (t .transitions) (t .behaviors) (t .ports)
 
 abbrev pub withInstructions : Program → ℕ → Program
 withInstructions p n = record { instructions = p .instructions; count = n }
@@ -37,51 +36,28 @@ withSteps a n = record { steps = a .steps; count = n }
 
 -- transition j, behavior j, port j, each counted over all types
 abbrev pub withEnds : Tables → ℕ → ℕ → ℕ → Tables
-withEnds t j a b = record {
-  depth = t .depth;
-  count = t .count;
-  types = t .types;
-  transitions = withTransition (t .transitions) j a b;
-  behaviors = t .behaviors;
-  ports = t .ports;
-}
+withEnds t j a b = tables (t .depth) (t .count) (t .types) (withTransition (t .transitions) j a b) (t .behaviors) (t .ports)
 
 abbrev pub withBehavior : Tables → ℕ → ℕ → Tables
-withBehavior t j xs = record {
-  depth = t .depth;
-  count = t .count;
-  types = t .types;
-  transitions = t .transitions;
-  behaviors = set (t .behaviors) j xs;
-  ports = t .ports;
-}
+withBehavior t j xs = tables (t .depth) (t .count) (t .types) (t .transitions) (set (t .behaviors) j xs) (t .ports)
 
 abbrev pub withGroup : Tables → ℕ → ℕ → ℕ → ℕ → Tables
-withGroup t j uses places transitions = record {
-  depth = t .depth;
-  count = t .count;
-  types = t .types;
-  transitions = t .transitions;
-  behaviors = t .behaviors;
-  ports = withPort (t .ports) j uses places transitions;
-}
+withGroup t j uses places transitions =
+    tables (t .depth) (t .count) (t .types) (t .transitions) (t .behaviors) (withPort (t .ports) j uses places transitions)
 
 -- what is known of type i
 abbrev pub withKind : Tables → ℕ → ComponentType → Tables
-withKind t i k = record {
-  depth = t .depth;
-  count = t .count;
-  types = set (t .types) i k;
-  transitions = t .transitions;
-  behaviors = t .behaviors;
-  ports = t .ports;
-}
+withKind t i k = tables (t .depth) (t .count) (set (t .types) i k) (t .transitions) (t .behaviors) (t .ports)
 
 abbrev pub typeOfWords : ℕ → ℕ → ℕ → ℕ → ℕ → ComponentType
 typeOfWords a b c d e = record { places = a; initial = b; transitions = c; behaviors = d; ports = e }
 
 abbrev pub instructionOf : ℕ → ℕ → ℕ → ℕ → ℕ → Instruction
 instructionOf a b c d e = record { verb = a; id = b; number = c; provider = d; provideport = e }
+
+-- the instruction that these words say
+abbrev pub said : InstructionWords → Instruction
+said k = instructionOf (k .verb) (k .id) (k .number) (k .provider) (k .provideport)
 
 abbrev pub stepOf : ℕ → ℕ → ℕ → Step
 stepOf a b c = record { verb = a; id = b; number = c }

@@ -8,7 +8,28 @@ ghost use lib.ListN.{getD};
 ghost use Rattle.model.specs.Empty.{noInstruction, noProgram};
 ghost use Rattle.reading.specs.Fill.{programOf, withInstruction};
 ghost use Rattle.words.specs.Words.{programIn};
-ghost use Rattle.words.specs.Parts.{instructionOf, withInstructions};
+ghost use Rattle.words.specs.Parts.{instructionOf, said, withInstructions};
+
+// An instruction by its words.
+pub struct InstructionWords {
+    pub verb: u32,
+    pub id: u32,
+    pub number: u32,
+    pub provider: u32,
+    pub provideport: u32,
+}
+
+pub fn instruction(program: &ProgramWords, n: u32) -> InstructionWords
+    ensures { λ r. ⌜ said r ≡ getD (programIn (now (program .entry)) .instructions) n noInstruction ⌝ }
+{
+    InstructionWords {
+        verb: instruction_verb(program, n),
+        id: instruction_id(program, n),
+        number: instruction_number(program, n),
+        provider: instruction_provider(program, n),
+        provideport: instruction_provideport(program, n),
+    }
+}
 
 pub fn instruction_verb(program: &ProgramWords, n: u32) -> u32
     ensures { λ r. ⌜ r ≡ getD (programIn (now (program .entry)) .instructions) n noInstruction .verb ⌝ }

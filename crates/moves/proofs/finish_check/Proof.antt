@@ -7,8 +7,7 @@ returns : tie.Need-returns
 unfolding finishCheck finishRow
 returns c =
     let h = c .before .before in
-    let l = h .before in
-    rw (← l .before .behavior .ensures, ← l .some-leaves .ensures, ← h .held .ensures, ← c .before .refuse-if .ensures) (c .first .ensures)
+    rw (← h .before .some-leaves .ensures, ← h .held .ensures, ← c .before .refuse-if .ensures) (c .first .ensures)
 
 pub finish-check-spec : {M : Type 1} → statement M
-finish-check-spec = tie.close (tie.spec (λ c κs. search needs) (λ c κs. search needs) (λ c κs. search needs) (λ c κs. search needs) (λ c κs. search needs) returns)
+finish-check-spec = tie.close (tie.spec (λ c κs. search needs) (λ c κs. search needs) (λ c κs. search needs) (λ c κs. search needs) returns)
