@@ -39,13 +39,9 @@ fn lent_lawful(
     ensures { λ r. ⌜ r ≡ lentLawful (tablesIn (now (tables .entry))) (programIn (now (program .entry)))
         (stateIn (now (configuration .entry))) (stepOf verb i n) ⌝ }
 {
-    if !tables_lawful(tables) {
-        return false;
-    }
-    if !program_lawful(types(tables), program) {
-        return false;
-    }
-    if !step_lawful(verb, i, n) {
+    let program_law = program_lawful(types(tables), program);
+    let first = tables_lawful(tables) & (program_law & step_lawful(verb, i, n));
+    if !first {
         return false;
     }
     configuration_lawful(DEFAULT_DEPTH as u32, tables, program, configuration)

@@ -9,11 +9,7 @@ use types::types_lawful;
 use words::ProgramWords;
 use words::StateWords;
 use words::TableWords;
-use words::program::instruction_id;
-use words::program::instruction_number;
-use words::program::instruction_provideport;
-use words::program::instruction_provider;
-use words::program::instruction_verb;
+use words::program::instruction;
 use words::program::instructions;
 use words::state::done;
 use words::tables::depth;
@@ -56,12 +52,8 @@ fn verb_lawful(n: u32, verb: u32, number: u32, provider: u32, provideport: u32) 
 fn instruction_lawful(n: u32, program: &ProgramWords, j: u32) -> bool
     ensures { λ r. ⌜ r ≡ instructionLawful n (getD (programIn (now (program .entry)) .instructions) j noInstruction) ⌝ }
 {
-    let id = instruction_id(program, j);
-    let verb = instruction_verb(program, j);
-    let number = instruction_number(program, j);
-    let provider = instruction_provider(program, j);
-    let provideport = instruction_provideport(program, j);
-    (id <= 31) & verb_lawful(n, verb, number, provider, provideport)
+    let k = instruction(program, j);
+    (k.id <= 31) & verb_lawful(n, k.verb, k.number, k.provider, k.provideport)
 }
 
 // Every instruction counts, done or not.

@@ -1,5 +1,9 @@
-use mathlib.Core.Path.{_∙_}
+use mathlib.Core.Path.{_≡_, _∙_}
 use native.Mathlib.Omega.{arith}
+use Rattle.rules.specs.Action.{instructionAction}
+use Rattle.rules.specs.Step.{actionAt}
+use Rattle.words.specs.Words.{programIn, stateIn}
+use Rattle.words.specs.Parts.{said}
 use Rattle.walks.proofs.Steps.{move-refused, move-made, none-left, next-refused, next-made}
 use borrow.Author.Needs.{needs}
 use Rattle.walks.proofs.step.Statement.{statement}
@@ -22,30 +26,38 @@ returns-3 c = λ fits.
     let d = i .before in
     rw (c .about-none2 .ensures) (none-left _ _ _ _ _ (d .before .before .if1 .left) (omega (arith, i .instructions .ensures, d .done .ensures, c .before .if3 .taken)))
 
+-- the instruction that is due
+due : (n : tie.After-instruction)
+    → let s = n .before .before .before .before .before .before .args in
+    instructionAction (said (n .instruction .result)) ≡ actionAt (programIn (s .program .now)) (stateIn (s .state .now) .done)
+unfolding actionAt
+due n = rw (n .instruction .ensures, n .before .before .before .done .ensures)
+
 returns-4 : tie.Need-returns-4
 returns-4 c = λ fits.
     let o = c .before .before in
-    let e = o .before .before in
-    let i = e .before in
+    let n = o .before .before in
+    let i = n .before .before in
     let d = i .before in
     rw (c .about-none3 .ensures)
-    (next-refused _ _ _ _ _ (d .before .before .if1 .left) _ (omega (arith, i .instructions .ensures, d .done .ensures, e .if3 .left)) (rw (d .done .ensures) at (o .line-check .ensures .0)) (c .before .if4 .taken))
+    (next-refused _ _ _ _ _ (d .before .before .if1 .left) _ (omega (arith, i .instructions .ensures, d .done .ensures, n .before .if3 .left)) (rw (due n) at (o .line-check .ensures .0)) (c .before .if4 .taken))
 
 returns-5 : tie.Need-returns-5
+unfolding actionAt
 returns-5 c = λ fits.
     let t = c .before .before .before in
     let f = t .before .before in
     let o = f .before in
-    let e = o .before .before in
-    let i = e .before in
+    let n = o .before .before in
+    let i = n .before .before in
     let d = i .before in
-    let due = fits (d .done .result) (omega (arith, i .instructions .ensures, e .if3 .left)) in
+    let room = fits (d .done .result) (omega (arith, i .instructions .ensures, n .before .if3 .left)) in
     rw (c .about-none4 .ensures)
-    (next-made _ _ _ _ _ (d .before .before .if1 .left) _ (omega (arith, i .instructions .ensures, d .done .ensures, e .if3 .left)) (rw (d .done .ensures) at (o .line-check .ensures .0)) (f .if4 .left) _
-    (c .before .put-done .ensures ∙ rw (t .line-to .ensures (o .line-check .ensures .1 due (f .if4 .left)), d .done .ensures)))
+    (next-made _ _ _ _ _ (d .before .before .if1 .left) _ (omega (arith, i .instructions .ensures, d .done .ensures, n .before .if3 .left)) (rw (due n) at (o .line-check .ensures .0)) (f .if4 .left) _
+    (c .before .put-done .ensures ∙ rw (t .line-to .ensures (o .line-check .ensures .1 (rw (n .instruction .ensures) room) (f .if4 .left)), due n, d .done .ensures)))
 
 pub step-spec : {M : Type 1} → statement M
 step-spec =
     tie.close
-    (tie.spec (λ c κs. search needs) returns (λ c κs. search needs) (λ c κs. search needs) returns-2 (λ c κs. search needs) (λ c κs. search needs) (λ c κs. search needs) returns-3 (λ c κs. search needs)
+    (tie.spec (λ c κs. search needs) returns (λ c κs. search needs) (λ c κs. search needs) returns-2 (λ c κs. search needs) (λ c κs. search needs) (λ c κs. search needs) returns-3 (λ c κs. search needs) (λ c κs. search needs)
     (λ c κs. search needs) returns-4 (λ c κs. search needs) (λ c. search needs) (λ c κs. search needs) (λ c κs. search needs) returns-5)
