@@ -60,19 +60,18 @@ fn row(xs: u32, ready: bool, taken: bool) -> u32
     refuse_if(xs == 0, NO_TRANSITION, refuse_if(!ready, NOT_READY, late))
 }
 
-// What a move asks first, and where nothing is refused the port check of what instance i loses and gains.
+// What is refused already, else the port check of what instance i loses and gains.
 fn asked(
     tables: &TableWords,
     state: &StateWords,
     i: u32,
-    rest: u32,
+    refused: u32,
     loses: Sets,
     gains: Sets,
 ) -> Answered
-    ensures { λ r. ⌜ r ≡ asked (firstly (instance (stateIn (now (state .entry))) i) rest)
+    ensures { λ r. ⌜ r ≡ asked refused
         (turnAnswer (tablesIn (now (tables .entry))) (stateIn (now (state .entry))) i loses gains) ⌝ }
 {
-    let refused = first(state, i, rest);
     if refused != 0 {
         return about_none(refused);
     }
@@ -106,7 +105,14 @@ pub fn fire_check(tables: &TableWords, state: &StateWords, i: u32, p: u32) -> An
         places: 0,
         holds: xs,
     };
-    asked(tables, state, i, row(xs, ready, taken), loses, gains)
+    asked(
+        tables,
+        state,
+        i,
+        first(state, i, row(xs, ready, taken)),
+        loses,
+        gains,
+    )
 }
 
 // The mark of p goes and what leaves it runs.
@@ -150,7 +156,14 @@ pub fn enter_check(tables: &TableWords, state: &StateWords, i: u32, p: u32) -> A
         places: sets::only(p),
         holds: 0,
     };
-    asked(tables, state, i, row(xs, ready, taken), loses, gains)
+    asked(
+        tables,
+        state,
+        i,
+        first(state, i, row(xs, ready, taken)),
+        loses,
+        gains,
+    )
 }
 
 // What leads to p is neither running nor ended, and p is marked.

@@ -15,21 +15,9 @@ Inv-loop noted₀ clock id xs x₀ noted x = (x ≤ 32) × (length noted ≡ len
 abbrev μ-loop : tie.MeasureT-loop
 μ-loop noted₀ clock id xs x₀ noted x = 32 - x
 
-loop-holds : tie.Need-loop-holds Inv-loop μ-loop
-unfolding notes
-loop-holds c = search needs
-
-loop-again : tie.Need-loop-again Inv-loop μ-loop
-unfolding notes
-loop-again c =
-    let n = c .before .before in
-    (search needs, search needs, rw (add-one, ← n .before .before .before .loop .inv .2) (n .note-at .ensures))
-
-returns : tie.Need-returns Inv-loop μ-loop
-returns c = let e : c .before .loop .x ≡ 32 = omega arith in rw e at (c .before .loop .inv .2)
-
 pub note-spec : {M : Type 1} → statement M
-note-spec =
-    tie.close
-    (tie.spec
-    Inv-loop μ-loop loop-holds (λ c κs. search needs) (λ c. search needs) (λ c. search needs) loop-again (λ c. search needs) returns)
+unfolding notes
+note-spec = tie.close (tie.spec Inv-loop μ-loop
+    (λ c. search needs) (λ c κs. search needs) (λ c. search needs) (λ c. search needs)
+    (λ c. let n = c .before .before in (search needs, search needs, rw (add-one, ← n .before .before .before .loop .inv .2) (n .note-at .ensures))) (λ c. search needs)
+    (λ c. let e : c .before .loop .x ≡ 32 = omega arith in rw e at (c .before .loop .inv .2)))

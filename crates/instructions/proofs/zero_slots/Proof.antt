@@ -15,16 +15,8 @@ Inv-loop state₀ i at r₀ state r = (r ≤ 8) × (stateIn state ≡ withQueue 
 abbrev μ-loop : tie.MeasureT-loop
 μ-loop state₀ i at r₀ state r = 8 - r
 
-loop-holds : tie.Need-loop-holds Inv-loop μ-loop
-loop-holds c = (search needs, zero-start _ _)
-
-loop-again : tie.Need-loop-again Inv-loop μ-loop
-loop-again c =
-    let l = c .before .before .before .loop in
-    (search needs, c .put-slot .ensures ∙ zero-more _ _ (stateIn (l .state)) (l .r) (l .inv .1))
-
-returns : tie.Need-returns Inv-loop μ-loop
-returns c = let e : c .before .loop .r ≡ 8 = omega arith in rw e at (c .before .loop .inv .1)
-
 pub zero-slots-spec : {M : Type 1} → statement M
-zero-slots-spec = tie.close (tie.spec Inv-loop μ-loop (λ c. search needs) loop-holds (λ c. search needs) (λ c κs. search needs) (λ c. search needs) (λ c. search needs) loop-again returns)
+zero-slots-spec = tie.close (tie.spec Inv-loop μ-loop (λ c. search needs)
+    (λ c. (search needs, zero-start _ _)) (λ c. search needs) (λ c κs. search needs) (λ c. search needs) (λ c. search needs)
+    (λ c. let l = c .before .before .before .loop in (search needs, c .put-slot .ensures ∙ zero-more _ _ (stateIn (l .state)) (l .r) (l .inv .1)))
+    (λ c. let e : c .before .loop .r ≡ 8 = omega arith in rw e at (c .before .loop .inv .1)))

@@ -6,6 +6,5 @@ use Rattle.moves.proofs.asked.Tie as tie
 pub asked-spec : {M : Type 1} → statement M
 asked-spec =
     tie.close
-    (tie.spec (λ c κs. search needs) (λ c κs. search needs)
-    (λ c. rw (← c .before .before .first .ensures, ne-eqb _ _ (c .before .if1 .taken)) (c .about-none .ensures)) (λ c κs. search needs)
-    (λ c. rw (← c .before .before .first .ensures, eq-eqb _ _ (c .before .if1 .left)) (c .port-check .ensures)))
+    (tie.spec (λ c κs. search needs) (λ c. rw (ne-eqb _ _ (c .before .if1 .taken)) (c .about-none .ensures))
+    (λ c κs. search needs) (λ c. rw (eq-eqb _ _ (c .before .if1 .left)) (c .port-check .ensures)))

@@ -15,44 +15,10 @@ Inv-loop words₀ at xs k₀ words k = (k ≤ length xs) × (words ≡ puts word
 abbrev μ-loop : tie.MeasureT-loop
 μ-loop words₀ at xs k₀ words k = length xs - k
 
-loop-holds : tie.Need-loop-holds Inv-loop μ-loop
-loop-holds c = let s = c .before .before .args in (search needs, puts-start (s .words .now) (s .at) (s .xs .now))
-
-add-put-word : tie.Need-add-put-word Inv-loop μ-loop
-add-put-word c = search needs
-
-mul-put-word : tie.Need-mul-put-word Inv-loop μ-loop
-mul-put-word c = search needs
-
-shared-slice-read-put-word : tie.Need-shared-slice-read-put-word Inv-loop μ-loop
-shared-slice-read-put-word c = search needs
-
-put-word-requires : tie.Need-put-word-requires Inv-loop μ-loop
-put-word-requires c κs = search needs
-
-add-k : tie.Need-add-k Inv-loop μ-loop
-add-k c = search needs
-
-loop-less : tie.Need-loop-less Inv-loop μ-loop
-loop-less c = search needs
-
-loop-again : tie.Need-loop-again Inv-loop μ-loop
-loop-again c =
-    let l = c .before .before .before .before .before in
-    let s = l .before .before .before .before .args in
-    (search needs, c .before .before .put-word .ensures ∙ puts-step (s .words .now) (s .at) (s .xs .now) _ (l .before .loop .k) (l .loop-test .taken) (l .before .loop .inv .1))
-
-same-length : tie.Need-same-length Inv-loop μ-loop
-same-length c =
-    let l = c .before in
-    let s = l .before .before .before .args in
-    ap length (l .loop .inv .1) ∙ puts-length (take (l .loop .k) (s .xs .now)) (s .words .now) (s .at)
-
-returns : tie.Need-returns Inv-loop μ-loop
-returns c =
-    let l = c .before in
-    let s = l .before .before .before .args in
-    puts-end (s .words .now) (s .at) (s .xs .now) (l .loop .words) (l .loop .k) (c .loop-test .left) (l .loop .inv .1)
-
 pub put-words-spec : {M : Type 1} → statement M
-put-words-spec = tie.close (tie.spec Inv-loop μ-loop loop-holds add-put-word mul-put-word shared-slice-read-put-word put-word-requires add-k loop-less loop-again same-length returns)
+put-words-spec = tie.close (tie.spec Inv-loop μ-loop
+    (λ c. let s = c .before .before .args in (search needs, puts-start (s .words .now) (s .at) (s .xs .now)))
+    (λ c. search needs) (λ c. search needs) (λ c. search needs) (λ c κs. search needs) (λ c. search needs) (λ c. search needs)
+    (λ c. let l = c .before .before .before .before .before in let s = l .before .before .before .before .args in (search needs, c .before .before .put-word .ensures ∙ puts-step (s .words .now) (s .at) (s .xs .now) _ (l .before .loop .k) (l .loop-test .taken) (l .before .loop .inv .1)))
+    (λ c. let l = c .before in let s = l .before .before .before .args in ap length (l .loop .inv .1) ∙ puts-length (take (l .loop .k) (s .xs .now)) (s .words .now) (s .at))
+    (λ c. let l = c .before in let s = l .before .before .before .args in puts-end (s .words .now) (s .at) (s .xs .now) (l .loop .words) (l .loop .k) (c .loop-test .left) (l .loop .inv .1)))
