@@ -23,7 +23,7 @@ module _ {A : Type 0} (n : ℕ) (f : ℕ → A) (d : A) where
   list-past k h = past-end (listOf n f) d (length-list n f) h
 
   -- the same but for item i
-  list-put : (g : ℕ → A) (i : ℕ) → ((j : ℕ) → j < n → j ≢ i → g j ≡ f j) → listOf n g ≡ set (listOf n f) i (g i)
+  pub list-put : (g : ℕ → A) (i : ℕ) → ((j : ℕ) → j < n → j ≢ i → g j ≡ f j) → listOf n g ≡ set (listOf n f) i (g i)
   list-put g i e =
       ext-getD d (listOf n g) (set (listOf n f) i (g i)) (length-list n g ∙ sym (length-set (listOf n f) i (g i) ∙ length-list n f))
       (λ j h. at j (rw (length-list n g) at h))

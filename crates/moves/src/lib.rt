@@ -1,5 +1,6 @@
 // The four moves on words: fire, end, enter and finish, each a check and a change made in place.
-// Promised: for every tables, state and number, each check answers the number of rules/specs and the use port concerned, and each change is that of rules/specs.
+// Promised: for every tables, state and number, each check answers the number of rules/specs and the use port concerned, and each change is
+// that of rules/specs.
 use ports::Answered;
 use ports::Sets;
 use ports::about_none;
@@ -105,14 +106,8 @@ pub fn fire_check(tables: &TableWords, state: &StateWords, i: u32, p: u32) -> An
         places: 0,
         holds: xs,
     };
-    asked(
-        tables,
-        state,
-        i,
-        first(state, i, row(xs, ready, taken)),
-        loses,
-        gains,
-    )
+    let refused = first(state, i, row(xs, ready, taken));
+    asked(tables, state, i, refused, loses, gains)
 }
 
 // The mark of p goes and what leaves it runs.
@@ -156,14 +151,8 @@ pub fn enter_check(tables: &TableWords, state: &StateWords, i: u32, p: u32) -> A
         places: sets::only(p),
         holds: 0,
     };
-    asked(
-        tables,
-        state,
-        i,
-        first(state, i, row(xs, ready, taken)),
-        loses,
-        gains,
-    )
+    let refused = first(state, i, row(xs, ready, taken));
+    asked(tables, state, i, refused, loses, gains)
 }
 
 // What leads to p is neither running nor ended, and p is marked.

@@ -14,7 +14,6 @@ use borrow.Author.Tests.{eqb-true, eq-eqb, ne-eqb, lt-ltb, le-ltb, ltb-true, ltb
 use Rattle.sets.specs.Test.{anyBelow}
 use Rattle.sets.specs.Mask.{member, collect, with, overlaps, joined, without}
 use Rattle.sets.proofs.Laws.{any-none, any-same, member-none, member-collect, collect-is, collect-same, member-joined, member-without, none-overlaps}
-use Rattle.sets.proofs.Booleans.{both, same, same-is, by-six}
 use Rattle.sets.proofs.Searches.{any-alike}
 use Rattle.sets.proofs.Members.{members-low}
 use Rattle.forms.proofs.Tests.{by-test}
@@ -38,6 +37,7 @@ use Rattle.words.specs.Parts.{serverOf}
 use Rattle.words.proofs.Served.{hasServer, looked}
 use Rattle.ports.specs.declared.Sets.{Sets}
 use Rattle.ports.specs.declared.Answered.{Answered}
+use Rattle.ports.proofs.Told.{told, unconnected-told, unserved-told, refusing-told, ending-told, use-told}
 use Rattle.ports.proofs.Lowest.{lowest-same}
 use Rattle.ports.specs.Turns.{activeIn, leavesBy, leftBy, refusingAt, useRefusal, portRefusal, setsOf, gets, endingBelow, isUnconnected, aboutOf, answered, portsRefusal, checked, changed, turned, turnAnswer}
 
@@ -79,36 +79,6 @@ module _ (t : Tables) (c : Configuration) (full : length (c .servers) ≡ 512) (
   use-looked before = rw (linked-looked, serves-looked, blocks-looked)
 
 -- ---- all ports in one pass
-
--- what a port gets: a use port or not, active after and before, connected, served, refused
-abbrev told : Bool → Bool → Bool → Bool → Bool → Bool → ℕ
-told u a b l s k =
-    cond u (cond a (not l ⇒ unconnected ∣ not s ⇒ unserved ∣ not b && k ⇒ providerRefusing ∣ allowed) allowed) (b && not a ⇒ serviceInUse ∣ allowed)
-
-unconnected-told : (u a b l s k : Bool) → eqb (told u a b l s k) unconnected ≡ (u && (a && not l))
-unfolding both
-unconnected-told u a b l s k = same-is _ _ (by-six (λ u a b l s k. same (eqb (told u a b l s k) unconnected) (u && (a && not l))) refl u a b l s k)
-
-unserved-told : (u a b l s k : Bool) → (u && (a && not l)) ≡ false → eqb (told u a b l s k) unserved ≡ (u && (a && not s))
-unfolding both
-unserved-told u a b l s k e =
-    same-is _ _ (rw e at (by-six (λ u a b l s k. (u && (a && not l)) || same (eqb (told u a b l s k) unserved) (u && (a && not s))) refl u a b l s k))
-
-refusing-told : (u a b l s k : Bool) → (u && (a && not l)) ≡ false → (u && (a && not s)) ≡ false
-    → eqb (told u a b l s k) providerRefusing ≡ (u && (a && (not b && k)))
-unfolding both
-refusing-told u a b l s k e f =
-    same-is _ _
-    (rw (e, f) at (by-six (λ u a b l s k. (u && (a && not l)) || ((u && (a && not s)) || same (eqb (told u a b l s k) providerRefusing) (u && (a && (not b && k))))) refl u a b l s k))
-
-ending-told : (u a b l s k : Bool) → eqb (told u a b l s k) serviceInUse ≡ (not u && (b && not a))
-unfolding both
-ending-told u a b l s k = same-is _ _ (by-six (λ u a b l s k. same (eqb (told u a b l s k) serviceInUse) (not u && (b && not a))) refl u a b l s k)
-
--- 38 and 34 are of use ports
-use-told : (u a b l s k : Bool) → (eqb (told u a b l s k) unconnected || eqb (told u a b l s k) unserved) ≡ true → u ≡ true
-use-told true a b l s k e = refl
-use-told false a b l s k e = by-test (b && not a) (λ on. rw on at e) (λ off. rw off at e)
 
 -- those below n that pass, of the 32, one by one
 module _ (p : ℕ → Bool) (q : ℕ) where

@@ -156,29 +156,22 @@ module _ (t : Tables) (x : Standing) (c : Configuration) (i : ℕ) (v w : Instan
   unfolding portCheck
   unserved-row = at-unserved (anyBelow (portsOf t v) (failsUnconnected t x c i w)) (anyBelow (portsOf t v) (failsUnserved t x c i w)) (anyBelow (portsOf t v) (failsRefusing t x c i v w)) (anyBelow (portsOf t v) (failsInUse t x c i v w))
 
+-- the lowest port that fails, by the number that its ports gave
+lowest-named : (t : Tables) (c : Configuration) (a : Action) (n : ℕ) (fails : ℕ → Instance → ℕ → Bool) (port : Concerned) (k : Asked t (standing c) c a n)
+    → port ≡ UsePort (lowest (portsOf t (instance c (k .id))) (fails (k .id) (k .after)))
+    → anyBelow (portsOf t (instance c (k .id))) (fails (k .id) (k .after)) ≡ true → Names t c a fails port
+lowest-named t c a n fails port k is some =
+    record { id = k .id; after = k .after; moves = k .moves; present = k .present; port = _; named = is; lowest = lowest-holds _ _ some }
+
 pub names-the-lowest : NamesTheLowest
 unfolding NamesTheLowest concerned
 names-the-lowest default t p c s = (
   λ e. let (k, port) = step-asked default t p c s unconnected e refl in
-      record {
-        id = k .id;
-        after = k .after;
-        moves = k .moves;
-        present = k .present;
-        port = lowest (portsOf t (instance c (k .id))) (failsUnconnected t (standing c) c (k .id) (k .after));
-        named = port ∙ k .about;
-        lowest = lowest-holds _ _ (unconnected-row t (standing c) c (k .id) (instance c (k .id)) (k .after) (k .checked));
-      },
+      lowest-named t c (action p c s) unconnected (failsUnconnected t (standing c) c) _ k (port ∙ k .about)
+      (unconnected-row t (standing c) c (k .id) (instance c (k .id)) (k .after) (k .checked)),
   λ e. let (k, port) = step-asked default t p c s unserved e refl in
-      record {
-        id = k .id;
-        after = k .after;
-        moves = k .moves;
-        present = k .present;
-        port = lowest (portsOf t (instance c (k .id))) (failsUnserved t (standing c) c (k .id) (k .after));
-        named = port ∙ k .about;
-        lowest = lowest-holds _ _ (unserved-row t (standing c) c (k .id) (instance c (k .id)) (k .after) (k .checked) .1);
-      },
+      lowest-named t c (action p c s) unserved (failsUnserved t (standing c) c) _ k (port ∙ k .about)
+      (unserved-row t (standing c) c (k .id) (instance c (k .id)) (k .after) (k .checked) .1),
 )
 
 -- no other number names a port

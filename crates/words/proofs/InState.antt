@@ -22,8 +22,8 @@ use Rattle.rules.specs.Instance.{withQueued}
 use Rattle.words.specs.Rows.{word, row, rowAt, rows, puts, putsIn}
 use Rattle.words.specs.Words.{instanceIn, stateIn}
 use Rattle.words.specs.Parts.{withSets, bare, withSlot, withServer, changed}
-use Rattle.areas.proofs.Areas.{no-word}
-use Rattle.words.proofs.Rows.{Apart, one-put, in-far, rows-put, rows-far, rows-same, rows-at, rows-none}
+use Rattle.areas.proofs.Areas.{list-put, no-word}
+use Rattle.words.proofs.Rows.{Apart, in-far, rows-put, rows-far, rows-same, rows-at, rows-none}
 
 -- ---- fields
 
@@ -107,7 +107,7 @@ module _ (ws : List ℕ) (i : ℕ) where
     present-put m e j = record {
       instances = (ap (λ (n : ℕ). rows (instanceIn n) us 1 32 5) (getD-set-same ws 0 m 0 (omega arith))
           ∙ rows-same (instanceIn m) 1 32 5 ws us (λ n l h. far n (omega arith))
-          ∙ one-put 32 (λ k. instanceIn (word ws 0) k (row ws 1 5 k)) absent (λ k. instanceIn m k (row ws 1 5 k)) i
+          ∙ list-put 32 (λ k. instanceIn (word ws 0) k (row ws 1 5 k)) absent (λ k. instanceIn m k (row ws 1 5 k)) i
           (λ k h d. ap (λ (b : Bool). with-present b k) (e k h d))) j;
       queue = rows-same (λ k r. word r 0) 161 256 1 ws us (λ n l h. far n (omega arith)) j;
       servers = rows-same (λ k r. word r 0) 417 512 1 ws us (λ n l h. far n (omega arith)) j;

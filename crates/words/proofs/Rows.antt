@@ -15,7 +15,7 @@ use lib.Seq.{getD-set-same, getD-set-other, set-out, ext-getD, take-suc, take-al
 use borrow.Author.Tests.{lt-ltb, le-ltb}
 use Rattle.model.specs.View.{listOf}
 use Rattle.model.proofs.View.{past-end, list-at, list-same, length-list}
-use Rattle.areas.proofs.Areas.{no-word, all-alike}
+use Rattle.areas.proofs.Areas.{list-put, no-word, all-alike}
 use Rattle.words.specs.Rows.{word, row, rowAt, rows, puts, putsIn}
 
 -- ---- rows lie apart
@@ -44,20 +44,6 @@ puts-more (y ∷ xs) ws p x =
     puts-more xs (set ws p y) (suc p) x
     ∙ ap (λ (q : ℕ). set (puts (set ws p y) (suc p) xs) q x) (let e : suc p + length xs ≡ p + suc (length xs) = omega arith in e)
 
--- ---- lists of records that are the same but for one
-
-module _ {A : Type 0} (n : ℕ) (f : ℕ → A) (d : A) where
-  pub one-put : (g : ℕ → A) (i : ℕ) → ((j : ℕ) → j < n → j ≢ i → g j ≡ f j) → listOf n g ≡ set (listOf n f) i (g i)
-  one-put g i e =
-      ext-getD d (listOf n g) (set (listOf n f) i (g i)) (length-list n g ∙ sym (length-set (listOf n f) i (g i) ∙ length-list n f))
-      (λ j h. at j (rw (length-list n g) at h))
-    where
-      at : (j : ℕ) → j < n → getD (listOf n g) j d ≡ getD (set (listOf n f) i (g i)) j d
-      at j h =
-          by-cases (ℕ-discrete j i)
-          (λ here. list-at n g d j h ∙ ap g here ∙ sym (ap (λ (x : ℕ). getD (set (listOf n f) i (g i)) x d) here ∙ getD-set-same (listOf n f) i (g i) d (rw (length-list n f, ← here) h)))
-          (λ other. list-at n g d j h ∙ e j h other ∙ sym (getD-set-other (listOf n f) i j (g i) d other ∙ list-at n f d j h))
-
 -- ---- one row
 
 module _ (ws : List ℕ) (b w : ℕ) where
@@ -66,7 +52,7 @@ module _ (ws : List ℕ) (b w : ℕ) where
 
   part-set : (f x : ℕ) → f < w → b + w ≤ length ws → part (set ws (b + f) x) ≡ set (part ws) f x
   part-set f x h l =
-      one-put w (λ g. word ws (b + g)) 0 (λ g. word (set ws (b + f) x) (b + g)) f (λ j k d. getD-set-other ws (b + f) (b + j) x 0 (λ e. d (omega arith)))
+      list-put w (λ g. word ws (b + g)) 0 (λ g. word (set ws (b + f) x) (b + g)) f (λ j k d. getD-set-other ws (b + f) (b + j) x 0 (λ e. d (omega arith)))
       ∙ ap (set (part ws) f) (getD-set-same ws (b + f) x 0 (omega arith))
 
 -- the words of a row after some of them are put
@@ -143,7 +129,7 @@ module _ {A : Type 0} (make : ℕ → List ℕ → A) (at n w : ℕ) where
       here : k < n → rows make (putsIn ws at n w k f xs) at n w ≡ set (rows make ws at n w) k (make k (puts (row ws at w k) f xs))
       here h =
           ap (λ (us : List ℕ). rows make us at n w) (puts-here ws xs at n w k f h)
-          ∙ one-put n (λ j. make j (row ws at w j)) d (λ j. make j (row vs at w j)) k other
+          ∙ list-put n (λ j. make j (row ws at w j)) d (λ j. make j (row vs at w j)) k other
           ∙ ap (λ (r : List ℕ). set (rows make ws at n w) k (make k r))
           (let b : k * w + w ≤ n * w = below k n w h in part-puts xs ws (at + k * w) w f l (omega arith))
 
