@@ -1,14 +1,13 @@
 -- What the course says of the judgement: after a fault, and after a run.
 -- Assumes nothing.
-use Prim.Native.Nat.{ℕ}
+use Prim.Native.Nat.{ℕ, _≤_, min}
 use mathlib.Core.List.{List}
-use mathlib.Core.Bool.{Bool}
 use mathlib.Core.Path.{_≡_, refl, ap, _∙_}
-use lib.Dec.{leb}
+use native.Mathlib.Omega.{arith}
 use lib.ListN.{length}
 use Rattle.model.specs.declared.Text.{Text}
 use Rattle.judged.specs.declared.Place.{Place}
-use Rattle.judged.specs.Course.{faulty, reached}
+use Rattle.judged.specs.Course.{Course, faulty, reached}
 use Rattle.judged.specs.Judged.{textOf, faultPlace, over}
 use Rattle.aeolus_model.specs.Model.{Universe}
 use Rattle.aeolus_rules.specs.Run.{Ran}
@@ -17,6 +16,8 @@ use Rattle.aeolus_judged.specs.Report.{report}
 use Rattle.aeolus_judged.specs.Course.{course}
 use Rattle.aeolus_judged.specs.Judged.{Judgement, afterFault, inRoom, ending, judged, buffer}
 use Rattle.aeolus_judged.specs.Once.{Promised}
+use Rattle.aeolus_judged.proofs.Room.{read-fits}
+use Rattle.judging.proofs.Room.{leb-smaller}
 use Rattle.aeolus_judging.specs.declared.Judged.{Judged}
 use Rattle.aeolus_judging.specs.Comes.{Comes}
 
@@ -46,12 +47,14 @@ module _ (s a : List ℕ) where
       → Comes r old after (inRoom (length old) w (report u w) a) → Promised s a old (r .verdict) after (r .place)
   run-promised old u w e h = comes old (judged-run (length old) u w e) h
 
-  -- the place alone
-  module _ (room : ℕ) {p : Place} where
-    pub fault-places : (x : Text) (n at : ℕ) → faulty x n at ≡ course s a → p ≡ faultPlace x n at (textOf x s a) → p ≡ judged s a room .place
-    unfolding afterFault
-    fault-places x n at e h = h ∙ ap (λ (j : Judgement). j .place) (judged-fault room x n at e)
+-- no report needs more room than 8,192 bytes
+pub place-smaller : (s a : List ℕ) (room : ℕ) {n : ℕ} {p : Place} → p ≡ judged s a n .place → n ≡ min room 8192 → p ≡ judged s a room .place
+unfolding judged ending inRoom
+place-smaller s a room h e = h ∙ rw e (go (course s a) refl)
+  where
+    same : (w : Ran) (r : List ℕ) → length r ≤ 1811 → inRoom (min room 8192) w r a .place ≡ inRoom room w r a .place
+    same w r h = rw (leb-smaller (length r) room (omega arith), inRoom)
 
-    pub run-places : (u : Universe) (w : Ran) {fits : Bool} → reached (u, w) ≡ course s a → fits ≡ leb (length (report u w)) room
-        → ((x : List ℕ) (most : ℕ) → fits ≡ leb (length x) most → p ≡ inRoom most w x a .place) → p ≡ judged s a room .place
-    run-places u w e h f = f (report u w) room h ∙ ap (λ (j : Judgement). j .place) (judged-run room u w e)
+    go : (z : Course (Universe × Ran)) → course s a ≡ z → ending s a (min room 8192) z .place ≡ ending s a room z .place
+    go (faulty x n at) e = refl
+    go (reached (u, w)) e = same w (report u w) (read-fits s a u w e .short)

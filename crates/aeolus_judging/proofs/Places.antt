@@ -1,17 +1,12 @@
 -- The place of the offending line lies within its text.
 -- Assumes nothing.
-use Prim.Native.Nat.{ℕ, _+_, _≤_, zero-le}
+use Prim.Native.Nat.{ℕ, zero-le}
 use mathlib.Core.List.{List}
-use mathlib.Core.Path.{_≡_}
 use lib.Dec.{leb}
 use lib.ListN.{length}
-use mir.Syntax.{w64}
-use mir.Val.{Fits}
-use mir.Facts.{fits-le}
 use Rattle.forms.proofs.Tests.{by-test}
 use Rattle.model.specs.declared.Text.{Text}
 use Rattle.model.specs.declared.Text.the-variants as text
-use Rattle.judged.specs.declared.Place.{Place}
 use Rattle.judged.specs.Course.{Course}
 use Rattle.judged.specs.Judged.{textOf}
 use Rattle.judging.proofs.Order.{Told, in-sheet, in-answer, walks}
@@ -26,7 +21,7 @@ run-within : (lent : Text → List ℕ) (room : ℕ) (w : Ran) (r : List ℕ) �
 unfolding inRoom afterRun noRoom
 run-within lent room w r = by-test (leb (length r) room) (λ e. rw (e, inRoom) (step-within lent (atStep (w .refused)) (w .accepted))) (λ e. rw (e, inRoom) zero-le)
 
-place-within : (s a : List ℕ) (room : ℕ) → Within (λ x. textOf x s a) (judged s a room .place)
+pub place-within : (s a : List ℕ) (room : ℕ) → Within (λ x. textOf x s a) (judged s a room .place)
 unfolding judged ending afterFault
 place-within s a room = go (course-told s a)
   where
@@ -34,16 +29,3 @@ place-within s a room = go (course-told s a)
     go (in-sheet {n} {at} f) = fault-within (λ x. textOf x s a) text.Sheet n at f
     go (in-answer {n} {at} f) = fault-within (λ x. textOf x s a) text.Answer n at f
     go (walks {x}) = run-within (λ x. textOf x s a) room (x .1) (report (x .0) (x .1))
-
-module _ (s a : List ℕ) (room : ℕ) {p : Place} (is : p ≡ judged s a room .place) where
-  pub held : p .start + p .size ≤ length (textOf (p .text) s a)
-  held = rw is (place-within s a room)
-
-  pub end-fits : Fits w64 (length s) → Fits w64 (length a) → Fits w64 (p .start + p .size)
-  end-fits f g = fits-le held (either (p .text))
-    where
-      either : (x : Text) → Fits w64 (length (textOf x s a))
-      either text.Neither = fits-le zero-le f
-      either text.Sheet = f
-      either text.Answer = g
-      either text.Times = fits-le zero-le f

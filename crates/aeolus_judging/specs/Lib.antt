@@ -1,3 +1,3 @@
--- What a reader answered of a text, and what an answer and a buffer are of a judgement (Comes); no other outcome (Once).
+-- What an answer and a buffer are of a judgement (Comes); no other outcome (Once).
 pub mod Comes
 pub mod Once

@@ -9,76 +9,37 @@ use aeolus_model::types;
 use aeolus_steps::Passed;
 use aeolus_writers::write_report;
 use forms::BUFFER_SHORT;
-use forms::TOO_LONG;
 use judged::LENT_BYTES;
 use judged::Place;
 use judging::pairs::Outcome;
-use lines::LONGEST;
+use judging::pairs::look_at;
+use judging::pairs::outcome_of;
+use judging::parts::fault_or_report;
+use judging::parts::part_at;
 use model::Text;
+use model::smaller;
 ghost use mathlib.Core.Path.{_≡_};
 ghost use mathlib.Core.List.{List};
 ghost use Prim.Native.Nat.{ℕ, _≤_, _<_};
 ghost use lib.Dec.{leb};
 ghost use lib.ListN.{length};
-ghost use Rattle.runs.specs.Whole.{whole};
-ghost use Rattle.runs.specs.declared.Place.{Place as Answered};
 ghost use Rattle.judged.specs.Judged.{stepPlace, faultPlace, over};
 ghost use Rattle.judging.specs.Came.{came};
 ghost use Rattle.judging.specs.Counts.{Counts};
 ghost use Rattle.judging.specs.Part.{PartAt};
-ghost use Rattle.aeolus_model.specs.Model.{Universe as Types, Configuration, noUniverse};
-ghost use Rattle.aeolus_model.specs.Action.{Plan as Steps, noPlan};
+ghost use Rattle.aeolus_model.specs.Model.{Configuration};
 ghost use Rattle.aeolus_model.specs.Words.{universeIn, planIn, configurationIn};
-ghost use Rattle.aeolus_reading.specs.Texts.{sheet as sheetText, plan as planText};
 ghost use Rattle.aeolus_judged.specs.Report.{report};
 ghost use Rattle.aeolus_judged.specs.Course.{both, course};
 ghost use Rattle.aeolus_judged.specs.Judged.{atStep, afterFault, noRoom, afterRun, inRoom, judged, buffer, printed};
 ghost use Rattle.aeolus_judged.specs.Once.{Promised};
 ghost use Rattle.aeolus_writers.specs.Ran.{ran};
-ghost use Rattle.aeolus_judging.specs.Comes.{Read, Comes};
+ghost use Rattle.aeolus_judging.specs.Comes.{Comes};
 
 // No report that two texts come to has more bytes.
 const LARGEST: usize = 1811;
 
 // ---- the two texts
-
-// What a text's reader answered beside what it read: its length, 0 or the number of the refusal, and the place.
-struct Seen {
-    size: usize,
-    refused: u8,
-    place: usize,
-}
-
-fn look_at(s: &[u8], refused: u8, place: usize) -> Seen
-    ensures { λ r. ⌜ r ≡ record { size = length (now (s .entry)); refused = refused; place = place } ⌝ }
-{
-    let size = s.len();
-    Seen {
-        size,
-        refused,
-        place,
-    }
-}
-
-// "length of the sheet, of the answer, then the sheet's lines, the answer's lines"
-fn outcome_of(sheet: Seen, answer: Seen) -> Outcome
-    ensures { λ r. ⌜ ((s a : List ℕ) (u : Types) (p : Steps) (x y : Answered) → Read s x u (whole noUniverse sheetText s) sheet
-        → Read a y p (whole noPlan (planText (u .count)) a) answer → came r (u, p) ≡ both s a) ⌝ }
-{
-    if LONGEST < sheet.size {
-        return Outcome::InSheet(TOO_LONG, 0);
-    }
-    if LONGEST < answer.size {
-        return Outcome::InAnswer(TOO_LONG, 0);
-    }
-    if sheet.refused != 0 {
-        return Outcome::InSheet(sheet.refused, sheet.place);
-    }
-    if answer.refused != 0 {
-        return Outcome::InAnswer(answer.refused, answer.place);
-    }
-    Outcome::Reached
-}
 
 // What both texts say, in lent words.
 fn read_both(sheet: &[u8], answer: &[u8], universe: &mut Universe, plan: &mut Plan) -> Outcome
@@ -258,37 +219,20 @@ pub fn judge(sheet: &[u8], answer: &[u8], report: &mut [u8]) -> Verdict
     judge_and_place(sheet, answer, report).verdict
 }
 
-// Which text held the offending line, where the line starts, and how many bytes it has.
+// Which text held the offending line, where the line starts, and how many bytes it has. No report needs more room than 8,192 bytes.
 pub fn place(sheet: &[u8], answer: &[u8], room: usize) -> Place
     ensures { λ r. ⌜ r ≡ judged (now (sheet .entry)) (now (answer .entry)) room .place ⌝ }
 {
-    let mut universe = [0u32; 12881];
-    let mut deployed = [0u32; 577];
-    let came = run_texts(sheet, answer, &mut universe, &mut deployed);
-    let outcome = came.outcome;
-    let passed = came.passed;
-    match outcome {
-        Outcome::InSheet(n, at) => verdicts::fault_place(Text::Sheet, sheet, n, at),
-        Outcome::InAnswer(n, at) => verdicts::fault_place(Text::Answer, answer, n, at),
-        Outcome::Reached => {
-            let fits = has_room(&universe, &deployed, passed, room);
-            run_place(passed, fits, answer)
-        }
-    }
+    let mut scratch = [0u8; LENT_BYTES];
+    let n = smaller(room, LENT_BYTES);
+    judge_and_place(sheet, answer, &mut scratch[..n]).place
 }
 
 // The offending line, as a part of whichever text held it.
 pub fn offending<'a>(sheet: &'a [u8], answer: &'a [u8], room: usize) -> &'a [u8]
     ensures { λ r. ⌜ PartAt (judged (now (sheet .entry)) (now (answer .entry)) room .place) (sheet .entry) (answer .entry) r ⌝ }
 {
-    let place = place(sheet, answer, room);
-    let start = place.start;
-    let end = start + place.size;
-    let text = place.text;
-    match text {
-        Text::Sheet => &sheet[start..end],
-        _ => &answer[start..end],
-    }
+    part_at(place(sheet, answer, room), sheet, answer)
 }
 
 // What the `aeolus` program prints: the report, or after 1 to 5 the three lines.
@@ -298,10 +242,6 @@ pub fn print(sheet: &[u8], answer: &[u8], out: &mut [u8; LENT_BYTES]) -> usize
     ensures counts { λ r. ⌜ Counts r (now (out .exit)) ⌝ }
 {
     let verdict = judge(sheet, answer, out);
-    let refused = verdict.refused;
     let text = verdict.text;
-    match refused {
-        1..=5 => writers::write_fault(out, text, verdict.line, refused),
-        _ => verdict.written,
-    }
+    fault_or_report(out, text, verdict.line, verdict.refused, verdict.written)
 }

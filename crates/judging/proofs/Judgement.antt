@@ -1,6 +1,6 @@
 -- What the course says of the judgement: after a fault, and after a walk.
 -- Assumes nothing.
-use Prim.Native.Nat.{ℕ}
+use Prim.Native.Nat.{ℕ, _≤_, min}
 use mathlib.Core.List.{List}
 use mathlib.Core.Path.{_≡_, refl, ap, _∙_}
 use lib.ListN.{length}
@@ -9,9 +9,12 @@ use Rattle.model.specs.declared.Text.{Text}
 use Rattle.report.specs.Report.{report}
 use Rattle.judged.specs.declared.Verdict.{Verdict}
 use Rattle.judged.specs.declared.Place.{Place}
-use Rattle.judged.specs.Course.{faulty, reached, course}
+use Rattle.judged.specs.Course.{Course, faulty, reached, course}
 use Rattle.judged.specs.Judged.{Judgement, textOf, faultPlace, afterFault, inRoom, ending, judged, over}
 use Rattle.judged.specs.Once.{Judges, Places}
+use Rattle.judged.specs.Room.{ReportsFit}
+use Rattle.judged.proofs.Room.{reports-fit}
+use Rattle.judging.proofs.Room.{leb-smaller}
 
 module _ (s a : List ℕ) where
   judged-fault : (room : ℕ) (x : Text) (n at : ℕ) → faulty x n at ≡ course s a → afterFault x n at (textOf x s a) ≡ judged s a room
@@ -45,3 +48,18 @@ module _ (s a : List ℕ) where
 
     pub walk-places : (w : Walked) → reached w ≡ course s a → p ≡ inRoom room w (report w) a .place → Places s a room p
     walk-places w e h = record { place-is = h ∙ ap (λ (j : Judgement). j .place) (judged-walk room w e) }
+
+-- no report needs more room than 8,192 bytes
+place-smaller : (s a : List ℕ) (room : ℕ) → judged s a (min room 8192) .place ≡ judged s a room .place
+unfolding judged ending inRoom ReportsFit
+place-smaller s a room = go (course s a) refl
+  where
+    same : (w : Walked) (r : List ℕ) → length r ≤ 8192 → inRoom (min room 8192) w r a .place ≡ inRoom room w r a .place
+    same w r h = rw (leb-smaller (length r) room h, inRoom)
+
+    go : (z : Course Walked) → course s a ≡ z → ending s a (min room 8192) z .place ≡ ending s a room z .place
+    go (faulty x n at) e = refl
+    go (reached w) e = same w (report w) (reports-fit s a w e)
+
+pub places-smaller : (s a : List ℕ) (room : ℕ) {n : ℕ} {p : Place} → p ≡ judged s a n .place → n ≡ min room 8192 → Places s a room p
+places-smaller s a room h e = record { place-is = h ∙ rw e (place-smaller s a room) }

@@ -1,13 +1,16 @@
 -- The two texts by the order of 01: one too long, one refused at a line, both read; then the course.
 -- Assumes nothing.
 use Prim.Native.Nat.{ℕ, _-_, _<_, _≤_, zero-le}
-use mathlib.Core.List.{List}
-use mathlib.Core.Path.{_≡_, refl, sym}
+use mathlib.Core.List.{List, [], _∷_}
+use mathlib.Core.Path.{_≡_, refl, sym, subst}
 use mathlib.Core.Logic.{by-cases, ⊎-elim}
 use native.Mathlib.Omega.{arith}
 use native.Mathlib.Decide.{ℕ-discrete, decLt}
-use borrow.Author.Tests.{le-leb, lt-leb, leb-true}
+use borrow.Author.Tests.{le-leb, lt-leb, leb-true, ne-eqb}
 use lib.ListN.{length, length-take}
+use types.Run.{OneOf}
+use denote.Enum.Declared.{tagOf}
+use Rattle.judging.proofs.pairs.Outcome.{the-type}
 use Rattle.forms.proofs.Tests.{and-left}
 use Rattle.model.specs.declared.Tables.{Tables}
 use Rattle.model.specs.declared.Program.{Program}
@@ -28,7 +31,7 @@ use Rattle.rules.proofs.Numbers.{WalkNumbers, walk-numbers}
 use Rattle.runs.specs.Whole.{Whole, outcome, whole}
 use Rattle.sheets.specs.Sheet.{sheetRead}
 use Rattle.answers.specs.Answer.{answerRead}
-use Rattle.judged.specs.Course.{Course, faulty, reached, goOn, short, read, defaultDepth, both, course}
+use Rattle.judged.specs.Course.{Course, faulty, reached, goOn, _>>=_, _>>_, short, read, defaultDepth, both, course}
 use Rattle.judged.proofs.Read.{both-lawful, both-read}
 use Rattle.judged.proofs.Room.{read-fits}
 use Rattle.words.specs.Words.{stateIn}
@@ -38,8 +41,7 @@ use Rattle.walks.specs.Fits.{PortsFit, LawfulPortsFit}
 use Rattle.walks.proofs.Fits.{lawful-ports-fit}
 use Rattle.judging.specs.declared.pairs.Outcome.{Outcome}
 use Rattle.judging.specs.declared.pairs.Outcome.the-variants.{InSheet, InAnswer, Reached}
-use Rattle.judging.specs.declared.pairs.Seen.{Seen}
-use Rattle.judging.specs.Came.{came, saying, sheetSeen, answerSeen, reportIn}
+use Rattle.judging.specs.Came.{seen, outcomeOf, came, kept, Comes, reportIn}
 use Rattle.judging.specs.Room.{Short}
 
 -- ---- the length of a text
@@ -79,44 +81,67 @@ module _ {A : Type 0} (x : Text) (m : Lines A) (none : A) (s : List ℕ) (h : le
       go (on v r) e = went x m s e
       go (stop n r) e = stopped x m s e (stops n r e)
 
-module _ (s : List ℕ) (h : length s ≤ 32768) where
-  sheet-read : {r : Whole (Tables × Program)} → r ≡ sheetRead s → TextRead text.Sheet sheet s (r .refused) (r .place) (r .value)
-  sheet-read = whole-read text.Sheet sheet (noTables, noProgram) s h (sheet-stops s)
-
-  answer-read : {r : Whole Answer} → r ≡ answerRead s → TextRead text.Answer answer s (r .refused) (r .place) (r .value)
-  answer-read = whole-read text.Answer answer noAnswer s h (answer-stops s)
-
 -- ---- the two texts
 
+-- a fault lies in its text
+pub data Told {A : Type 0} (s a : List ℕ) : Course A → Type 0 where
+  in-sheet : {n at : ℕ} → at ≤ length s → Told s a (faulty text.Sheet n at)
+  in-answer : {n at : ℕ} → at ≤ length a → Told s a (faulty text.Answer n at)
+  walks : {x : A} → Told s a (reached x)
+
+-- the answer is read with what the sheet says
+module _ {A B C : Type 0} (m : Lines A) (next : A → Lines B) (pair : A → B → C) (s a : List ℕ) where
+  abbrev pub inOrder : Course C
+  inOrder = do
+    short text.Sheet s
+    short text.Answer a
+    u ← read text.Sheet m s
+    v ← read text.Answer (next u) a
+    reached (pair u v)
+
+  -- of what the readers answered, r and y
+  module _ (none : A) (nil : B) {r : Whole A} {y : Whole B} (is : r ≡ whole none m s) (also : y ≡ whole nil (next (r .value)) a)
+      (stops : (n : ℕ) (t : List ℕ) → m s ≡ stop n t → StopsAt s n t) (ends : (n : ℕ) (t : List ℕ) → next (r .value) a ≡ stop n t → StopsAt a n t) where
+    came-to : (o : Outcome) → outcomeOf (seen s r) (seen a y) ≡ o → came o (pair (r .value) (y .value)) ≡ inOrder → Told s a (came o (pair (r .value) (y .value)))
+        → (came (outcomeOf (seen s r) (seen a y)) (pair (r .value) (y .value)) ≡ inOrder) × Told s a inOrder
+    came-to o e h t = (rw e h, subst (Told s a) h t)
+
+    -- the course is that of their outcome, and a fault lies in its text
+    pub in-order : (came (outcomeOf (seen s r) (seen a y)) (pair (r .value) (y .value)) ≡ inOrder) × Told s a inOrder
+    unfolding outcomeOf
+    in-order =
+        by-cases (decLt 32768 (length s)) (λ h. came-to (InSheet 1 0) (rw (lt-leb (length s) 32768 h)) (rw (long text.Sheet s h)) (in-sheet zero-le)) (λ h.
+        let p : length s ≤ 32768 = omega arith in
+        by-cases (decLt 32768 (length a))
+        (λ g. came-to (InAnswer 1 0) (rw (le-leb (length s) 32768 p, lt-leb (length a) 32768 g)) (rw (not-long text.Sheet s p, long text.Answer a g)) (in-answer zero-le)) (λ g.
+        let q : length a ≤ 32768 = omega arith in
+        let one = whole-read text.Sheet m none s p stops is in
+        let two = whole-read text.Answer (next (r .value)) nil a q ends also in
+        by-cases (ℕ-discrete (r .refused) 0) (λ e.
+        by-cases (ℕ-discrete (y .refused) 0)
+        (λ f. came-to Reached (rw (le-leb (length s) 32768 p, le-leb (length a) 32768 q, e, f)) (rw (not-long text.Sheet s p, not-long text.Answer a q, one .reaches e, two .reaches f)) walks)
+        (λ f. came-to (InAnswer (y .refused) (y .place)) (rw (le-leb (length s) 32768 p, le-leb (length a) 32768 q, e, ne-eqb _ 0 f)) (rw (not-long text.Sheet s p, not-long text.Answer a q, one .reaches e, two .faults f)) (in-answer (two .within))))
+        (λ e. came-to (InSheet (r .refused) (r .place)) (rw (le-leb (length s) 32768 p, le-leb (length a) 32768 q, ne-eqb _ 0 e)) (rw (not-long text.Sheet s p, not-long text.Answer a q, one .faults e)) (in-sheet (one .within)))))
+
 module _ (s a : List ℕ) where
-  pub sheet-long : 32768 < length s → faulty text.Sheet 1 0 ≡ both s a
+  -- of what the two readers answered
+  both-comes : {r : Whole (Tables × Program)} {y : Whole Answer} → r ≡ sheetRead s → y ≡ answerRead a
+      → (came (outcomeOf (seen s r) (seen a y)) (r .value .0, r .value .1, y .value) ≡ both s a) × Told s a (both s a)
   unfolding both
-  sheet-long h = rw (long text.Sheet s h)
+  both-comes is also = in-order sheet (λ _. answer) (λ x y. (x .0, x .1, y)) s a (noTables, noProgram) noAnswer is also (sheet-stops s) (answer-stops a)
 
-  pub answer-long : length s ≤ 32768 → 32768 < length a → faulty text.Answer 1 0 ≡ both s a
-  unfolding both
-  answer-long p h = rw (not-long text.Sheet s p, long text.Answer a h)
+  pub both-told : Told s a (both s a)
+  both-told = both-comes {r = sheetRead s} {y = answerRead a} refl refl .1
 
-  module _ (p : length s ≤ 32768) (q : length a ≤ 32768) {r : Whole (Tables × Program)} (is : r ≡ sheetRead s) where
-    pub sheet-refused : (r .refused ≡ 0 → ⊥) → faulty text.Sheet (r .refused) (r .place) ≡ both s a
-    unfolding both
-    sheet-refused h = rw (not-long text.Sheet s p, not-long text.Answer a q, sheet-read s p is .faults h)
-
-    module _ (e : r .refused ≡ 0) {y : Whole Answer} (also : y ≡ answerRead a) where
-      pub answer-refused : (y .refused ≡ 0 → ⊥) → faulty text.Answer (y .refused) (y .place) ≡ both s a
-      unfolding both
-      answer-refused h = rw (not-long text.Sheet s p, not-long text.Answer a q, sheet-read s p is .reaches e, answer-read a q also .faults h)
-
-      pub both-said : y .refused ≡ 0 → reached (r .value .0, r .value .1, y .value) ≡ both s a
-      unfolding both
-      both-said f = rw (not-long text.Sheet s p, not-long text.Answer a q, sheet-read s p is .reaches e, answer-read a q also .reaches f)
-
-  -- the outcome of what their readers answered, r and y
-  module _ {r : Whole (Tables × Program)} {y : Whole Answer} (is : r ≡ sheetRead s) (also : y ≡ answerRead a) (o : Outcome) {p q : Seen}
-      (h : ((t b : List ℕ) → p ≡ sheetSeen t → q ≡ answerSeen b → came o (saying t b) ≡ both t b)) where
-    pub outcome-comes : p ≡ record { size = length s; refused = r .refused; place = r .place } → q ≡ record { size = length a; refused = y .refused; place = y .place }
-        → came o (r .value .0, r .value .1, y .value) ≡ both s a
-    outcome-comes e f = rw (is, also) (h s a (rw is at e) (rw also at f))
+  -- what is kept of them
+  pub kept-comes : (o : Outcome) {r : Whole (Tables × Program)} {y : Whole Answer} → r ≡ sheetRead s → y ≡ answerRead a → o ≡ outcomeOf (seen s r) (seen a y)
+      → Comes o (kept o (r .value .0, r .value .1, y .value)) (both s a)
+  kept-comes o is also e = go o _ (rw e (both-comes is also .0))
+    where
+      go : (o : Outcome) (x : Tables × Program × Answer) → came o x ≡ both s a → Comes o (kept o x) (both s a)
+      go (InSheet n at) x h = record { same = h; beside = refl }
+      go (InAnswer n at) x h = record { same = h; beside = refl }
+      go Reached x h = record { same = h; beside = tt }
 
   -- the ports that a program names fit where its sheet is read
   pub ports-fit : (t : Tables) (p : Program) (y : Answer) → reached (t, p, y) ≡ both s a → PortsFit p
@@ -150,23 +175,11 @@ small-number s a w e = ⊎-elim (λ z. omega arith) (λ z. omega arith) (walked-
 pub reached-short : (s a : List ℕ) (w : Passed) (ws : List ℕ) → reached (walked w (stateIn ws)) ≡ course s a → Short w (reportIn w ws)
 reached-short s a w ws e = record { few = omega (arith, read-fits s a _ (sym e) .0); small = small-number s a _ (sym e) }
 
--- a fault lies in its text
-pub data Told {A : Type 0} (s a : List ℕ) : Course A → Type 0 where
-  in-sheet : {n at : ℕ} → at ≤ length s → Told s a (faulty text.Sheet n at)
-  in-answer : {n at : ℕ} → at ≤ length a → Told s a (faulty text.Answer n at)
-  walks : {x : A} → Told s a (reached x)
-
-pub both-told : (s a : List ℕ) → Told s a (both s a)
-both-told s a =
-    by-cases (decLt 32768 (length s)) (λ h. rw (← sheet-long s a h) (in-sheet zero-le)) (λ h.
-    by-cases (decLt 32768 (length a)) (λ g. rw (← answer-long s a (omega arith) g) (in-answer zero-le)) (λ g.
-    let p : length s ≤ 32768 = omega arith in
-    let q : length a ≤ 32768 = omega arith in
-    by-cases (ℕ-discrete (sheetRead s .refused) 0) (λ e.
-    by-cases (ℕ-discrete (answerRead a .refused) 0)
-    (λ f. rw (← both-said s a p q refl e refl f) walks)
-    (λ f. rw (← answer-refused s a p q refl e refl f) (in-answer (answer-read a q refl .within))))
-    (λ e. rw (← sheet-refused s a p q refl e) (in-sheet (sheet-read s p refl .within)))))
+-- a pair that is not read: 0 and 1 are the tags of InSheet and InAnswer
+pub refused-kept : (o : Outcome) → OneOf (0 ∷ 1 ∷ []) (tagOf the-type o) → (x : Tables × Program × Answer) → kept o x ≡ (noTables, noProgram, noAnswer)
+refused-kept (InSheet n at) h x = refl
+refused-kept (InAnswer n at) h x = refl
+refused-kept Reached h x = absurd (⊎-elim (λ z. omega (arith, z)) (λ z. omega (arith, z)) h)
 
 pub told-then : {A B : Type 0} {s a : List ℕ} {m : Course A} (f : A → B) → Told s a m → Told s a (goOn m (λ x. reached (f x)))
 told-then f (in-sheet h) = in-sheet h

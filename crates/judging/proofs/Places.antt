@@ -1,15 +1,14 @@
 -- The place of the line at fault lies within its text, and is told by a part of it.
 -- Assumes nothing.
-use Prim.Native.Nat.{ℕ, _+_, _-_, _≤_, zero-le}
+use Prim.Native.Nat.{ℕ, _+_, _-_, _≤_, min, zero-le}
 use mathlib.Core.List.{List, [], _∷_}
-use mathlib.Core.Path.{_≡_, refl, ap}
-use mathlib.Core.Logic.{⊎-elim}
+use mathlib.Core.Path.{_≡_, refl, sym, ap, _∙_}
+use mathlib.Core.Logic.{⊎-elim, by-cases}
 use native.Mathlib.Omega.{arith}
+use native.Mathlib.Decide.{decLt}
 use lib.Dec.{eqb, leb}
 use lib.ListN.{length, take, drop, length-drop}
-use mir.Syntax.{w64}
-use mir.Val.{Fits}
-use mir.Facts.{fits-le}
+use lib.Seq.{take-all}
 use types.Run.{OneOf}
 use denote.Ref.{RefT}
 use denote.Enum.Declared.{tagOf}
@@ -24,7 +23,7 @@ use Rattle.judged.specs.declared.Place.{Place}
 use Rattle.judged.specs.Course.{Course}
 use Rattle.judged.specs.Judged.{textOf, faultPlace, afterFault, noRoom, stepPlace, afterWalk, inRoom, ending, judged}
 use Rattle.verdicts.proofs.Starts.{start-few}
-use Rattle.judging.specs.Part.{holder}
+use Rattle.judging.specs.Part.{Part, holder, PartAt}
 use Rattle.judging.proofs.Order.{Told, in-sheet, in-answer, walks, course-told}
 
 -- ---- within the text
@@ -66,25 +65,27 @@ place-within s a room = go (course-told s a)
 
 -- ---- as a part of the text
 
-module _ (s a : List ℕ) (room : ℕ) {p : Place} (is : p ≡ judged s a room .place) where
-  pub held : p .start + p .size ≤ length (textOf (p .text) s a)
-  held = rw is (place-within s a room)
-
-  pub end-fits : Fits w64 (length s) → Fits w64 (length a) → Fits w64 (p .start + p .size)
-  end-fits f g = fits-le held (either (p .text))
-    where
-      either : (x : Text) → Fits w64 (length (textOf x s a))
-      either text.Neither = fits-le zero-le f
-      either text.Sheet = f
-      either text.Answer = g
-      either text.Times = fits-le zero-le f
-
 -- a text that is not the sheet: 0, 2 and 3 are the tags of Neither, Answer and Times
-pub elsewhere : (x : Text) → OneOf (0 ∷ 2 ∷ 3 ∷ []) (tagOf the-type x) → (s a : RefT (List ℕ)) → (holder x s a ≡ a) × (length (textOf x (s .now) (a .now)) ≤ length (a .now))
-elsewhere text.Neither h s a = (refl, zero-le)
+pub elsewhere : (x : Text) → OneOf (0 ∷ 2 ∷ 3 ∷ []) (tagOf the-type x) → (s a : RefT (List ℕ)) → holder x s a ≡ a
+elsewhere text.Neither h s a = refl
 elsewhere text.Sheet h s a = absurd (⊎-elim (λ z. omega (arith, z)) (⊎-elim (λ z. omega (arith, z)) (λ z. omega (arith, z))) h)
-elsewhere text.Answer h s a = (refl, omega arith)
-elsewhere text.Times h s a = (refl, zero-le)
+elsewhere text.Answer h s a = refl
+elsewhere text.Times h s a = refl
 
-pub sized : (start size : ℕ) (l : List ℕ) → take (start + size - start) l ≡ take size l
-sized start size l = ap (λ (n : ℕ). take n l) (let e : start + size - start ≡ size = omega arith in e)
+-- as far as the text goes
+pub part-taken : (s : List ℕ) (at n size : ℕ) → n ≡ min size (length s - at) → take (at + n - at) (drop at s) ≡ take size (drop at s)
+part-taken s at n size e =
+    by-cases (decLt size (length s - at))
+    (λ h. ap (λ (k : ℕ). take k (drop at s)) (let q : at + n - at ≡ size = omega arith in q))
+    (λ h. take-all (at + n - at) (drop at s) (omega (arith, length-drop at s)) ∙ sym (take-all size (drop at s) (omega (arith, length-drop at s))))
+
+-- a place within its text tells a part of it, q being what is promised of p
+pub part-placed : (s a : RefT (List ℕ)) (p q : Place) (r : RefT (List ℕ)) → p ≡ q → Within (λ x. textOf x (s .now) (a .now)) q
+    → Part (holder (p .text) s a) (min (p .start) (length (holder (p .text) s a .now))) (p .size) r → PartAt q s a r
+part-placed s a p q r e w h = rw (in-text (q .text) (q .start) (omega arith)) at (rw e at h)
+  where
+    in-text : (x : Text) (n : ℕ) → n ≤ length (textOf x (s .now) (a .now)) → min n (length (holder x s a .now)) ≡ n
+    in-text text.Neither n h = omega arith
+    in-text text.Sheet n h = omega arith
+    in-text text.Answer n h = omega arith
+    in-text text.Times n h = omega arith

@@ -39,3 +39,10 @@ room-told n room h =
 -- of the report r, which has n bytes
 pub fits-told : (r : List ℕ) (n room : ℕ) {fits : Bool} → fits ≡ roomFor n room → n ≡ length r → length r ≤ 8192 → fits ≡ leb (length r) room
 fits-told r n room h e l = h ∙ ap (λ (k : ℕ). roomFor k room) e ∙ room-told (length r) room l
+
+-- more than 8,192 bytes are as many
+pub leb-smaller : (n room : ℕ) → n ≤ 8192 → leb n (min room 8192) ≡ leb n room
+leb-smaller n room h =
+    by-cases (decLt room n)
+    (λ l. rw (lt-leb n (min room 8192) (omega arith), lt-leb n room l))
+    (λ l. rw (le-leb n (min room 8192) (omega arith), le-leb n room (omega arith)))

@@ -2,6 +2,8 @@
 use Prim.Native.Nat.{ℕ}
 use mathlib.Core.List.{List}
 use mathlib.Core.Path.{_≡_}
+use mathlib.Core.Bool.{cond}
+use lib.Dec.{leb, eqb}
 use lib.ListN.{length}
 use Rattle.model.specs.declared.Tables.{Tables}
 use Rattle.model.specs.declared.Program.{Program}
@@ -9,8 +11,7 @@ use Rattle.model.specs.declared.Answer.{Answer}
 use Rattle.model.specs.declared.Text.the-variants as text
 use Rattle.model.specs.Empty.{noTables, noProgram, noAnswer}
 use Rattle.report.specs.Report.{report}
-use Rattle.sheets.specs.Sheet.{sheetRead}
-use Rattle.answers.specs.Answer.{answerRead}
+use Rattle.runs.specs.Whole.{Whole}
 use Rattle.judged.specs.Course.{Course, faulty, reached}
 use Rattle.judged.specs.Judged.{Judgement, inRoom}
 use Rattle.words.specs.Words.{tablesIn, programIn, answerIn, stateIn}
@@ -26,16 +27,18 @@ came (InSheet n at) x = faulty text.Sheet n at
 came (InAnswer n at) x = faulty text.Answer n at
 came Reached x = reached x
 
--- what the readers answer of two texts
-abbrev pub saying : List ℕ → List ℕ → Tables × Program × Answer
-saying s a = (sheetRead s .value .0, sheetRead s .value .1, answerRead a .value)
+-- a text and what its reader answered
+abbrev pub seen : {A : Type 0} → List ℕ → Whole A → Seen
+seen s r = record { size = length s; refused = r .refused; place = r .place }
 
--- and beside it, each of its text
-abbrev pub sheetSeen : List ℕ → Seen
-sheetSeen s = record { size = length s; refused = sheetRead s .refused; place = sheetRead s .place }
-
-abbrev pub answerSeen : List ℕ → Seen
-answerSeen a = record { size = length a; refused = answerRead a .refused; place = answerRead a .place }
+-- "length of the sheet, of the answer, then the sheet's lines, the answer's lines"
+unfoldable pub outcomeOf : Seen → Seen → Outcome
+outcomeOf s a =
+    cond (leb (s .size) 32768)
+    (cond (leb (a .size) 32768)
+    (cond (eqb (s .refused) 0) (cond (eqb (a .refused) 0) Reached (InAnswer (a .refused) (a .place))) (InSheet (s .refused) (s .place)))
+    (InAnswer 1 0))
+    (InSheet 1 0)
 
 -- what the lent words say
 abbrev pub saidIn : List ℕ → List ℕ → List ℕ → Tables × Program × Answer
@@ -46,6 +49,11 @@ abbrev pub Beside : Outcome → Tables × Program × Answer → Type 0
 Beside (InSheet n at) x = x ≡ (noTables, noProgram, noAnswer)
 Beside (InAnswer n at) x = x ≡ (noTables, noProgram, noAnswer)
 Beside Reached x = Unit
+
+abbrev pub kept : Outcome → Tables × Program × Answer → Tables × Program × Answer
+kept (InSheet n at) x = (noTables, noProgram, noAnswer)
+kept (InAnswer n at) x = (noTables, noProgram, noAnswer)
+kept Reached x = x
 
 -- the outcome r and what stands beside it are the course m of the two texts
 pub record Comes (r : Outcome) (x : Tables × Program × Answer) (m : Course (Tables × Program × Answer)) : Type 0 where

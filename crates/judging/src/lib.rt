@@ -1,13 +1,17 @@
 // The judge: two texts and a lent buffer come to a verdict, a report, what the program prints, and the line at fault.
 // Promised: on any bytes, every field and byte is what crates/judged/specs says, and the line at fault is that very part of its text.
 pub mod pairs;
+pub mod parts;
 
 use judged::LENT_BYTES;
 use judged::Place;
 use judged::Verdict;
 use model::Text;
+use model::smaller;
 use pairs::Outcome;
 use pairs::walk_texts;
+use parts::fault_or_report;
+use parts::part_at;
 use verdicts::after_fault;
 use verdicts::fault_place;
 use verdicts::no_room;
@@ -102,36 +106,20 @@ pub fn judge(sheet: &[u8], answer: &[u8], report: &mut [u8]) -> Verdict
     judge_and_place(sheet, answer, report).verdict
 }
 
-// Which text held the line at fault, where the line starts, and how many bytes it has.
+// Which text held the line at fault, where the line starts, and how many bytes it has. No report needs more room than 8,192 bytes.
 pub fn place(sheet: &[u8], answer: &[u8], room: usize) -> Place
     ensures { λ r. ⌜ Places (now (sheet .entry)) (now (answer .entry)) room r ⌝ }
 {
-    let mut state = [0u32; 930];
-    let came = walk_texts(sheet, answer, &mut state);
-    let outcome = came.outcome;
-    let passed = came.passed;
-    match outcome {
-        Outcome::InSheet(n, at) => fault_place(Text::Sheet, sheet, n, at),
-        Outcome::InAnswer(n, at) => fault_place(Text::Answer, answer, n, at),
-        Outcome::Reached => {
-            let fits = has_room(passed, &state, 0, room);
-            walk_place(passed.refused as u8, passed.accepted as usize, fits, answer)
-        }
-    }
+    let mut scratch = [0u8; LENT_BYTES];
+    let n = smaller(room, LENT_BYTES);
+    judge_and_place(sheet, answer, &mut scratch[..n]).place
 }
 
 // The line at fault, as a part of whichever text held it.
 pub fn offending<'a>(sheet: &'a [u8], answer: &'a [u8], room: usize) -> &'a [u8]
     ensures { λ r. ⌜ PartAt (judged (now (sheet .entry)) (now (answer .entry)) room .place) (sheet .entry) (answer .entry) r ⌝ }
 {
-    let place = place(sheet, answer, room);
-    let start = place.start;
-    let end = start + place.size;
-    let text = place.text;
-    match text {
-        Text::Sheet => &sheet[start..end],
-        _ => &answer[start..end],
-    }
+    part_at(place(sheet, answer, room), sheet, answer)
 }
 
 // What the `judge` program prints: the report, or after 1 to 5 the three lines.
@@ -140,10 +128,6 @@ pub fn print(sheet: &[u8], answer: &[u8], out: &mut [u8; LENT_BYTES]) -> usize
     ensures counts { λ r. ⌜ Counts r (now (out .exit)) ⌝ }
 {
     let verdict = judge(sheet, answer, out);
-    let refused = verdict.refused;
     let text = verdict.text;
-    match refused {
-        1..=5 => writers::write_fault(out, text, verdict.line, refused),
-        _ => verdict.written,
-    }
+    fault_or_report(out, text, verdict.line, verdict.refused, verdict.written)
 }

@@ -16,11 +16,10 @@ ghost use mathlib.Core.Path.{_≡_};
 ghost use mathlib.Core.List.{List};
 ghost use Prim.Native.Nat.{ℕ};
 ghost use lib.ListN.{length};
-ghost use Rattle.model.specs.Empty.{noTables, noProgram, noAnswer};
 ghost use Rattle.judged.specs.Course.{both, course};
 ghost use Rattle.words.specs.Words.{tablesIn, programIn, answerIn, stateIn};
 ghost use Rattle.walks.specs.Reached.{walked};
-ghost use Rattle.judging.specs.Came.{came, saying, sheetSeen, answerSeen, saidIn, Comes};
+ghost use Rattle.judging.specs.Came.{outcomeOf, came, kept, saidIn, Comes};
 
 // A text is refused with a number at a place of it, or both are read.
 pub enum Outcome {
@@ -30,13 +29,13 @@ pub enum Outcome {
 }
 
 // What a text's reader answered: the text's length, 0 or the number of the refusal, and the place.
-struct Seen {
-    size: usize,
-    refused: u8,
-    place: usize,
+pub struct Seen {
+    pub size: usize,
+    pub refused: u8,
+    pub place: usize,
 }
 
-fn look_at(s: &[u8], refused: u8, place: usize) -> Seen
+pub fn look_at(s: &[u8], refused: u8, place: usize) -> Seen
     ensures { λ r. ⌜ r ≡ record { size = length (now (s .entry)); refused = refused; place = place } ⌝ }
 {
     let size = s.len();
@@ -48,8 +47,8 @@ fn look_at(s: &[u8], refused: u8, place: usize) -> Seen
 }
 
 // "length of the sheet, of the answer, then the sheet's lines, the answer's lines"
-fn outcome_of(sheet: Seen, answer: Seen) -> Outcome
-    ensures { λ r. ⌜ ((s a : List ℕ) → sheet ≡ sheetSeen s → answer ≡ answerSeen a → came r (saying s a) ≡ both s a) ⌝ }
+pub fn outcome_of(sheet: Seen, answer: Seen) -> Outcome
+    ensures { λ r. ⌜ r ≡ outcomeOf sheet answer ⌝ }
 {
     if LONGEST < sheet.size {
         return Outcome::InSheet(TOO_LONG, 0);
@@ -67,12 +66,23 @@ fn outcome_of(sheet: Seen, answer: Seen) -> Outcome
 }
 
 // Nothing stands beside a refused text.
-fn forget(tables: &mut TableWords, program: &mut ProgramWords, steps: &mut AnswerWords)
-    ensures { λ r. ⌜ saidIn (now (tables .exit)) (now (program .exit)) (now (steps .exit)) ≡ (noTables, noProgram, noAnswer) ⌝ }
+fn keep_read(
+    outcome: Outcome,
+    tables: &mut TableWords,
+    program: &mut ProgramWords,
+    steps: &mut AnswerWords,
+)
+    ensures { λ r. ⌜ saidIn (now (tables .exit)) (now (program .exit)) (now (steps .exit))
+        ≡ kept outcome (saidIn (now (tables .entry)) (now (program .entry)) (now (steps .entry))) ⌝ }
 {
-    clear_tables(tables);
-    clear_program(program);
-    clear_answer(steps);
+    match outcome {
+        Outcome::Reached => {}
+        _ => {
+            clear_tables(tables);
+            clear_program(program);
+            clear_answer(steps);
+        }
+    }
 }
 
 // What both texts say, in the lent words, whatever these held before; beside a refusal they are all 0.
@@ -91,17 +101,8 @@ pub fn read_both(
     let one = look_at(sheet, said.refused, said.place);
     let two = look_at(answer, given.refused, given.place);
     let outcome = outcome_of(one, two);
-    match outcome {
-        Outcome::InSheet(n, at) => {
-            forget(tables, program, steps);
-            Outcome::InSheet(n, at)
-        }
-        Outcome::InAnswer(n, at) => {
-            forget(tables, program, steps);
-            Outcome::InAnswer(n, at)
-        }
-        Outcome::Reached => outcome,
-    }
+    keep_read(outcome, tables, program, steps);
+    outcome
 }
 
 // How far the two texts came, and how far the walk, where both are read.

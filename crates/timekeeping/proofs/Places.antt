@@ -1,14 +1,11 @@
 -- The place of the line at fault lies within the text that it names, of the three that are lent.
 -- Assumes nothing.
-use Prim.Native.Nat.{ℕ, _+_, _≤_, zero-le}
+use Prim.Native.Nat.{ℕ, _≤_, min}
 use mathlib.Core.List.{List, [], _∷_}
 use mathlib.Core.Path.{_≡_, refl, sym, subst, _∙_}
 use mathlib.Core.Logic.{⊎-elim}
 use native.Mathlib.Omega.{arith}
 use lib.ListN.{length}
-use mir.Syntax.{w64}
-use mir.Val.{Fits}
-use mir.Facts.{fits-le}
 use types.Run.{OneOf}
 use denote.Ref.{RefT}
 use denote.Enum.Declared.{tagOf}
@@ -19,6 +16,7 @@ use Rattle.model.proofs.Text.{the-type}
 use Rattle.judged.specs.declared.Place.{Place}
 use Rattle.judged.specs.Course.{Course}
 use Rattle.judged.specs.Judged.{afterFault}
+use Rattle.judging.specs.Part.{Part, holder}
 use Rattle.judging.proofs.Places.{Within, fault-within, walk-within}
 use Rattle.timed.specs.Timed.{lentText, markedReport, timedEnding, timed}
 use Rattle.timed.specs.Once.{PromisedPlace}
@@ -41,26 +39,24 @@ timed-within s a x room = go (timed-told s a x)
 
 -- ---- as a part of the text
 
-module _ (s a x : List ℕ) (room : ℕ) {p : Place} (is : PromisedPlace s a x room p) where
-  pub held : p .start + p .size ≤ length (lentText (p .text) s a x)
-  held = rw (the-place is) (timed-within s a x room)
+-- no part of the times: 0, 1 and 2 are the tags of Neither, Sheet and Answer
+pub elsewhere : (k : Text) → OneOf (0 ∷ 1 ∷ 2 ∷ []) (tagOf the-type k) → (s a x : RefT (List ℕ)) → holder k s a ≡ lender k s a x
+elsewhere text.Neither h s a x = refl
+elsewhere text.Sheet h s a x = refl
+elsewhere text.Answer h s a x = refl
+elsewhere text.Times h s a x = absurd (⊎-elim (λ z. omega (arith, z)) (⊎-elim (λ z. omega (arith, z)) (λ z. omega (arith, z))) h)
 
-  pub end-fits : Fits w64 (length s) → Fits w64 (length a) → Fits w64 (length x) → Fits w64 (p .start + p .size)
-  end-fits f g h = fits-le held (each (p .text))
-    where
-      each : (k : Text) → Fits w64 (length (lentText k s a x))
-      each text.Neither = fits-le zero-le f
-      each text.Sheet = f
-      each text.Answer = g
-      each text.Times = h
+-- the part that one promised place tells is that of every other: they are one, and within its text
+pub part-placed : (s a x : RefT (List ℕ)) {room : ℕ} {p : Place} (r : RefT (List ℕ)) → PromisedPlace (s .now) (a .now) (x .now) room p
+    → Part (lender (p .text) s a x) (min (p .start) (length (lender (p .text) s a x .now))) (p .size) r → PromisedPart s a x room r
+part-placed s a x {room} {p} r h part q g =
+    subst (λ (z : Place). PartOf z s a x r) (the-place h ∙ sym (the-place g)) (rw (in-text (p .text) (p .start) (omega (arith, held))) at part)
+  where
+    held : Within (lentIn (s .now) (a .now) (x .now)) p
+    held = rw (the-place h) (timed-within (s .now) (a .now) (x .now) room)
 
--- the part that one promised place tells is that of every other: they are one
-pub part-placed : (s a x : RefT (List ℕ)) {room : ℕ} {p : Place} (r : RefT (List ℕ)) → PromisedPlace (s .now) (a .now) (x .now) room p → PartOf p s a x r → PromisedPart s a x room r
-part-placed s a x r h part q g = subst (λ (z : Place). PartOf z s a x r) (the-place h ∙ sym (the-place g)) part
-
--- neither the sheet nor the times: 0 and 2 are the tags of Neither and Answer
-pub elsewhere : (k : Text) → OneOf (0 ∷ 2 ∷ []) (tagOf the-type k) → (s a x : RefT (List ℕ)) → (lender k s a x ≡ a) × (length (lentText k (s .now) (a .now) (x .now)) ≤ length (a .now))
-elsewhere text.Neither h s a x = (refl, zero-le)
-elsewhere text.Sheet h s a x = absurd (⊎-elim (λ z. omega (arith, z)) (λ z. omega (arith, z)) h)
-elsewhere text.Answer h s a x = (refl, omega arith)
-elsewhere text.Times h s a x = absurd (⊎-elim (λ z. omega (arith, z)) (λ z. omega (arith, z)) h)
+    in-text : (k : Text) (n : ℕ) → n ≤ length (lentText k (s .now) (a .now) (x .now)) → min n (length (lender k s a x .now)) ≡ n
+    in-text text.Neither n l = omega arith
+    in-text text.Sheet n l = omega arith
+    in-text text.Answer n l = omega arith
+    in-text text.Times n l = omega arith

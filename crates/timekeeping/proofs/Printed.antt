@@ -18,7 +18,7 @@ use Rattle.judged.specs.Judged.{faultLine, afterFault}
 use Rattle.inks.specs.Written.{Written}
 use Rattle.judging.specs.Counts.{Counts}
 use Rattle.judging.proofs.Order.{walked-numbers}
-use Rattle.judging.proofs.Printed.{Chosen, walk-chosen, fault-chosen, Prints, report-printed, lines-printed}
+use Rattle.judging.proofs.Printed.{ChosenOf, walk-chosen, lines-chosen, Prints, report-printed, lines-printed}
 use Rattle.times.specs.Refusal.{timesNumber}
 use Rattle.timed.specs.Timed.{timedCourse, markedReport, numbered, timedEnding, timed, timedVerdict, timedBuffer, timedPrinting, timedPrinted}
 use Rattle.timed.proofs.Same.{Alike, in-sheet, in-answer, in-times, marked, courses-alike, all-read}
@@ -34,14 +34,14 @@ unfolding timesNumber
 of-times n =
     inr (by-test (eqb n 3) (λ e. rw (e, timesNumber) (omega arith)) (λ e. rw (e, timesNumber) (by-test (eqb n 4) (λ f. rw f (omega arith)) (λ f. rw f (omega arith)))))
 
-chosen : (s a x : List ℕ) → Chosen OfText (timed s a x 8192 .judgement) (timedPrinted s a x)
+chosen : (s a x : List ℕ) → ChosenOf OfText (timed s a x 8192 .judgement) (timedPrinted s a x)
 unfolding timed timedEnding timedPrinted timedPrinting afterFault
 chosen s a x = go (timedCourse s a x) refl (courses-alike s a x) (timed-told s a x)
   where
-    go : {y : Course Walked} (z : Course (Walked × ℕ)) → timedCourse s a x ≡ z → Alike y z → TimedTold s a x z → Chosen OfText (timedEnding s a x 8192 z .judgement) (timedPrinting s a x z)
-    go _ e (in-sheet l) (sheet-fault {n} {at} f) = fault-chosen OfText (numbered n (afterFault text.Sheet n at s)) (inl l) refl refl
-    go _ e (in-answer l) (answer-fault {n} {at} f) = fault-chosen OfText (numbered n (afterFault text.Answer n at a)) (inl l) refl refl
-    go _ e (in-times l) (times-fault {n} {at} f) = fault-chosen OfText (numbered (timesNumber n) (afterFault text.Times n at x)) (of-times n) refl refl
+    go : {y : Course Walked} (z : Course (Walked × ℕ)) → timedCourse s a x ≡ z → Alike y z → TimedTold s a x z → ChosenOf OfText (timedEnding s a x 8192 z .judgement) (timedPrinting s a x z)
+    go _ e (in-sheet l) (sheet-fault {n} {at} f) = lines-chosen OfText n text.Sheet _ (inl l)
+    go _ e (in-answer l) (answer-fault {n} {at} f) = lines-chosen OfText n text.Answer _ (inl l)
+    go _ e (in-times l) (times-fault {n} {at} f) = lines-chosen OfText (timesNumber n) text.Times _ (of-times n)
     go _ e (marked l) (clocked-walk {w} {m}) =
         let h = walked-numbers s a w (all-read s a x w m e .0) .refused .range in
         walk-chosen OfText w (markedReport w m) a
@@ -54,7 +54,7 @@ module _ (s a x old : List ℕ) {v : Verdict} {mid : List ℕ} (long : length ol
   promised h = (record { used-is = h .0; out-is = h .1 .0 }, h .1 .1)
 
   pub report-prints : (OfText (v .refused) → ⊥) → PromisedPrint s a x old (v .written) mid × Counts (v .written) mid
-  report-prints h = promised (report-printed (chosen s a x) old long (rw long at is) (rw long at after) h)
+  report-prints h = rw (is, long) (promised (report-printed (chosen s a x) old long (rw long at after) (rw (is, long) at h)))
 
   pub lines-print : {new : List ℕ} {used : ℕ} → OfText (v .refused) → Written mid (faultText (v .text) (v .line) (v .refused)) new 0 used → PromisedPrint s a x old used new × Counts used new
-  lines-print h w = promised (lines-printed (chosen s a x) old long (rw long at is) (rw long at after) h w)
+  lines-print h w = promised (lines-printed (chosen s a x) old long (rw long at after) (rw (is, long) at h) (rw (is, long) at w))

@@ -7,6 +7,8 @@ use judged::Place;
 use judged::Verdict;
 use judging::pairs::Outcome;
 use judging::pairs::read_both;
+use judging::parts::part_at;
+use judging::parts::part_of;
 use model::Concerned;
 use model::Text;
 use timed::Timed;
@@ -241,13 +243,10 @@ pub fn timed_offending<'a>(
     ensures { λ r. ⌜ PromisedPart (sheet .entry) (answer .entry) (times .entry) room r ⌝ }
 {
     let place = timed_place(sheet, answer, times, room);
-    let start = place.start;
-    let end = start + place.size;
     let text = place.text;
     match text {
-        Text::Sheet => &sheet[start..end],
-        Text::Times => &times[start..end],
-        _ => &answer[start..end],
+        Text::Times => part_of(times, place.start, place.size),
+        _ => part_at(place, sheet, answer),
     }
 }
 
