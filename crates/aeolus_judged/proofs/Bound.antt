@@ -17,7 +17,7 @@ use Rattle.sets.proofs.Laws.{below-cases}
 use Rattle.forms.specs.Reader.{bytes}
 use Rattle.forms.specs.Write.{numberText, inTurn, oneText, twoText, threeText}
 use Rattle.forms.proofs.Tests.{by-test}
-use Rattle.report.proofs.Sums.{sum, sums, length-inTurn, length-inTurns, sum-le, sums-add, sums-none, sums-spike}
+use Rattle.report.proofs.Sums.{sum, sums, turns-le, length-inTurns, sum-le, sums-add, sums-none, sums-spike}
 use Rattle.report.proofs.Widths.{number-le}
 use Rattle.report.proofs.Bound.{count-le}
 use Rattle.aeolus_model.specs.Model.{Universe, Configuration, typeOf, nameOf, placeOf, lists, kindOf, stateOf, deployed, boundAt}
@@ -70,14 +70,10 @@ module _ (u : Universe) (law : Lawful u) (c : Configuration) (s : Sound u c) whe
   components-le : length (componentsText c) ≤ 608
   unfolding componentsText componentAt
   components-le =
-      omega (
-        arith,
-        length-inTurn (componentAt c) 32,
-        sum-le (λ z. length (componentAt c z)) 19 32 (λ z h. by-test (deployed c z)
-            (λ e. rw e (component-le z (kindOf c z) (stateOf c z) h (omega (arith, s .kind z h e, law .types))
-            (omega (arith, s .state z h e, law .states (kindOf c z) (s .kind z h e)))))
-            (λ e. rw e (omega arith))),
-      )
+      turns-le (componentAt c) 19 32 (λ z h. by-test (deployed c z)
+      (λ e. rw e (component-le z (kindOf c z) (stateOf c z) h (omega (arith, s .kind z h e, law .types))
+      (omega (arith, s .state z h e, law .states (kindOf c z) (s .kind z h e)))))
+      (λ e. rw e (omega arith)))
 
   -- what row n of the bindings adds at the interface r of z
   abbrev adds : ℕ → ℕ → ℕ → ℕ

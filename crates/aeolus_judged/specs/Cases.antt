@@ -2,6 +2,7 @@
 use Prim.Native.Nat.{ℕ, _+_}
 use mathlib.Core.List.{List, [], _∷_, _++_}
 use mathlib.Core.Path.{_≡_}
+use Rattle.judged.specs.Cases.{CaseOf, case, AllMetBy}
 use Rattle.judged.specs.Judged.{lentBytes}
 use Rattle.forms.specs.Reader.{bytes}
 use Rattle.forms.specs.Write.{inTurn, oneText, twoText}
@@ -59,13 +60,8 @@ pub data Expected : Type 0 where
   prints : List ℕ → Expected
   ends : ℕ → ℕ → Expected
 
-pub record Case : Type 0 where
-  pub sheet : List ℕ
-  pub answer : List ℕ
-  pub expected : Expected
-
-abbrev pub case : List ℕ → List ℕ → Expected → Case
-case s a e = record { sheet = s; answer = a; expected = e }
+abbrev pub Case : Type 0
+Case = CaseOf Expected
 
 -- the figures and the conflicts
 abbrev pub figures : List Case
@@ -100,5 +96,4 @@ Met s a (prints r) = printed s a ≡ r
 Met s a (ends n k) = (judged s a lentBytes .verdict .accepted ≡ n) × (judged s a lentBytes .verdict .refused ≡ k)
 
 abbrev pub AllMet : List Case → Type 0
-AllMet [] = Unit
-AllMet (k ∷ ks) = Met (k .sheet) (k .answer) (k .expected) × AllMet ks
+AllMet ks = AllMetBy Met ks

@@ -152,29 +152,39 @@ module _ (u : Universe) (k n : ℕ) (h : k < 16) (few : n ≤ 16) where
 -- ---- type k once its interfaces are read, while its states are
 record Stating (u : Universe) (k : ℕ) (v : Universe) : Type 0 where
   away : Away k u v
-  lawful : TypeLawful v k
+  shape : Shape (typeOf v k)
+  names : (j : ℕ) → j < typeOf v k .interfaces → nameOf v k j ≤ 255
+  ascend : (i j : ℕ) → i < j → j < typeOf v k .interfaces → nameOf v k i < nameOf v k j
+  to : (q : ℕ) → q < 16 → toOf v k q < 2 ^ typeOf v k .states
+  ports : (q m j : ℕ) → q < 16 → m < 3 → j < 16 → PortLawful v k q m j
+
+lawful : {u v : Universe} {k : ℕ} → Stating u k v → TypeLawful v k
+lawful w = record {
+  some = w .shape .some;
+  states = w .shape .states;
+  initial = w .shape .initial;
+  interfaces = w .shape .interfaces;
+  provides = w .shape .provides;
+  requires = w .shape .requires;
+  names = w .names;
+  ascend = w .ascend;
+  to = w .to;
+  ports = w .ports;
+}
 
 begun : (u : Universe) (k n : ℕ) (v : Universe) → Listing u k n n v → Stating u k v
 begun u k n v w =
-    let s = w .shape in
     let e = w .many in
     record {
       away = w .away;
-      lawful = record {
-        some = s .some;
-        states = s .states;
-        initial = s .initial;
-        interfaces = s .interfaces;
-        provides = s .provides;
-        requires = s .requires;
-        names = λ j h. w .names j (omega arith);
-        ascend = λ i j l h. w .ascend i j l (omega arith);
-        to = λ q h. rw (w .to q h) (pow-pos (typeOf v k .states));
-        ports = λ q m j h l g. record {
-          small = rw (w .numbers q m j h l g) (omega arith);
-          listed = λ d. absurd (d (w .numbers q m j h l g));
-          later = λ _ _. w .numbers q m j h l g;
-        };
+      shape = w .shape;
+      names = λ j h. w .names j (omega arith);
+      ascend = λ i j l h. w .ascend i j l (omega arith);
+      to = λ q h. rw (w .to q h) (pow-pos (typeOf v k .states));
+      ports = λ q m j h l g. record {
+        small = rw (w .numbers q m j h l g) (omega arith);
+        listed = λ d. absurd (d (w .numbers q m j h l g));
+        later = λ _ _. w .numbers q m j h l g;
       };
     }
 
@@ -196,48 +206,32 @@ module _ (u : Universe) (k q : ℕ) (h : q < 16) where
   runs-to : (v : Universe) → Stating u k v → Runs (Stating u k) (toAt k q v)
   unfolding toAt withTo
   runs-to v w =
-      let t = w .lawful in
-      let few = t .states in
+      let few = w .shape .states in
       runs-then (runs-line (reads-to (typeOf v k .states) (omega arith))) (λ m g. runs-give (record {
         away = away-then k u v (withTo v k q m) (w .away) (to-away k v (w .away .sized) q m h);
-        lawful = record {
-          some = t .some;
-          states = t .states;
-          initial = t .initial;
-          interfaces = t .interfaces;
-          provides = t .provides;
-          requires = t .requires;
-          names = t .names;
-          ascend = t .ascend;
-          to = λ p l. ⊎-elim (λ e. rw (e .1) g) (λ e. rw e (t .to p l)) (set-either (v .to) (k * 16 + q) m (k * 16 + p));
-          ports = λ a b c d e f. let p = t .ports a b c d e f in record { small = p .small; listed = p .listed; later = p .later };
-        };
+        shape = w .shape;
+        names = w .names;
+        ascend = w .ascend;
+        to = λ p l. ⊎-elim (λ e. rw (e .1) g) (λ e. rw e (w .to p l)) (set-either (v .to) (k * 16 + q) m (k * 16 + p));
+        ports = λ a b c d e f. let p = w .ports a b c d e f in record { small = p .small; listed = p .listed; later = p .later };
       }))
 
   runs-row : (i : ℕ) (v : Universe) → Stating u k v → Runs (Stating u k) (rowAt k q i v)
   unfolding rowAt withNumber
   runs-row i v w =
-      let t = w .lawful in
-      let few = t .interfaces in
+      let few = w .shape .interfaces in
       runs-then (runs-line (reads-row v k q)) (λ (m, j, x) y.
       let inside = y .place in
       runs-give (record {
         away = away-then k u v (withNumber v k q m j x) (w .away) (number-away k v (w .away .sized) q m j x h (y .map) (omega arith));
-        lawful = record {
-          some = t .some;
-          states = t .states;
-          initial = t .initial;
-          interfaces = t .interfaces;
-          provides = t .provides;
-          requires = t .requires;
-          names = t .names;
-          ascend = t .ascend;
-          to = t .to;
-          ports = λ p n l a b d. ⊎-elim
-              (λ e. placed k q v m j x y (y .map) h (omega arith) p n l a b d (e .0) (e .1))
-              (λ e. let o = t .ports p n l a b d in record { small = rw e (o .small); listed = rw e (o .listed); later = rw e (o .later) })
-              (set-either (v .numbers) (numberPlace k q m j) x (numberPlace k p n l));
-        };
+        shape = w .shape;
+        names = w .names;
+        ascend = w .ascend;
+        to = w .to;
+        ports = λ p n l a b d. ⊎-elim
+            (λ e. placed k q v m j x y (y .map) h (omega arith) p n l a b d (e .0) (e .1))
+            (λ e. let o = w .ports p n l a b d in record { small = rw e (o .small); listed = rw e (o .listed); later = rw e (o .later) })
+            (set-either (v .numbers) (numberPlace k q m j) x (numberPlace k p n l));
       }))
 
   runs-rows : (v : Universe) → Stating u k v → Runs (Stating u k) (rowsAt k q v)
@@ -338,7 +332,7 @@ module _ (u : Universe) (k : ℕ) (h : k < 16) where
         runs-then (runs-each (interfaceAt k) (Listing u k n) n (λ j x l g. runs-interface u k n h (w .shape .interfaces) j x l g) n 0 v (omega arith) w) (λ x g.
         let s = begun u k n x g in
         let m = typeOf x k .states in
-        let few = s .lawful .states in
+        let few = s .shape .states in
         runs-each (stateAt k) (λ _. Stating u k) m (λ q y l e. runs-state u k q (omega arith) y e) m 0 x (omega arith) s))
 
 -- ---- a sheet of n types, whose first i are read
@@ -352,7 +346,7 @@ typed-more : (n i : ℕ) (u v : Universe) → Typed n i u → Stating u i v → 
 typed-more n i u v w s = record {
   sized = s .away .sized;
   count = s .away .count ∙ w .count;
-  done = λ k g. by-cases (ℕ-discrete k i) (λ e. rw e (s .lawful)) (λ d. lawful-away i u v (s .away) k d (w .done k (omega arith)));
+  done = λ k g. by-cases (ℕ-discrete k i) (λ e. rw e (lawful s)) (λ d. lawful-away i u v (s .away) k d (w .done k (omega arith)));
   blank = λ k g. blank-away i u v (s .away) k (λ e. omega arith) (w .blank k (omega arith));
 }
 

@@ -3,8 +3,9 @@ use Prim.Native.Nat.{ℕ, suc}
 use mathlib.Core.Bool.{_&&_}
 use Rattle.forms.specs.Refusal.{beyondLimit, badClause}
 use Rattle.forms.specs.Reader.{Reader, bytes, _or_, noLine, _>>=_, _>>_, give, check}
-use Rattle.forms.specs.Read.{key, upon, oneForm, twoForm, threeForm, listForm}
-use Rattle.reading.specs.Limits.{fiveDigits, listOk}
+use Rattle.forms.specs.Read.{upon, oneForm, twoForm, threeForm}
+use Rattle.reading.specs.Limits.{fiveDigits}
+use Rattle.reading.specs.Kinds.{listLine}
 use Rattle.aeolus_model.specs.declared.Step.{Step}
 use Rattle.aeolus_model.specs.Model.{Universe, provision, weak, strong, placeOf}
 use Rattle.aeolus_model.specs.Action.{newVerb, delVerb, changeVerb, bindVerb, unbindVerb}
@@ -38,11 +39,7 @@ interfaceLine u k j =
 
 -- `to=` list of states, in a type of n states
 unfoldable pub toLine : ℕ → Reader ℕ
-toLine n = do
-  key (bytes "to=")
-  l ← listForm fiveDigits
-  check (listOk n (l .top)) beyondLimit
-  give (l .mask)
+toLine n = listLine (bytes "to=") n
 
 -- what follows the map m of a row, in state q of type k: the map, the interface's place, and one more than the number
 unfoldable pub rowPort : Universe → ℕ → ℕ → ℕ → Reader (ℕ × ℕ × ℕ)

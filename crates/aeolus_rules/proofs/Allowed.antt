@@ -1,16 +1,17 @@
 -- What an allowed action tells, and what allows it: each row of checks taken apart, both ways. An action's number is 0 or from 60 to 69.
 -- Assumes nothing.
 use mathlib.Core.Path.{_≡_, refl}
-use mathlib.Core.Logic.{_⊎_, inl, inr, _↔_, _≢_, by-cases}
-use mathlib.Core.Bool.{Bool, true, false, not, cond}
+use mathlib.Core.Logic.{_↔_, _≢_, by-cases}
+use mathlib.Core.Bool.{Bool, true, false, not}
 use Prim.Native.Nat.{ℕ, suc, _≤_, _<_}
 use native.Mathlib.Omega.{arith}
 use native.Mathlib.Decide.{ℕ-discrete}
-use lib.Dec.{T, eqb, ltb, leb, lit≤}
+use lib.Dec.{eqb, ltb}
 use borrow.Author.Tests.{eq-eqb, ne-eqb, eqb-true, ltb-true, lt-ltb}
 use Rattle.sets.specs.Mask.{member}
 use Rattle.rules.specs.Refusal.{_⇒_∣_, orNumber}
 use Rattle.rules.proofs.Allowed.{passes}
+use Rattle.rules.proofs.Numbers.{Among, none, row, or-else as or-number}
 use Rattle.aeolus_model.specs.Model.{Universe, Configuration, provision, weak, strong, kindOf, stateOf, deployed, bound, toOf}
 use Rattle.aeolus_rules.specs.Correct.{holds}
 use Rattle.aeolus_rules.specs.New.{newCheck}
@@ -104,22 +105,8 @@ last-exactly u c = ((λ e. meets (holds u c weak) _ e .0), (λ e. rw e))
 
 -- ---- the numbers
 
-pub record Numbered (n : ℕ) : Type 0 where
-  pub range : (n ≡ 0) ⊎ ((60 ≤ n) × (n ≤ 69))
-
-none : Numbered 0
-none = record { range = inl refl }
-
-row : (b : Bool) (n m : ℕ) → T (leb 60 n) → T (leb n 69) → Numbered m → Numbered (b ⇒ n ∣ m)
-row true n m h g f = record { range = inr (lit≤ h, lit≤ g) }
-row false n m h g f = f
-
-either : (a b : ℕ) → Numbered a → Numbered b → Numbered (orNumber a b)
-either a b f g = go (eqb a 0)
-  where
-    go : (t : Bool) → Numbered (cond t b a)
-    go true = g
-    go false = f
+abbrev pub Numbered : ℕ → Type 0
+Numbered = Among 60 69
 
 ruleset rows = (row, none)
 
@@ -137,4 +124,4 @@ reached-numbered u c = search rows
 
 pub number-numbered : (u : Universe) (c : Configuration) (a : Action) → Numbered (number u c a)
 unfolding number
-number-numbered u c a = either (check u c a) (reachedCheck u (effect u c a)) (check-numbered u c a) (reached-numbered u (effect u c a))
+number-numbered u c a = or-number (check u c a) (reachedCheck u (effect u c a)) (check-numbered u c a) (reached-numbered u (effect u c a))

@@ -10,7 +10,7 @@ use borrow.Author.Tests.{eq-eqb, ne-eqb}
 use Rattle.sets.specs.Test.{tally}
 use Rattle.aeolus_model.specs.Model.{Universe, Configuration}
 use Rattle.aeolus_rules.specs.Correct.{required, provided, asked}
-use Rattle.aeolus_steps.specs.declared.Test.{Test}
+use Rattle.aeolus_steps.specs.declared.correct.Test.{Test}
 use Rattle.aeolus_steps.specs.Tests.{passes}
 
 module _ (u : Universe) (c : Configuration) (z r : ℕ) where

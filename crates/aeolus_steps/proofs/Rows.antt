@@ -1,18 +1,23 @@
 -- Rows of bindings one by one: counted, and freed of a component.
 -- Assumes nothing.
-use mathlib.Core.Path.{_≡_, refl, sym, ap, _∙_}
+use mathlib.Core.Path.{_≡_, refl, sym, ap, ap₂, _∙_}
 use mathlib.Core.Logic.{_≢_, by-cases}
-use mathlib.Core.Bool.{cond}
+use mathlib.Core.Bool.{true, false, cond}
 use mathlib.Core.List.{List, [], _∷_}
-use Prim.Native.Nat.{ℕ, zero, suc, _+_, _/_, _≤_, _<_}
+use Prim.Native.Nat.{ℕ, zero, suc, _+_, _/_, _%_, _^_, _≤_, _<_}
 use native.Mathlib.Omega.{arith}
-use native.Mathlib.Nat.{le-step}
+use native.Mathlib.Nat.{le-step, pow-suc}
 use native.Mathlib.Numerals.{add-one}
 use native.Mathlib.Decide.{ℕ-discrete, decLt}
 use lib.Dec.{eqb}
+use lib.Count.{ones, ones-step}
 use lib.ListN.{length, getD, set, take, length-set}
 use lib.Seq.{take-all, getD-set-same, getD-set-other, ext-getD}
-use Rattle.sets.specs.Mask.{without, only}
+use borrow.Author.Tests.{eq-eqb, ne-eqb}
+use Rattle.sets.specs.Test.{tally}
+use Rattle.sets.specs.Mask.{member, without, only}
+use Rattle.sets.proofs.Laws.{member-zero, member-suc}
+use Rattle.sets.proofs.Tally.{tally-same, tally-first}
 use Rattle.model.proofs.View.{length-list}
 use Rattle.areas.specs.Area.{word}
 use Rattle.aeolus_model.specs.Model.{Configuration}
@@ -27,6 +32,20 @@ unfolding configurationIn
 rows-long ws = length-list 512 (λ k. word ws (64 + k))
 
 -- ---- counted
+
+-- the digits of a set that are 1 are its members
+pub ones-size : (n m : ℕ) → m < 2 ^ n → ones m ≡ tally n (λ y. member y m)
+unfolding tally ones
+ones-size zero m h = let e : m ≡ 0 = omega arith in rw e
+ones-size (suc n) m h =
+    ones-step m ∙ ap₂ _+_ first (ones-size n (m / 2) (omega (arith, pow-suc 2 n)) ∙ tally-same n _ _ (λ i _. sym (member-suc i m)))
+    ∙ sym (tally-first n (λ y. member y m))
+  where
+    first : m % 2 ≡ elim (member 0 m) [ true ↦ 1 | false ↦ 0 ]
+    first =
+        by-cases (ℕ-discrete (m % 2) 1)
+        (λ e. rw (member-zero m, eq-eqb _ 1 e) e)
+        (λ d. rw (member-zero m, ne-eqb _ 1 d) (omega arith))
 
 pub sizes-start : (ms : List ℕ) → 0 ≡ sizes (take 0 ms)
 unfolding sizes

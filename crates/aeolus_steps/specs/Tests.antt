@@ -7,7 +7,7 @@ use lib.ListN.{getD, set}
 use Rattle.sets.specs.Mask.{without, only}
 use Rattle.aeolus_model.specs.Model.{Universe, Configuration}
 use Rattle.aeolus_rules.specs.Correct.{provides, serves, employs}
-use Rattle.aeolus_steps.specs.declared.Test.{Test}
+use Rattle.aeolus_steps.specs.declared.correct.Test.{Test}
 
 unfoldable pub passes : Test → Universe → Configuration → ℕ → ℕ → ℕ → Bool
 passes Test.Provides u c r z y = provides u c r z y

@@ -2,8 +2,12 @@
 -- Assumes nothing.
 use mathlib.Core.Path.{_≡_, sym, ap, _∙_, subst}
 use mathlib.Core.List.{List}
+use mathlib.Core.Logic.{by-cases}
 use Prim.Native.Nat.{ℕ, _+_, _-_, _*_, _≤_, _<_}
 use native.Mathlib.Omega.{arith}
+use native.Mathlib.Decide.{decLt}
+use lib.ListN.{length}
+use lib.Seq.{ext-getD}
 use Rattle.areas.specs.Area.{word, area, rows}
 use Rattle.areas.proofs.Areas.{item-of}
 
@@ -20,3 +24,15 @@ module _ (ws vs : List ℕ) (b n : ℕ) where
       sym (own (λ i. word ws (b + i * n + k)) f l)
       ∙ ap (λ (a : A). pick a f) (item-of n (λ j. h (λ i. word ws (b + i * n + j))) (λ j. h (λ i. word vs (b + i * n + j))) (h (λ _. 0)) e k g)
       ∙ own (λ i. word vs (b + i * n + k)) f l
+
+-- three areas, one after the other
+module _ (ws vs : List ℕ) (b n₁ n₂ n₃ : ℕ) where
+  pub areas-words : area ws b n₁ ≡ area vs b n₁ → area ws (b + n₁) n₂ ≡ area vs (b + n₁) n₂ → area ws (b + n₁ + n₂) n₃ ≡ area vs (b + n₁ + n₂) n₃
+      → (p : ℕ) → b ≤ p → p < b + n₁ + n₂ + n₃ → word ws p ≡ word vs p
+  areas-words e f g p l h =
+      by-cases (decLt p (b + n₁)) (λ x. area-words ws vs b n₁ e p l x) (λ x.
+      by-cases (decLt p (b + n₁ + n₂)) (λ y. area-words ws vs (b + n₁) n₂ f p (omega arith) y) (λ y. area-words ws vs (b + n₁ + n₂) n₃ g p (omega arith) h))
+
+-- as many words, and each of them the same
+pub words-same : (ws vs : List ℕ) (n : ℕ) → length ws ≡ n → length vs ≡ n → ((k : ℕ) → k < n → word ws k ≡ word vs k) → ws ≡ vs
+words-same ws vs n a b e = ext-getD 0 ws vs (a ∙ sym b) (λ k h. e k (rw a at h))

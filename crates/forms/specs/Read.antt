@@ -64,15 +64,19 @@ list d e (c ∷ s) =
       | false ↦ membersFrom d e 0 0 0 0 (c ∷ s)
     ]
 
+-- two of a kind, a comma between them
+abbrev two : {A : Type 0} → (ℕ → ℕ → Reader A) → ℕ → Reader (A × A)
+two m d = do
+  a ← m d (byte ",")
+  b ← m d (byte "\n")
+  give (a, b)
+
 -- what stands between the key and the line's end: one to four numbers; a list; two lists
 unfoldable pub oneForm : ℕ → Reader ℕ
 oneForm d = number d (byte "\n")
 
 unfoldable pub twoForm : ℕ → Reader (ℕ × ℕ)
-twoForm d = do
-  a ← number d (byte ",")
-  b ← number d (byte "\n")
-  give (a, b)
+twoForm d = two number d
 
 unfoldable pub threeForm : ℕ → Reader (ℕ × ℕ × ℕ)
 threeForm d = do
@@ -93,7 +97,4 @@ unfoldable pub listForm : ℕ → Reader Set
 listForm d = list d (byte "\n")
 
 unfoldable pub listsForm : ℕ → Reader (Set × Set)
-listsForm d = do
-  a ← list d (byte ",")
-  b ← list d (byte "\n")
-  give (a, b)
+listsForm d = two list d

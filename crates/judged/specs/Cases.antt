@@ -43,13 +43,22 @@ pub data Expected : Type 0 where
   ends : ℕ → ℕ → Expected
   endsAt : ℕ → ℕ → ℕ → Expected
 
-pub record Case : Type 0 where
+-- two texts, and what they must come to
+pub record CaseOf (E : Type 0) : Type 0 where
   pub sheet : List ℕ
   pub answer : List ℕ
-  pub expected : Expected
+  pub expected : E
 
-abbrev pub case : List ℕ → List ℕ → Expected → Case
+abbrev pub case : {E : Type 0} → List ℕ → List ℕ → E → CaseOf E
 case s a e = record { sheet = s; answer = a; expected = e }
+
+abbrev pub Case : Type 0
+Case = CaseOf Expected
+
+-- each case is met, as `met` says it
+abbrev pub AllMetBy : {E : Type 0} → (List ℕ → List ℕ → E → Type 0) → List (CaseOf E) → Type 0
+AllMetBy met [] = Unit
+AllMetBy met (k ∷ ks) = met (k .sheet) (k .answer) (k .expected) × AllMetBy met ks
 
 abbrev pub wholeReport : List ℕ
 wholeReport = bytes "accepted=13\nrefused=0\nport=-\nnext=5\ninstances=2\ninstance=0,0,1,-,-,-\ninstance=1,1,1,-,-,-\nconnections=1\nconnection=1,0,0,0\n"
@@ -87,5 +96,4 @@ Met s a (ends n k) = Comes s a n k NoPort
 Met s a (endsAt n k q) = Comes s a n k (UsePort q)
 
 abbrev pub AllMet : List Case → Type 0
-AllMet [] = Unit
-AllMet (k ∷ ks) = Met (k .sheet) (k .answer) (k .expected) × AllMet ks
+AllMet ks = AllMetBy Met ks

@@ -13,6 +13,7 @@ use rules::PROVIDER_REFUSING;
 use rules::SERVICE_IN_USE;
 use rules::UNCONNECTED;
 use rules::UNSERVED;
+use rules::refuse_if;
 use words::StateWords;
 use words::TableWords;
 use words::state::kind;
@@ -26,7 +27,6 @@ ghost use mathlib.Core.Path.{_≡_};
 ghost use Prim.Native.Nat.{_<_};
 ghost use Rattle.model.specs.declared.Concerned.the-variants.{NoPort, UsePort};
 ghost use Rattle.model.specs.View.{instance};
-ghost use Rattle.rules.specs.Refusal.{_⇒_∣_};
 ghost use Rattle.words.specs.Words.{tablesIn, stateIn};
 ghost use Rattle.ports.specs.Turns.{useRefusal, portRefusal, firstRefusal, isUnconnected, lowestUnconnected, portsRefusal, turnAnswer};
 
@@ -40,13 +40,6 @@ pub struct Sets {
 pub struct Answered {
     pub refused: u32,
     pub port: Concerned,
-}
-
-// The first test that holds gives its number, else what follows.
-pub fn refuse_if(test: bool, n: u32, rest: u32) -> u32
-    ensures { λ r. ⌜ r ≡ (test ⇒ n ∣ rest) ⌝ }
-{
-    if test { n } else { rest }
 }
 
 // Use port q of instance i is active after the move: one look at its server tells what it gets.

@@ -48,13 +48,17 @@ tranLine n = do
   check (endsOk a b) badClause
   give (a, b)
 
+-- key=list, of numbers below n
+abbrev pub listLine : List ℕ → ℕ → Reader ℕ
+listLine k n = do
+  key k
+  l ← listForm fiveDigits
+  check (listOk n (l .top)) beyondLimit
+  give (l .mask)
+
 -- `behavior=` list of transitions, in a type of k transitions
 unfoldable pub behaviorLine : ℕ → Reader ℕ
-behaviorLine k = do
-  key (bytes "behavior=")
-  l ← listForm fiveDigits
-  check (listOk k (l .top)) beyondLimit
-  give (l .mask)
+behaviorLine k = listLine (bytes "behavior=") k
 
 -- a port's group: its places and transitions, in a type of n places and k transitions
 unfoldable pub group : ℕ → ℕ → Reader (ℕ × ℕ)

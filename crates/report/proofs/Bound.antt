@@ -27,7 +27,7 @@ use Rattle.rules.proofs.Allowed.{present-in}
 use Rattle.rules.proofs.Connections.{count-is}
 use Rattle.rules.proofs.Tables.{Facts, facts}
 use Rattle.report.specs.Report.{countText, portText, instanceText, connectionText, instanceAt, connectionLine, instancesText, reportWith, report}
-use Rattle.report.proofs.Sums.{length-inTurn, sum-le}
+use Rattle.report.proofs.Sums.{turns-le}
 use Rattle.report.proofs.Lines.{lineAt, lines-in-turn}
 use Rattle.report.proofs.Widths.{number-le, places-le, apart-le, queue-le}
 
@@ -61,12 +61,7 @@ module _ (default : ℕ) (t : Tables) (p : Program) (c : Configuration) (f : Fac
 
   instances-le : length (instancesText c) ≤ 5216
   unfolding instancesText instanceAt
-  instances-le =
-      omega (
-        arith,
-        length-inTurn (instanceAt c) 32,
-        sum-le (λ i. length (instanceAt c i)) 163 32 (λ i h. by-test (instance c i .present) (λ e. rw e (instance-le i h e)) (λ e. rw e (omega arith))),
-      )
+  instances-le = turns-le (instanceAt c) 163 32 (λ i h. by-test (instance c i .present) (λ e. rw e (instance-le i h e)) (λ e. rw e (omega arith)))
 
   -- ---- connections
   -- the two numbers that name one end

@@ -25,6 +25,10 @@ unfolding sum
 sum-le f b zero h = omega arith
 sum-le f b (suc n) h = omega (arith, sum-le f b n (λ k l. h k (le-step l)), h n (omega arith))
 
+-- so many lines, each of at most b bytes
+pub turns-le : (f : ℕ → List ℕ) (b n : ℕ) → ((k : ℕ) → k < n → length (f k) ≤ b) → length (inTurn f n) ≤ b * n
+turns-le f b n h = omega (arith, length-inTurn f n, sum-le (λ k. length (f k)) b n h)
+
 pub sum-none : (f : ℕ → ℕ) (n : ℕ) → ((k : ℕ) → k < n → f k ≤ 0) → sum f n ≤ 0
 sum-none f n h = omega (arith, sum-le f 0 n h)
 

@@ -31,23 +31,28 @@ use Rattle.rules.specs.Step.{isNext, action, stepCheckWith, stepCheck, s
 use Rattle.rules.specs.Walk.{oneMore, walk}
 use Rattle.rules.proofs.Walks.{walk-cases}
 
+-- 0, or a number from a to b
+pub record Among (a b n : ℕ) : Type 0 where
+  pub range : (n ≡ 0) ⊎ ((a ≤ n) × (n ≤ b))
+
+module _ {a b : ℕ} where
+  pub none : Among a b 0
+  none = record { range = inl refl }
+
+  pub row : (t : Bool) (n m : ℕ) → T (leb a n) → T (leb n b) → Among a b m → Among a b (t ⇒ n ∣ m)
+  row true n m h g f = record { range = inr (lit≤ h, lit≤ g) }
+  row false n m h g f = f
+
+  pub or-else : (n m : ℕ) → Among a b n → Among a b m → Among a b (orNumber n m)
+  or-else n m f g = go (eqb n 0)
+    where
+      go : (t : Bool) → Among a b (cond t m n)
+      go true = g
+      go false = f
+
 -- 01's numbers of a step
-pub record Numbered (n : ℕ) : Type 0 where
-  pub range : (n ≡ 0) ⊎ ((10 ≤ n) × (n ≤ 38))
-
-none : Numbered 0
-none = record { range = inl refl }
-
-row : (b : Bool) (n m : ℕ) → T (leb 10 n) → T (leb n 38) → Numbered m → Numbered (b ⇒ n ∣ m)
-row true n m h g f = record { range = inr (lit≤ h, lit≤ g) }
-row false n m h g f = f
-
-or-else : (a b : ℕ) → Numbered a → Numbered b → Numbered (orNumber a b)
-or-else a b f g = go (eqb a 0)
-  where
-    go : (t : Bool) → Numbered (cond t b a)
-    go true = g
-    go false = f
+abbrev pub Numbered : ℕ → Type 0
+Numbered = Among 10 38
 
 ruleset rows = (row, or-else, none)
 

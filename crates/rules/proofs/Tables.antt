@@ -69,27 +69,55 @@ port-spared t k q e u =
     let (_, e₃) = both (kindOk (portKind t k q)) e₂ in
     not-true (overlaps (typeOf t k .initial) (groupPlaces t k q)) (rw u at e₃)
 
-type-facts : (t : Tables) (k : ℕ) → typeLawful t k ≡ true → TypeFacts t k
-unfolding typeLawful behaviorLawful
-type-facts t k e =
+-- what a lawful type keeps to, one by one
+pub record Kept (t : Tables) (k : ℕ) : Type 0 where
+  pub places : placesOk (typeOf t k .places) ≡ true
+  pub mask : maskOk (typeOf t k .places) (typeOf t k .initial) ≡ true
+  pub some : initialOk (typeOf t k .initial) ≡ true
+  pub transitions : transitionsOk (typeOf t k .transitions) ≡ true
+  pub behaviors : behaviorsOk (typeOf t k .behaviors) ≡ true
+  pub ports : portsOk (typeOf t k .ports) ≡ true
+  pub transition : (x : ℕ) → x < typeOf t k .transitions → transitionLawful t k x ≡ true
+  pub behavior : (x : ℕ) → x < typeOf t k .behaviors → behaviorLawful t k x ≡ true
+  pub port : (x : ℕ) → x < typeOf t k .ports → portLawful t k x ≡ true
+
+pub kept : (t : Tables) (k : ℕ) → typeLawful t k ≡ true → Kept t k
+unfolding typeLawful
+kept t k e =
     let (places, e₁) = both (placesOk (typeOf t k .places)) e in
-    let (initial, e₂) = both (maskOk (typeOf t k .places) (typeOf t k .initial)) e₁ in
-    let (_, e₃) = both (initialOk (typeOf t k .initial)) e₂ in
+    let (mask, e₂) = both (maskOk (typeOf t k .places) (typeOf t k .initial)) e₁ in
+    let (some, e₃) = both (initialOk (typeOf t k .initial)) e₂ in
     let (transitions, e₄) = both (transitionsOk (typeOf t k .transitions)) e₃ in
     let (ends, e₅) = both (allBelow (typeOf t k .transitions) (transitionLawful t k)) e₄ in
     let (behaviors, e₆) = both (behaviorsOk (typeOf t k .behaviors)) e₅ in
     let (lists, e₇) = both (allBelow (typeOf t k .behaviors) (behaviorLawful t k)) e₆ in
     let (ports, groups) = both (portsOk (typeOf t k .ports)) e₇ in
     record {
-      places = leb-true _ 16 (both (leb 1 (typeOf t k .places)) places .1);
-      transitions = leb-true _ 32 transitions;
-      behaviors = leb-true _ 8 behaviors;
-      ports = leb-true _ 16 ports;
-      initial = λ x q. in-mask (typeOf t k .places) (typeOf t k .initial) x initial q;
-      source-is = λ x h. transition-ends t k x (all-at (typeOf t k .transitions) (transitionLawful t k) ends x h) .0;
-      destination-is = λ x h. transition-ends t k x (all-at (typeOf t k .transitions) (transitionLawful t k) ends x h) .1;
-      behavior = λ b x h q. in-mask (typeOf t k .transitions) (behaviorOf t k b) x (all-at (typeOf t k .behaviors) (behaviorLawful t k) lists b h) q;
-      use-port = λ q h u. port-spared t k q (all-at (typeOf t k .ports) (portLawful t k) groups q h) u;
+      places = places;
+      mask = mask;
+      some = some;
+      transitions = transitions;
+      behaviors = behaviors;
+      ports = ports;
+      transition = all-at (typeOf t k .transitions) (transitionLawful t k) ends;
+      behavior = all-at (typeOf t k .behaviors) (behaviorLawful t k) lists;
+      port = all-at (typeOf t k .ports) (portLawful t k) groups;
+    }
+
+type-facts : (t : Tables) (k : ℕ) → typeLawful t k ≡ true → TypeFacts t k
+unfolding behaviorLawful
+type-facts t k e =
+    let l = kept t k e in
+    record {
+      places = leb-true _ 16 (both (leb 1 (typeOf t k .places)) (l .places) .1);
+      transitions = leb-true _ 32 (l .transitions);
+      behaviors = leb-true _ 8 (l .behaviors);
+      ports = leb-true _ 16 (l .ports);
+      initial = λ x q. in-mask (typeOf t k .places) (typeOf t k .initial) x (l .mask) q;
+      source-is = λ x h. transition-ends t k x (l .transition x h) .0;
+      destination-is = λ x h. transition-ends t k x (l .transition x h) .1;
+      behavior = λ b x h q. in-mask (typeOf t k .transitions) (behaviorOf t k b) x (l .behavior b h) q;
+      use-port = λ q h u. port-spared t k q (l .port q h) u;
     }
 
 add-facts : (n : ℕ) (x : Instruction) (i k : ℕ) → instructionLawful n x ≡ true → instructionAction x ≡ add i k → (i < 32) × (k < n)

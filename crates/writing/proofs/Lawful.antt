@@ -22,6 +22,7 @@ use Rattle.model.specs.Verb.{addVerb, delVerb, pushbVerb, conVerb, dconVerb, wa
 use Rattle.reading.specs.Limits.{depthOk, typesOk, placesOk, transitionsOk, behaviorsOk, portsOk, programOk, maskOk, endOk, endsOk, initialOk, useOk, kindOk, idOk, portOk, typeOk, behaviorOk}
 use Rattle.reading.specs.Lawful.{transitionLawful, behaviorLawful, portLawful, typeLawful, tablesLawful, instructionLawful, programLawful, Lawful}
 use Rattle.rules.specs.Refusal.{_⇒_∣_, orNumber}
+use Rattle.rules.proofs.Tables.{Kept, kept}
 use Rattle.writing.specs.Kinds.{limitFault, initialFault, tranFault, behaviorFault, portFault, doFault}
 use Rattle.writing.specs.Texts.{transitionRow, behaviorRow, portRow, instructionRow, typeFault, sheetText, sheetFault}
 use Rattle.writing.specs.Cleared.{cleared, spoken, clearedProgram}
@@ -36,56 +37,22 @@ limit-none b e = rw e
 
 -- ---- a type
 module _ (t : Tables) (i : ℕ) (law : typeLawful t i ≡ true) where
-  record Kept : Type 0 where
-    places : placesOk (typeOf t i .places) ≡ true
-    mask : maskOk (typeOf t i .places) (typeOf t i .initial) ≡ true
-    some : initialOk (typeOf t i .initial) ≡ true
-    transitions : transitionsOk (typeOf t i .transitions) ≡ true
-    behaviors : behaviorsOk (typeOf t i .behaviors) ≡ true
-    ports : portsOk (typeOf t i .ports) ≡ true
-    transition : (x : ℕ) → x < typeOf t i .transitions → transitionLawful t i x ≡ true
-    behavior : (x : ℕ) → x < typeOf t i .behaviors → behaviorLawful t i x ≡ true
-    port : (x : ℕ) → x < typeOf t i .ports → portLawful t i x ≡ true
-
-  kept : Kept
-  unfolding typeLawful
-  kept =
-      let (places, e₁) = both (placesOk (typeOf t i .places)) law in
-      let (mask, e₂) = both (maskOk (typeOf t i .places) (typeOf t i .initial)) e₁ in
-      let (some, e₃) = both (initialOk (typeOf t i .initial)) e₂ in
-      let (transitions, e₄) = both (transitionsOk (typeOf t i .transitions)) e₃ in
-      let (ends, e₅) = both (allBelow (typeOf t i .transitions) (transitionLawful t i)) e₄ in
-      let (behaviors, e₆) = both (behaviorsOk (typeOf t i .behaviors)) e₅ in
-      let (lists, e₇) = both (allBelow (typeOf t i .behaviors) (behaviorLawful t i)) e₆ in
-      let (ports, groups) = both (portsOk (typeOf t i .ports)) e₇ in
-      record {
-        places = places;
-        mask = mask;
-        some = some;
-        transitions = transitions;
-        behaviors = behaviors;
-        ports = ports;
-        transition = all-at (typeOf t i .transitions) (transitionLawful t i) ends;
-        behavior = all-at (typeOf t i .behaviors) (behaviorLawful t i) lists;
-        port = all-at (typeOf t i .ports) (portLawful t i) groups;
-      }
-
   transition-none : (x : ℕ) → x < typeOf t i .transitions → tranFault (typeOf t i .places) (transitionRow t (i * 32 + x)) ≡ 0
   unfolding tranFault transitionLawful
   transition-none x h =
-      let (a, e₁) = both (endOk (typeOf t i .places) (transitionRow t (i * 32 + x) .0)) (kept .transition x h) in
+      let (a, e₁) = both (endOk (typeOf t i .places) (transitionRow t (i * 32 + x) .0)) (kept t i law .transition x h) in
       let (b, e₂) = both (endOk (typeOf t i .places) (transitionRow t (i * 32 + x) .1)) e₁ in
       rw (a, b, e₂)
 
   behavior-none : (x : ℕ) → x < typeOf t i .behaviors → behaviorFault (typeOf t i .transitions) (behaviorRow t (i * 8 + x)) ≡ 0
   unfolding behaviorFault behaviorLawful
-  behavior-none x h = rw (kept .behavior x h)
+  behavior-none x h = rw (kept t i law .behavior x h)
 
   port-none : (x : ℕ) → x < typeOf t i .ports → portFault (typeOf t i .places) (typeOf t i .transitions) (typeOf t i .initial) (portRow t (i * 16 + x)) ≡ 0
   unfolding portFault portLawful
   port-none x h =
       let y = portRow t (i * 16 + x) in
-      let (a, e₁) = both (maskOk (typeOf t i .places) (portRow t (i * 16 + x) .1)) (kept .port x h) in
+      let (a, e₁) = both (maskOk (typeOf t i .places) (portRow t (i * 16 + x) .1)) (kept t i law .port x h) in
       let (b, e₂) = both (maskOk (typeOf t i .transitions) (portRow t (i * 16 + x) .2)) e₁ in
       let (k, e₃) = both (kindOk (portRow t (i * 16 + x) .0)) e₂ in
       rw (k, a, b) (clause (eqb (portRow t (i * 16 + x) .0) 1) (useOk (typeOf t i .initial) (portRow t (i * 16 + x) .1)) e₃)
@@ -99,14 +66,14 @@ module _ (t : Tables) (i : ℕ) (law : typeLawful t i ≡ true) where
   unfolding typeFault initialFault
   type-none =
       rw (
-        kept .places,
-        kept .mask,
-        kept .some,
-        kept .transitions,
+        kept t i law .places,
+        kept t i law .mask,
+        kept t i law .some,
+        kept t i law .transitions,
         first-none (λ x. tranFault (typeOf t i .places) (transitionRow t (i * 32 + x))) (typeOf t i .transitions) transition-none,
-        kept .behaviors,
+        kept t i law .behaviors,
         first-none (λ x. behaviorFault (typeOf t i .transitions) (behaviorRow t (i * 8 + x))) (typeOf t i .behaviors) behavior-none,
-        kept .ports,
+        kept t i law .ports,
       )
       (first-none (λ x. portFault (typeOf t i .places) (typeOf t i .transitions) (typeOf t i .initial) (portRow t (i * 16 + x))) (typeOf t i .ports) port-none)
 
@@ -185,7 +152,7 @@ module _ (t : Tables) (p : Program) (law : Lawful t p) where
   masked n m l e = lt-of-lt-of-le (ltb-true m (2 ^ n) e) (pow-mono l)
 
   module _ (i : ℕ) (h : i < t .count) where
-    abbrev at : Kept t i (parts .type i h)
+    abbrev at : Kept t i
     at = kept t i (parts .type i h)
 
     places-few : typeOf t i .places ≤ 16

@@ -6,7 +6,5 @@ use Rattle.aeolus_judging.proofs.offending.Tie as tie
 
 pub offending-spec : {M : Type 1} → statement M
 offending-spec =
-    tie.close
-    (tie.spec
-    (λ c κs. search needs) (λ c κs. search needs)
+    tie.close (tie.spec (λ c κs. search needs) (λ c κs. search needs)
     (λ c. part-placed _ _ _ _ _ (c .before .place .ensures) (place-within _ _ _) (c .part-at .ensures)))

@@ -1,15 +1,7 @@
-use mathlib.Core.Path.{sym, _∙_}
+use mathlib.Core.Path.{sym}
 use borrow.Author.Needs.{needs}
 use Rattle.aeolus_model.proofs.may_provide.Statement.{statement}
 use Rattle.aeolus_model.proofs.may_provide.Tie as tie
 
-returns : tie.Need-returns
-returns c =
-    let here = c .before .before in
-    rw (sym (here .before .lists .ensures) ∙ here .if1 .taken, sym (here .before .before .place-of .ensures), sym (c .before .provides-of .ensures)) (c .member .ensures)
-
-returns-2 : tie.Need-returns-2
-returns-2 c = rw (sym (c .before .lists .ensures) ∙ c .if1 .left) (c .if1 .left)
-
 pub may-provide-spec : {M : Type 1} → statement M
-may-provide-spec = tie.close (tie.spec (λ c κs. search needs) (λ c κs. search needs) (λ c κs. search needs) (λ c κs. search needs) returns returns-2)
+may-provide-spec = tie.close (tie.spec (λ c κs. search needs) (λ c κs. search needs) (λ c. rw (sym (c .before .provides-of .ensures)) (c .lists-among .ensures)))

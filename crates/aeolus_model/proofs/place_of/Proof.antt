@@ -18,34 +18,19 @@ abbrev Inv-loop : tie.InvT-loop
 Inv-loop universe k r most j₀ j =
     (most ≡ typeOf (universeIn universe) k .interfaces) × (j ≤ most) × (anyBelow j (λ i. eqb (nameOf (universeIn universe) k i) r) ≡ false)
 
-abbrev μ-loop : tie.MeasureT-loop
-μ-loop universe k r most j₀ j = most - j
-
-loop-holds : tie.Need-loop-holds Inv-loop μ-loop
-loop-holds c = (c .interfaces-of .ensures, omega arith, any-start _)
-
-returns : tie.Need-returns Inv-loop μ-loop
-returns c =
-    let l = c .before .before .before .loop in
-    sym (find-hit _ _ (l .j) (rw (l .inv .0) at (c .before .before .loop-test .taken)) (l .inv .2) (eq-eqb _ _ (sym (c .before .name-of .ensures) ∙ c .if1 .taken)))
-
-add-j : tie.Need-add-j Inv-loop μ-loop
-add-j c = omega arith
-
-loop-less : tie.Need-loop-less Inv-loop μ-loop
-loop-less c = omega arith
-
-loop-again : tie.Need-loop-again Inv-loop μ-loop
-loop-again c =
-    let l = c .before .before .before .loop in
-    (l .inv .0, omega arith, any-more _ _ (l .inv .2) (ne-eqb _ _ (λ e. c .if1 .left (c .before .name-of .ensures ∙ e))))
-
-returns-2 : tie.Need-returns-2 Inv-loop μ-loop
-returns-2 c =
-    let l = c .before .loop in
+pub place-of-spec : {M : Type 1} → statement M
+place-of-spec =
+    tie.close
+    (tie.spec Inv-loop (λ universe k r most j₀ j. most - j)
+    (λ c κs. search needs)
+    (λ c. (c .interfaces-of .ensures, omega arith, any-start _))
+    (λ c κs. search needs)
+    (λ c. let l = c .before .before .before .loop in
+    sym (find-hit _ _ (l .j) (rw (l .inv .0) at (c .before .before .loop-test .taken)) (l .inv .2) (eq-eqb _ _ (sym (c .before .name-of .ensures) ∙ c .if1 .taken))))
+    (λ c. omega arith) (λ c. omega arith)
+    (λ c. let l = c .before .before .before .loop in
+    (l .inv .0, omega arith, any-more _ _ (l .inv .2) (ne-eqb _ _ (λ e. c .if1 .left (c .before .name-of .ensures ∙ e)))))
+    (λ c. let l = c .before .loop in
     let a = c .before .before .before .args in
     let q : l .j ≡ typeOf (universeIn (a .universe .now)) (a .k) .interfaces = omega (arith, l .inv .0) in
-    q ∙ sym (find-none _ _ (rw q at (l .inv .2)))
-
-pub place-of-spec : {M : Type 1} → statement M
-place-of-spec = tie.close (tie.spec Inv-loop μ-loop (λ c κs. search needs) loop-holds (λ c κs. search needs) returns add-j loop-less loop-again returns-2)
+    q ∙ sym (find-none _ _ (rw q at (l .inv .2)))))

@@ -8,9 +8,5 @@ use Rattle.judging.proofs.place.Tie as tie
 
 pub place-spec : {M : Type 1} → statement M
 place-spec =
-    tie.close
-    (tie.spec
-    (λ c κs. search needs) (λ c. search needs)
-    (λ c. sym (length-take-le _ _ (omega arith)))
-    (λ c κs. search needs)
+    tie.close (tie.spec (λ c κs. search needs) (λ c. search needs) (λ c. sym (length-take-le _ _ (omega arith))) (λ c κs. search needs)
     (λ c. places-smaller _ _ _ (c .before .before .judge-and-place .ensures .places .place-is) (length-take-le _ _ (omega arith) ∙ c .before .before .before .before .smaller .ensures .0)))
