@@ -2,8 +2,8 @@
 use Prim.Native.Nat.{ℕ, _≤_}
 use mathlib.Core.List.{List}
 use lib.ListN.{length}
-use Rattle.batch.specs.declared.Header.{Header}
-use Rattle.batch.specs.declared.Flow.{Flow}
+use Rattle.batch.specs.declared.header.Header.{Header}
+use Rattle.batch.specs.declared.flow.Flow.{Flow}
 
 -- a header's lengths, room and own size
 abbrev pub Small : Header → Type 0

@@ -1,174 +1,26 @@
 // For tests: standard input holds cases until it ends, each a line `case SHEETLEN ANSWERLEN ROOM` and the bytes of the two texts, or `plan ..` for two texts of
 // the Aeolus paper. Out goes for each a line `REFUSED ACCEPTED NEXT TEXT LINE WHICH START LEN REPORTLEN` (a plan has no NEXT: 0) and the report.
 // Promised by `judging` and `aeolus_judging`: what each line says, and the report's bytes.
+mod flow;
+mod header;
+
+use flow::Flow;
+use flow::flush;
+use flow::gather;
+use flow::place_for;
+use header::HEADER;
+use header::Header;
+use header::read_header;
 use judged::Place;
 use judged::Verdict;
 use judging::Judged;
-use libc::STDIN_FILENO;
-use libc::STDOUT_FILENO;
 use model::Concerned;
 use model::Text;
-use texts::Digits;
-use texts::Due;
-use texts::Number;
 ghost use Prim.Native.Nat.{_+_, _≤_};
 ghost use mathlib.Core.Path.{_≡_};
 ghost use lib.ListN.{length};
 ghost use Rattle.io.specs.Counts.{Counts};
 ghost use Rattle.batch.specs.Within.{Small, Inside};
-
-// A text is at most LONGEST, a room at most WIDEST; a header line has at most HEADER bytes.
-const LONGEST: u32 = 40000;
-
-const WIDEST: u32 = 16384;
-
-const HEADER: usize = 23;
-
-// Past this place of the output a line and the widest report might lack room.
-const ENOUGH: usize = 49000;
-
-// What a header says, and how many bytes it has itself; 0 where no header stands there. `plan` is whether the texts are the Aeolus paper's.
-struct Header {
-    plan: bool,
-    sheet: usize,
-    answer: usize,
-    room: usize,
-    size: usize,
-}
-
-// The bytes of the input from `at` to `to` are still to be read, and the first `used` of the output still to be written.
-// `ended` is 1 once no case follows, else 0: as wide as the rest, so that no padding is copied for each case.
-struct Flow {
-    at: usize,
-    to: usize,
-    used: usize,
-    ended: usize,
-}
-
-fn no_header() -> Header
-    ensures { λ r. ⌜ Small r ⌝ }
-{
-    Header {
-        plan: false,
-        sheet: 0,
-        answer: 0,
-        room: 0,
-        size: 0,
-    }
-}
-
-fn header_of(plan: bool, sheet: u32, answer: u32, room: u32, size: usize) -> Header
-    ensures { λ r. ⌜ Small r ⌝ }
-{
-    if LONGEST < sheet {
-        return no_header();
-    }
-    if LONGEST < answer {
-        return no_header();
-    }
-    if WIDEST < room {
-        return no_header();
-    }
-    if HEADER < size {
-        return no_header();
-    }
-    Header {
-        plan,
-        sheet: sheet as usize,
-        answer: answer as usize,
-        room: room as usize,
-        size,
-    }
-}
-
-fn read_header(s: &[u8]) -> Header
-    ensures { λ r. ⌜ Small r ⌝ }
-{
-    if let Due::Past(a) = texts::past_key(s, 0, b"case ") {
-        return read_lengths(s, a, false);
-    }
-    if let Due::Past(a) = texts::past_key(s, 0, b"plan ") {
-        return read_lengths(s, a, true);
-    }
-    no_header()
-}
-
-// What follows the word of a header.
-fn read_lengths(s: &[u8], a: usize, plan: bool) -> Header
-    ensures { λ r. ⌜ Small r ⌝ }
-{
-    let Number::Got(sheet, b) = texts::number_then(s, a, b' ', Digits::Five) else {
-        return no_header();
-    };
-    let Number::Got(answer, c) = texts::number_then(s, b, b' ', Digits::Five) else {
-        return no_header();
-    };
-    let Number::Got(room, size) = texts::number_then(s, c, b'\n', Digits::Five) else {
-        return no_header();
-    };
-    header_of(plan, sheet, answer, room, size)
-}
-
-// The bytes from `at` to `to` move to the start.
-fn move_down(input: &mut [u8], at: usize, to: usize)
-    requires { ⌜ (at ≤ to) × (to ≤ length (now input)) ⌝ }
-{
-    let mut from = at;
-    let mut i: usize = 0;
-    while from < to {
-        input[i] = input[from];
-        i += 1;
-        from += 1;
-    }
-}
-
-fn flush(out: &[u8], used: usize) {
-    if used <= out.len() {
-        io::write_all(STDOUT_FILENO, &out[..used]);
-    }
-}
-
-fn read_some(free: &mut [u8]) -> usize
-    ensures { λ r. ⌜ Counts r (now (free .exit)) ⌝ }
-{
-    let got = libc::read(STDIN_FILENO, free);
-    io::count(got, free)
-}
-
-// One read, after what stands in the output is written: whoever feeds the input may wait for it.
-fn refill(input: &mut [u8], out: &[u8], flow: Flow) -> Flow
-    requires { ⌜ Inside flow (now input) ⌝ }
-    ensures { λ r. ⌜ Inside r (now (input .exit)) ⌝ }
-{
-    flush(out, flow.used);
-    let at = flow.at;
-    let to = flow.to;
-    move_down(input, at, to);
-    let kept = to - at;
-    let more = read_some(&mut input[kept..]);
-    Flow {
-        at: 0,
-        to: kept + more,
-        used: 0,
-        ended: 0,
-    }
-}
-
-// At least `need` unread bytes, or all that are left where the input ends before that.
-fn gather(input: &mut [u8], out: &[u8], flow: Flow, need: usize) -> Flow
-    requires { ⌜ Inside flow (now input) ⌝ }
-    ensures { λ r. ⌜ Inside r (now (input .exit)) ⌝ }
-{
-    let mut unread = flow;
-    while unread.to - unread.at < need {
-        let next = refill(input, out, unread);
-        if next.to - next.at <= unread.to - unread.at {
-            return next;
-        }
-        unread = next;
-    }
-    unread
-}
 
 fn write_text(out: &mut [u8], at: usize, text: Text) -> usize {
     match text {
@@ -268,15 +120,6 @@ fn judge_within(
     requires { ⌜ room ≤ length (now report) ⌝ }
 {
     judge_pair(plan, sheet, answer, &mut report[..room], out, used)
-}
-
-// The place in the output from which a line and a report have room.
-fn place_for(out: &[u8], used: usize) -> usize {
-    if used <= ENOUGH {
-        return used;
-    }
-    flush(out, used);
-    0
 }
 
 fn judge_case(

@@ -1,6 +1,8 @@
 // What the programs read, with the reads that failed, and what they tell the script that called them.
 // Promised: a count within the lent buffer, and no more. What a file holds and whether a call succeeds no contract can say.
 use libc::STDERR_FILENO;
+use libc::STDIN_FILENO;
+use libc::STDOUT_FILENO;
 ghost use Rattle.io.specs.Counts.{Counts};
 
 // The descriptor on which a script hears how a program ended, since a program has no exit status.
@@ -47,6 +49,17 @@ pub fn read_text(file: i32, text: &mut [u8]) -> Read
     }
 }
 
+// The answer, from standard input; `unread` says on standard error that it could not be read.
+pub fn read_answer(answer: &mut [u8], unread: &[u8]) -> Read
+    ensures { λ r. ⌜ Counts (r .size) (now (answer .exit)) ⌝ }
+{
+    let read = read_text(STDIN_FILENO, answer);
+    if read.failed {
+        os::fail(unread);
+    }
+    read
+}
+
 // What the script ends with: 0, 3 where something could not be read, or 4 where what was read is refused. A program that could not write all of its report
 // tells nothing.
 pub fn tell_of(unread: bool, refused: bool) {
@@ -59,9 +72,13 @@ pub fn tell_of(unread: bool, refused: bool) {
     }
 }
 
-// The same of a program whose report says what is refused.
-pub fn tell(unread: bool) {
-    tell_of(unread, false);
+// What a program prints, and then that all of it was written, where a script hears: its report says what is refused.
+pub fn finish(out: &[u8], unread: bool) {
+    if io::write_all(STDOUT_FILENO, out) {
+        if 1 < os::arg_count() {
+            tell_of(unread, false);
+        }
+    }
 }
 
 // On standard error: the text that is refused, the line at fault, and the number.

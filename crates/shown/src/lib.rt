@@ -1,11 +1,13 @@
 // What a marker is shown: a candidate's bytes as printable ASCII, every other byte and the backslash as `\xNN` in lower case; and the place of a line.
 // Promised: every byte of the lent buffer, by `shown` and `placeText`. What is shown is always printable, and no two texts look alike (specs/Readable).
-// Beside it stands the path of a text's file, for the programs that show many texts.
+// Beside it stands how the programs that show many texts read each of them.
 use judged::Place;
+use libc::STDOUT_FILENO;
 use model::Text;
 ghost use mathlib.Core.Path.{_≡_};
 ghost use mathlib.Core.List.{_++_};
-ghost use Prim.Native.Nat.{_<_};
+ghost use Prim.Native.Nat.{_<_, min};
+ghost use lib.ListN.{length};
 ghost use Rattle.inks.specs.Written.{Written};
 ghost use Rattle.shown.specs.Shown.{plain, hexDigit, shownByte, shown};
 ghost use Rattle.io.specs.Counts.{Counts};
@@ -91,4 +93,26 @@ pub fn path_of(path: &mut [u8], name: &[u8], ending: &[u8]) -> usize
 {
     let at = inks::write_key(path, 0, name);
     inks::write_key(path, at, ending)
+}
+
+// What stands in the file of a text; a missing one has no descriptor, and a read from none gives no bytes.
+pub fn read_named(name: &[u8], ending: &[u8], text: &mut [u8]) -> usize
+    ensures { λ r. ⌜ Counts r (now (text .exit)) ⌝ }
+{
+    let mut path = [0u8; 80];
+    let size = path_of(&mut path, name, ending);
+    let file = os::open_read(&path[..size]);
+    let n = io::read_full(file, text);
+    libc::close(file);
+    n
+}
+
+// The place on standard output, and how many bytes that took.
+pub fn print_place(place: Place) -> usize
+    ensures { λ r. ⌜ r ≡ min 32 (length (placeText place)) ⌝ }
+{
+    let mut line = [0u8; 32];
+    let used = show_place(place, &mut line);
+    io::write_all(STDOUT_FILENO, &line[..used]);
+    used
 }

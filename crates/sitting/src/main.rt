@@ -221,7 +221,7 @@ fn sit_for_script(block: &mut [u8]) {
     let mut bytes = [0u8; 65536];
     let went = run_names(block, &sheet[..n], &mut name, &mut bytes);
     if print_last(block, went) {
-        files::tell(went.unread);
+        files::tell_of(went.unread, false);
     }
 }
 

@@ -2,8 +2,6 @@
 // `timekeeping::timed_print` says. Promised there: every byte that is printed. Shown here: no index is out of range, and the program ends.
 // Called with an argument, as bin/timing calls it, it tells on descriptor 3 that all was written, and whether the answer was read.
 use judged::LENT_BYTES;
-use libc::STDIN_FILENO;
-use libc::STDOUT_FILENO;
 
 // Each text has room for a byte more than it may have, so that a longer one still gets 1 or 40.
 fn main() {
@@ -13,16 +11,9 @@ fn main() {
     let mut times = [0u8; 32769];
     let k = io::read_full(os::open_read(b"times.txt"), &mut times);
     let mut answer = [0u8; 32769];
-    let read = files::read_text(STDIN_FILENO, &mut answer);
-    if read.failed {
-        os::fail(b"timing: standard input");
-    }
+    let read = files::read_answer(&mut answer, b"timing: standard input");
     let m = read.size;
     let mut out = [0u8; LENT_BYTES];
     let used = timekeeping::timed_print(&sheet[..n], &answer[..m], &times[..k], &mut out);
-    if io::write_all(STDOUT_FILENO, &out[..used]) {
-        if 1 < os::arg_count() {
-            files::tell(read.failed);
-        }
-    }
+    files::finish(&out[..used], read.failed);
 }

@@ -3,8 +3,8 @@ use mathlib.Core.Path.{_≡_}
 use lib.ListN.{length}
 use borrow.Author.Needs.{needs}
 use Rattle.batch.specs.Within.{Inside}
-use Rattle.batch.proofs.gather.Statement.{statement}
-use Rattle.batch.proofs.gather.Tie as tie
+use Rattle.batch.proofs.flow.gather.Statement.{statement}
+use Rattle.batch.proofs.flow.gather.Tie as tie
 
 abbrev Inv-loop : tie.InvT-loop
 Inv-loop input₀ out need unread₀ input unread = Inside unread input × (length input ≡ length input₀)

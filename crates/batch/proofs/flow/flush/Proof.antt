@@ -1,8 +1,8 @@
 use native.Mathlib.Omega.{arith}
 use lib.ListN.{length-take}
 use borrow.Author.Needs.{needs}
-use Rattle.batch.proofs.flush.Statement.{statement}
-use Rattle.batch.proofs.flush.Tie as tie
+use Rattle.batch.proofs.flow.flush.Statement.{statement}
+use Rattle.batch.proofs.flow.flush.Tie as tie
 
 slice-aggregate-write-all : tie.Need-slice-aggregate-write-all
 slice-aggregate-write-all c = simp length-take (omega arith)
