@@ -8,7 +8,7 @@ use native.Mathlib.Omega.{arith}
 use native.Mathlib.Decide.{decLt}
 use lib.ListN.{length}
 use Rattle.areas.specs.Area.{word}
-use Rattle.areas.proofs.Told.{areas-words, words-same, rows-words}
+use Rattle.areas.proofs.Told.{areas-words, words-same, rows-told}
 use Rattle.aeolus_model.specs.declared.Step.{Step}
 use Rattle.aeolus_model.specs.Model.{ResourceType, Universe, Configuration}
 use Rattle.aeolus_model.specs.Action.{Plan}
@@ -53,9 +53,7 @@ module _ (ws vs : List ℕ) where
   universe-words a b e =
       words-same ws vs 12881 a b (λ n h.
       by-cases (decLt n 80)
-      (λ l.
-      subst Same (let s : 0 + n / 16 * 16 + n % 16 ≡ n = omega arith in s)
-      (rows-words ws vs 0 16 typeFrom 5 typeField type-field (ap (λ (u : Universe). u .types) e) (n / 16) (n % 16) (omega arith) (omega arith)))
+      (rows-told ws vs 16 (omega arith) typeFrom 5 typeField type-field (ap (λ (u : Universe). u .types) e) n)
       (λ l.
       by-cases (decLt n 12880)
       (areas-words ws vs 80 256 256 12288 (ap (λ (u : Universe). u .names) e) (ap (λ (u : Universe). u .to) e) (ap (λ (u : Universe). u .numbers) e) n (omega arith))
@@ -66,9 +64,7 @@ module _ (ws vs : List ℕ) where
   plan-words a b e =
       words-same ws vs 4097 a b (λ n h.
       by-cases (decLt n 4096)
-      (λ l.
-      subst Same (let s : 0 + n / 1024 * 1024 + n % 1024 ≡ n = omega arith in s)
-      (rows-words ws vs 0 1024 stepFrom 4 stepField step-field (ap (λ (p : Plan). p .steps) e) (n / 1024) (n % 1024) (omega arith) (omega arith)))
+      (rows-told ws vs 1024 (omega arith) stepFrom 4 stepField step-field (ap (λ (p : Plan). p .steps) e) n)
       (λ l. subst Same (let s : 4096 ≡ n = omega arith in s) (ap (λ (p : Plan). p .count) e)))
 
   pub configuration-words : length ws ≡ 577 → length vs ≡ 577 → configurationIn ws ≡ configurationIn vs → ws ≡ vs

@@ -76,11 +76,14 @@ abbrev pub lists : Universe → ℕ → ℕ → Bool
 lists u k r = anyBelow (typeOf u k .interfaces) (λ j. eqb (nameOf u k j) r)
 
 -- r is among the interfaces that type k may provide, or require
+abbrev pub listsAmong : Universe → ℕ → ℕ → ℕ → Bool
+listsAmong u k r m = lists u k r && member (placeOf u k r) m
+
 abbrev pub mayProvide : Universe → ℕ → ℕ → Bool
-mayProvide u k r = lists u k r && member (placeOf u k r) (typeOf u k .provides)
+mayProvide u k r = listsAmong u k r (typeOf u k .provides)
 
 abbrev pub mayRequire : Universe → ℕ → ℕ → Bool
-mayRequire u k r = lists u k r && member (placeOf u k r) (typeOf u k .requires)
+mayRequire u k r = listsAmong u k r (typeOf u k .requires)
 
 -- where the number of interface j in the map m of state q of type k stands
 abbrev pub numberPlace : ℕ → ℕ → ℕ → ℕ → ℕ

@@ -4,10 +4,8 @@ use areas::in_area;
 use areas::put_in_area;
 use areas::put_word;
 ghost use mathlib.Core.Path.{_≡_};
-ghost use mathlib.Core.Bool.{_&&_};
 ghost use lib.ListN.{getD};
-ghost use Rattle.sets.specs.Mask.{member};
-ghost use Rattle.aeolus_model.specs.Model.{noUniverse, nothing, typeOf, nameOf, toOf, placeOf, lists, mayProvide, mayRequire, numberPlace, numberAt, kindOf, stateOf, boundAt};
+ghost use Rattle.aeolus_model.specs.Model.{noUniverse, nothing, typeOf, nameOf, toOf, placeOf, lists, listsAmong, mayProvide, mayRequire, numberPlace, numberAt, kindOf, stateOf, boundAt};
 ghost use Rattle.aeolus_model.specs.Model.{withCount, withStates, withInitial, withInterfaces, withProvides, withRequires, withName, withTo, withNumber};
 ghost use Rattle.aeolus_model.specs.Model.{withPresent, withKind, withState, withBound};
 ghost use Rattle.aeolus_model.specs.Action.{noPlan, stepOf, withStep, withSteps};
@@ -115,7 +113,7 @@ pub fn lists(universe: &Universe, k: u32, r: u32) -> bool
 
 // The same, where the place is of a set.
 fn lists_among(universe: &Universe, k: u32, r: u32, m: u32) -> bool
-    ensures { λ b. ⌜ b ≡ (lists (universeIn (now (universe .entry))) k r && member (placeOf (universeIn (now (universe .entry))) k r) m) ⌝ }
+    ensures { λ b. ⌜ b ≡ listsAmong (universeIn (now (universe .entry))) k r m ⌝ }
 {
     let place = place_of(universe, k, r);
     lists(universe, k, r) && sets::member(m, place)

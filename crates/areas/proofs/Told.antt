@@ -3,7 +3,8 @@
 use mathlib.Core.Path.{_≡_, sym, ap, _∙_, subst}
 use mathlib.Core.List.{List}
 use mathlib.Core.Logic.{by-cases}
-use Prim.Native.Nat.{ℕ, _+_, _-_, _*_, _≤_, _<_}
+use Prim.Native.Nat.{ℕ, _+_, _-_, _*_, _/_, _%_, _≤_, _<_}
+use native.Mathlib.Nat.{zero-add, mod-lt, div-lt-iff-lt-mul, div-add-mod'}
 use native.Mathlib.Omega.{arith}
 use native.Mathlib.Decide.{decLt}
 use lib.ListN.{length}
@@ -24,6 +25,14 @@ module _ (ws vs : List ℕ) (b n : ℕ) where
       sym (own (λ i. word ws (b + i * n + k)) f l)
       ∙ ap (λ (a : A). pick a f) (item-of n (λ j. h (λ i. word ws (b + i * n + j))) (λ j. h (λ i. word vs (b + i * n + j))) (h (λ _. 0)) e k g)
       ∙ own (λ i. word vs (b + i * n + k)) f l
+
+-- all of their words, where they stand from the start on
+module _ (ws vs : List ℕ) (n : ℕ) (some : 0 < n) where
+  pub rows-told : {A : Type 0} (h : (ℕ → ℕ) → A) (w : ℕ) (pick : A → ℕ → ℕ) → ((φ : ℕ → ℕ) (f : ℕ) → f < w → pick (h φ) f ≡ φ f)
+      → rows ws 0 n h ≡ rows vs 0 n h → (p : ℕ) → p < w * n → word ws p ≡ word vs p
+  rows-told h w pick own e p l =
+      subst (λ (x : ℕ). word ws x ≡ word vs x) (ap (λ (x : ℕ). x + p % n) (zero-add (p / n * n)) ∙ div-add-mod' p n)
+      (rows-words ws vs 0 n h w pick own e (p / n) (p % n) (div-lt-iff-lt-mul some .1 l) (mod-lt p some))
 
 -- three areas, one after the other
 module _ (ws vs : List ℕ) (b n₁ n₂ n₃ : ℕ) where
