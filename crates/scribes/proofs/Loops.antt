@@ -2,62 +2,61 @@
 -- Assumes nothing.
 use Prim.Native.Nat.{ℕ, zero, suc, _+_, _≤_, _<_}
 use mathlib.Core.List.{List}
-use mathlib.Core.Bool.{Bool, true, false}
-use mathlib.Core.Path.{_≡_, refl, sym, ap, subst, _∙_}
-use mathlib.Core.Logic.{_≢_, ⊎-elim}
+use mathlib.Core.Bool.{true, false, _&&_}
+use mathlib.Core.Path.{_≡_, refl, sym, ap, _∙_}
+use mathlib.Core.Logic.{by-cases}
 use native.Mathlib.Omega.{arith}
 use native.Mathlib.Numerals.{add-one}
-use lib.Dec.{eqb}
+use native.Mathlib.Decide.{decLt}
+use lib.Dec.{eqb, ltb}
 use lib.ListN.{length}
-use borrow.Author.Tests.{eq-eqb, ne-eqb}
-use Rattle.sets.proofs.Laws.{below-cases}
+use borrow.Author.Tests.{eqb-true, eqb-false, ltb-true, ltb-false}
+use Rattle.forms.proofs.Tests.{by-test, and-left, and-right}
 use Rattle.forms.specs.Write.{inTurn}
 use Rattle.rules.specs.Refusal.{orNumber}
 use Rattle.inks.specs.Written.{Written}
 use Rattle.inks.proofs.Laws.{none, next, free, back, length-written}
-use Rattle.writing.specs.Kinds.{limitFault}
 use Rattle.writing.specs.Texts.{firstOf}
-use Rattle.writing.proofs.Turns.{or-zero, or-some}
+use Rattle.writing.proofs.Turns.{or-zero, or-some, or-assoc}
 
--- ---- numbers: none of the first x of n has one
-pub record Passed (f : ℕ → ℕ) (n x : ℕ) : Type 0 where
-  pub up : x ≤ n
-  pub none : firstOf f x ≡ 0
+-- ---- numbers: n is the first of a and of the numbers of x lines, of m in all; a loop goes on while there is none
+pub record Found (a : ℕ) (f : ℕ → ℕ) (m x n : ℕ) : Type 0 where
+  pub up : x ≤ m
+  pub first : n ≡ orNumber a (firstOf f x)
 
-module _ (f : ℕ → ℕ) (n : ℕ) where
-  pub none-yet : Passed f n 0
+or-none : (a : ℕ) → orNumber a 0 ≡ a
+or-none a = by-test (eqb a 0) (λ z. or-zero a 0 (eqb-true a 0 z) ∙ sym (eqb-true a 0 z)) (λ z. or-some a 0 (eqb-false a 0 z))
+
+pub going : (m x n : ℕ) → eqb n 0 && ltb x m ≡ true → x < m
+going m x n e = ltb-true x m (and-right (eqb n 0) (ltb x m) e)
+
+module _ (a : ℕ) (f : ℕ → ℕ) (m : ℕ) where
+  pub found-none : (n : ℕ) → n ≡ a → Found a f m 0 n
   unfolding firstOf
-  none-yet = record { up = omega arith; none = refl }
+  found-none n e = record { up = omega arith; first = e ∙ sym (or-none a) }
 
-  pub one-more : (x k : ℕ) → x < n → k ≡ f x → k ≡ 0 → Passed f n x → Passed f n (x + 1)
+  -- one line more comes after what was found
+  further : (x : ℕ) → orNumber a (firstOf f (suc x)) ≡ orNumber (orNumber a (firstOf f x)) (f x)
   unfolding firstOf
-  one-more x k l e z p = record { up = omega arith; none = rw (add-one x) (or-zero (firstOf f x) (f x) (p .none) ∙ sym e ∙ z) }
+  further x = or-assoc a (firstOf f x) (f x)
 
-  pub all-passed : (x : ℕ) → Passed f n x → n ≤ x → 0 ≡ firstOf f n
-  all-passed x p l = let e : n ≡ x = omega (arith, p .up) in rw e (sym (p .none))
+  pub found-more : (x n k : ℕ) → Found a f m x n → eqb n 0 && ltb x m ≡ true → k ≡ f x → Found a f m (x + 1) k
+  found-more x n k h t e =
+      let z = eqb-true n 0 (and-left (eqb n 0) (ltb x m) t) in
+      record { up = omega (arith, going m x n t); first = rw (add-one x) (e ∙ sym (or-zero n (f x) z) ∙ ap (λ (i : ℕ). orNumber i (f x)) (h .first) ∙ sym (further x)) }
 
--- the first that has one gives it
-pub first-found : (f : ℕ → ℕ) (n x k : ℕ) → x < n → k ≡ f x → k ≢ 0 → Passed f n x → k ≡ firstOf f n
-unfolding firstOf
-first-found f n x k l e z p = e ∙ sym (go n l)
-  where
-    found : orNumber (firstOf f x) (f x) ≡ f x
-    found = or-zero (firstOf f x) (f x) (p .none)
-
-    go : (m : ℕ) → x < m → firstOf f m ≡ f x
-    go zero h = absurd (omega arith)
-    go (suc m) h = ⊎-elim (λ q. subst (λ (i : ℕ). orNumber (firstOf f i) (f i) ≡ f x) q found) (λ h. ap (λ (i : ℕ). orNumber i (f m)) (go m h) ∙ or-some (f x) (f m) (λ q. z (e ∙ q))) (below-cases h)
-
--- the line of a count comes before the lines that it counts; the code has the count as c, the definition as m
-module _ (ok : ℕ → Bool) (f : ℕ → ℕ) (n m c : ℕ) (same : c ≡ m) (line : n ≡ limitFault (ok c)) where
-  is-limit : n ≡ limitFault (ok m)
-  is-limit = line ∙ ap (λ (k : ℕ). limitFault (ok k)) same
-
-  pub limited : n ≢ 0 → n ≡ orNumber (limitFault (ok m)) (firstOf f m)
-  limited z = is-limit ∙ sym (or-some (limitFault (ok m)) (firstOf f m) (λ q. z (is-limit ∙ q)))
-
-  pub unlimited : n ≡ 0 → (r : ℕ) → r ≡ firstOf f c → r ≡ orNumber (limitFault (ok m)) (firstOf f m)
-  unlimited z r q = q ∙ ap (firstOf f) same ∙ sym (or-zero (limitFault (ok m)) (firstOf f m) (sym is-limit ∙ z))
+  pub found-all : (x n : ℕ) → Found a f m x n → eqb n 0 && ltb x m ≡ false → n ≡ orNumber a (firstOf f m)
+  found-all x n h t =
+      by-test (eqb n 0)
+      (λ z. let e : x ≡ m = omega (arith, h .up, ltb-false x m (rw z at t)) in rw e at (h .first))
+      (λ z. sym (stays z m (h .up)))
+    where
+      stays : eqb n 0 ≡ false → (k : ℕ) → x ≤ k → orNumber a (firstOf f k) ≡ n
+      stays z zero l = let e : x ≡ 0 = omega arith in rw e at (sym (h .first))
+      stays z (suc k) l =
+          by-cases (decLt k x)
+          (λ u. let e : x ≡ suc k = omega arith in rw e at (sym (h .first)))
+          (λ u. further k ∙ ap (λ (i : ℕ). orNumber i (f k)) (stays z k (omega arith)) ∙ or-some n (f k) (eqb-false n 0 z))
 
 -- ---- texts: the first k of n are written
 pub record Turns (f : ℕ → List ℕ) (n k : ℕ) (old new : List ℕ) (used : ℕ) : Type 0 where

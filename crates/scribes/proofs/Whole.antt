@@ -1,15 +1,15 @@
 -- The parts joined are the texts and the numbers of writing/specs, and a text is measured before it is written.
 -- Assumes nothing.
-use Prim.Native.Nat.{ℕ, _-_, _≤_, _<_, min}
-use mathlib.Core.List.{List, [], _++_, append-assoc}
+use Prim.Native.Nat.{ℕ, _≤_, min}
+use mathlib.Core.List.{List, _++_, append-assoc}
 use mathlib.Core.Bool.{Bool, true, false, not}
-use mathlib.Core.Path.{_≡_, refl, sym, ap, ap₂, _∙_}
+use mathlib.Core.Path.{_≡_, refl, sym, ap, _∙_}
 use mathlib.Core.Logic.{_≢_}
 use native.Mathlib.Omega.{arith}
 use lib.Dec.{eqb, leb}
 use lib.ListN.{length, take, drop}
-use lib.Seq.{take-at, drop-at, take-all}
-use borrow.Author.Tests.{le-leb, lt-leb, leb-true, leb-false, eq-eqb, ne-eqb}
+use lib.Seq.{take-at, drop-at}
+use borrow.Author.Tests.{lt-leb, leb-true, leb-false, eqb-false, eq-eqb, ne-eqb}
 use Rattle.forms.specs.Reader.{bytes}
 use Rattle.forms.proofs.Tests.{by-test}
 use Rattle.model.specs.declared.Tables.{Tables}
@@ -64,58 +64,58 @@ measured w l r e =
     by-test (leb l 32768) (λ h. let q : w ≡ l = omega (arith, leb-true l 32768 h) in rw q)
     (λ h. let q : w ≡ 32769 = omega (arith, leb-false l 32768 h) in rw (h, lt-leb w 32768 (omega arith)))
 
--- refused before anything is measured
-pub at-fault : (n k : ℕ) (x old : List ℕ) → k ≡ n → k ≢ 0 → Penned n x old old k 0
-unfolding writeNumber penned
-at-fault n k x old e z =
-    let some = ne-eqb n 0 (λ q. z (e ∙ q)) in
-    record { refused-is = rw some e; written-is = rw (some, some); new-is = rw (some, some) }
+pub fault-number : (n k r : ℕ) (x : List ℕ) → k ≡ n → k ≢ 0 → k ≡ writeNumber n x r
+unfolding writeNumber
+fault-number n k r x e z = e ∙ rw (ne-eqb n 0 (λ q. z (e ∙ q)))
 
-module _ (n k w r : ℕ) (x old : List ℕ) (none : k ≡ n) (zero : k ≡ 0) (long : w ≡ min 32769 (length x)) (is : r ≡ room w (length old)) where
-  number-is : r ≡ writeNumber n x (length old)
-  unfolding writeNumber
-  number-is = is ∙ measured w (length x) (length old) long ∙ rw (eq-eqb n 0 (sym none ∙ zero))
+pub room-number : (n k w v r : ℕ) (x : List ℕ) → k ≡ n → k ≡ 0 → w ≡ min 32769 (length x) → v ≡ room w r → v ≡ writeNumber n x r
+unfolding writeNumber
+room-number n k w v r x none zero long is = is ∙ measured w (length x) r long ∙ rw (eq-eqb n 0 (sym none ∙ zero))
 
-  -- too long, or no room
-  pub no-room : r ≢ 0 → Penned n x old old r 0
+module _ (n r : ℕ) (x old : List ℕ) (number : r ≡ writeNumber n x (length old)) where
+  -- nothing is written beside a number
+  pub refused-all : r ≢ 0 → Penned n x old old r 0
   unfolding penned
-  no-room z =
-      let some = ne-eqb (writeNumber n x (length old)) 0 (λ q. z (number-is ∙ q)) in
-      record { refused-is = number-is; written-is = rw some; new-is = rw some }
+  refused-all z =
+      let some = ne-eqb (writeNumber n x (length old)) 0 (λ q. z (number ∙ q)) in
+      record { refused-is = number; written-is = rw some; new-is = rw some }
 
-  room-fits : r ≡ 0 → length x ≤ length old
-  room-fits z = fit (lengthOk (length x)) (leb (length x) (length old)) refl (sym (measured w (length x) (length old) long) ∙ sym is ∙ z)
+  has-room : r ≡ 0 → length x ≤ length old
+  unfolding writeNumber
+  has-room z = fit (eqb n 0) (lengthOk (length x)) (leb (length x) (length old)) refl refl (sym number ∙ z)
     where
-      fit : (p q : Bool) → leb (length x) (length old) ≡ q → (not p ⇒ 1 ∣ not q ⇒ 6 ∣ 0) ≡ 0 → length x ≤ length old
-      fit true true e h = leb-true (length x) (length old) e
-      fit true false e h = absurd (omega arith)
-      fit false q e h = absurd (omega arith)
+      fit : (f p q : Bool) → eqb n 0 ≡ f → leb (length x) (length old) ≡ q → (not f ⇒ n ∣ not p ⇒ 1 ∣ not q ⇒ 6 ∣ 0) ≡ 0 → length x ≤ length old
+      fit true true true d e h = leb-true (length x) (length old) e
+      fit true true false d e h = absurd (omega arith)
+      fit true false q d e h = absurd (omega arith)
+      fit false p q d e h = absurd (eqb-false n 0 d h)
 
   -- all has room
-  pub all-room : r ≡ 0 → (new : List ℕ) (b : ℕ) → Written old x new 0 b → Penned n x old new 0 b
+  pub written-all : r ≡ 0 → {new : List ℕ} {b : ℕ} → Written old x new 0 b → Penned n x old new 0 b
   unfolding penned
-  all-room z new b v =
-      let nought = eq-eqb (writeNumber n x (length old)) 0 (sym number-is ∙ z) in
-      let (all, bytes) = fits-all v (room-fits z) in
-      record { refused-is = sym z ∙ number-is; written-is = rw nought all; new-is = rw (nought, all) bytes }
+  written-all z v =
+      let nought = eq-eqb (writeNumber n x (length old)) 0 (sym number ∙ z) in
+      let (all, bytes) = fits-all v (has-room z) in
+      record { refused-is = sym z ∙ number; written-is = rw nought all; new-is = rw (nought, all) bytes }
 
--- all the bytes of y, and the buffer's own after them
-all-fit : (y old new : List ℕ) (b : ℕ) → length y ≤ length old → b ≡ length y → new ≡ y ++ drop (length y) old → Written old y new 0 b
-all-fit y old new b l e q = record { to-is = omega arith; new-is = q ∙ rw (e, take-all (length old - 0) y (omega arith)) }
+-- ---- a form: lines that were written become cells
+module _ (n r : ℕ) (x : List ℕ) where
+  cells-number : writeNumber n x r ≡ writeNumber n (cellsOf x) r
+  unfolding writeNumber
+  cells-number = rw (cells-length x)
 
--- ---- a form: its lines are measured and written, and then they become cells
-module _ (n k w r : ℕ) (x old : List ℕ) (none : k ≡ n) (zero : k ≡ 0) (long : w ≡ min 32769 (length x)) (is : r ≡ room w (length old)) where
-  cells-measured : w ≡ min 32769 (length (cellsOf x))
-  cells-measured = rw (cells-length x) long
+  cells-penned : cellsOf (penned n x r) ≡ penned n (cellsOf x) r
+  unfolding penned cellsOf
+  cells-penned = rw (← cells-number) (by-test (eqb (writeNumber n x r) 0) (λ e. rw e) (λ e. rw e))
 
-  pub no-room-for-cells : r ≢ 0 → Penned n (cellsOf x) old old r 0
-  no-room-for-cells = no-room n k w r (cellsOf x) old none zero cells-measured is
-
-  pub all-cells : r ≡ 0 → (mid new : List ℕ) (b : ℕ) → Written old x mid 0 b → new ≡ cellsOf (take b mid) ++ drop b mid → Penned n (cellsOf x) old new 0 b
-  all-cells z mid new b v q =
-      let fit = room-fits n k w r x old none zero long is z in
-      let (all, bytes) = fits-all v fit in
-      let front : take b mid ≡ x = ap₂ (λ (i : ℕ) (l : List ℕ). take i l) all bytes ∙ take-at x (drop (length x) old) (length x) refl in
-      let rest : drop b mid ≡ drop (length x) old = ap₂ (λ (i : ℕ) (l : List ℕ). drop i l) all bytes ∙ drop-at x (drop (length x) old) (length x) refl in
-      all-room n k w r (cellsOf x) old none zero cells-measured is z new b
-      (all-fit (cellsOf x) old new b (omega (arith, cells-length x)) (all ∙ sym (cells-length x)) (q ∙ rw (front, rest, cells-length x)))
+pub in-cells : {n r b : ℕ} {x old mid new : List ℕ} → Penned n x old mid r b → new ≡ cellsOf (take b mid) ++ drop b mid → Penned n (cellsOf x) old new r b
+in-cells {n} {r} {b} {x} {old} {mid} {new} p q =
+    let y = penned n x (length old) in
+    let front : take b mid ≡ y = ap (take b) (p .new-is) ∙ take-at y (drop b old) b (sym (p .written-is)) in
+    let rest : drop b mid ≡ drop b old = ap (drop b) (p .new-is) ∙ drop-at y (drop b old) b (sym (p .written-is)) in
+    let same = cells-penned n (length old) x in
+    record {
+      refused-is = p .refused-is ∙ cells-number n (length old) x;
+      written-is = p .written-is ∙ sym (cells-length y) ∙ ap length same;
+      new-is = q ∙ rw (front, rest, same);
+    }

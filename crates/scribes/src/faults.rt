@@ -1,11 +1,11 @@
 // The number of the first line at fault, 0 where there is none. Rows are looked at only where their count is within its limit.
 use crate::rows::count_of;
 use crate::rows::row_at;
-use sheet_inks::faults::do_fault;
 use sheet_inks::faults::initial_fault;
 use sheet_inks::faults::limit_fault;
 use sheet_inks::faults::row_fault;
-use sheet_inks::faults::step_fault;
+use sheet_inks::verbs::do_fault;
+use sheet_inks::verbs::step_fault;
 use sheet_lines::Known;
 use sheet_lines::Rows;
 use words::AnswerWords;
@@ -32,7 +32,7 @@ ghost use Rattle.words.specs.Words.{tablesIn, programIn, answerIn};
 ghost use Rattle.model.specs.View.{typeOf};
 ghost use Rattle.writing.specs.Kinds.{doFault, stepFault};
 ghost use Rattle.writing.specs.Texts.{instructionRow, stepRow, typeFault, sheetFault, answerFault};
-ghost use Rattle.scribes.specs.Parts.{knownOf, rowsFault, kindFault, headFault, typesFault, programFault, countOk};
+ghost use Rattle.scribes.specs.Parts.{knownOf, kindFault, headFault, typesFault, programFault, countOk};
 
 // The number a, or b where a is none.
 fn or_number(a: u8, b: u8) -> u8
@@ -54,21 +54,6 @@ fn known_of(tables: &TableWords, i: u32) -> Known
     }
 }
 
-// Of so many rows of type i.
-fn rows_fault(tables: &TableWords, rows: Rows, i: u32, known: Known, count: u32) -> u8
-    ensures { λ r. ⌜ r ≡ rowsFault rows (tablesIn (now (tables .entry))) i known count ⌝ }
-{
-    let mut x: u32 = 0;
-    while x < count {
-        let n = row_fault(rows, known, row_at(tables, rows, i, x));
-        if n != 0 {
-            return n;
-        }
-        x += 1;
-    }
-    0
-}
-
 fn count_ok(rows: Rows, n: u32) -> bool
     ensures { λ r. ⌜ r ≡ countOk rows n ⌝ }
 {
@@ -79,16 +64,19 @@ fn count_ok(rows: Rows, n: u32) -> bool
     }
 }
 
-// Of the rows of a kind and the line of their count.
+// Of the line of a count and the rows of that kind, up to the first that has one.
 fn kind_fault(tables: &TableWords, rows: Rows, i: u32) -> u8
     ensures { λ r. ⌜ r ≡ kindFault rows (tablesIn (now (tables .entry))) i ⌝ }
 {
     let count = count_of(tables, rows, i);
-    let most = limit_fault(count_ok(rows, count));
-    if most != 0 {
-        return most;
+    let known = known_of(tables, i);
+    let mut n = limit_fault(count_ok(rows, count));
+    let mut x: u32 = 0;
+    while (n == 0) & (x < count) {
+        n = row_fault(rows, known, row_at(tables, rows, i, x));
+        x += 1;
     }
-    rows_fault(tables, rows, i, known_of(tables, i), count)
+    n
 }
 
 fn head_fault(tables: &TableWords, i: u32) -> u8
@@ -113,19 +101,13 @@ fn types_fault(tables: &TableWords) -> u8
     ensures { λ r. ⌜ r ≡ typesFault (tablesIn (now (tables .entry))) ⌝ }
 {
     let count = types(tables);
-    let most = limit_fault((1 <= count) & (count <= 16));
-    if most != 0 {
-        return most;
-    }
+    let mut n = limit_fault((1 <= count) & (count <= 16));
     let mut i: u32 = 0;
-    while i < count {
-        let n = type_fault(tables, i);
-        if n != 0 {
-            return n;
-        }
+    while (n == 0) & (i < count) {
+        n = type_fault(tables, i);
         i += 1;
     }
-    0
+    n
 }
 
 fn instruction_fault(types: u32, program: &ProgramWords, j: u32) -> u8
@@ -143,19 +125,13 @@ fn program_fault(types: u32, program: &ProgramWords) -> u8
     ensures { λ r. ⌜ r ≡ programFault types (programIn (now (program .entry))) ⌝ }
 {
     let count = instructions(program);
-    let most = limit_fault(count <= 256);
-    if most != 0 {
-        return most;
-    }
+    let mut n = limit_fault(count <= 256);
     let mut j: u32 = 0;
-    while j < count {
-        let n = instruction_fault(types, program, j);
-        if n != 0 {
-            return n;
-        }
+    while (n == 0) & (j < count) {
+        n = instruction_fault(types, program, j);
         j += 1;
     }
-    0
+    n
 }
 
 pub(crate) fn sheet_fault(tables: &TableWords, program: &ProgramWords) -> u8
@@ -180,17 +156,11 @@ pub(crate) fn answer_fault(answer: &AnswerWords) -> u8
     ensures { λ r. ⌜ r ≡ answerFault (answerIn (now (answer .entry))) ⌝ }
 {
     let count = steps(answer);
-    let most = limit_fault(count <= 1024);
-    if most != 0 {
-        return most;
-    }
+    let mut n = limit_fault(count <= 1024);
     let mut j: u32 = 0;
-    while j < count {
-        let n = step_fault_at(answer, j);
-        if n != 0 {
-            return n;
-        }
+    while (n == 0) & (j < count) {
+        n = step_fault_at(answer, j);
         j += 1;
     }
-    0
+    n
 }

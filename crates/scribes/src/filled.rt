@@ -1,6 +1,9 @@
 // Tables and a program as the lines of a form, each written into the part of the buffer that is still free.
+use crate::lines_of::Layout;
+use crate::lines_of::put_each_type;
 use crate::lines_of::put_instructions;
 use crate::lines_of::put_rows;
+use crate::lines_of::put_sheet;
 use crate::rows::count_of;
 use sheet_inks::write_initial;
 use sheet_inks::write_one;
@@ -13,10 +16,10 @@ use words::tables::initial_of;
 use words::tables::places_of;
 use words::tables::types;
 ghost use mathlib.Core.List.{_++_};
-ghost use Rattle.forms.specs.Write.{inTurn};
 ghost use Rattle.inks.specs.Written.{Written};
 ghost use Rattle.words.specs.Words.{tablesIn, programIn};
 ghost use Rattle.scribes.specs.Form.{typeLinesText, typeRowsText, formLines};
+ghost use Rattle.scribes.specs.Layouts.{textAs};
 
 // type=, initial=
 fn put_type_lines(t: &mut [u8], tables: &TableWords, i: u32) -> usize
@@ -40,7 +43,7 @@ fn put_type_rows(t: &mut [u8], tables: &TableWords, i: u32) -> usize
     used + put_rows(&mut t[used..], tables, Rows::Ports, i, groups)
 }
 
-fn put_form_type(t: &mut [u8], tables: &TableWords, i: u32) -> usize
+pub(crate) fn put_form_type(t: &mut [u8], tables: &TableWords, i: u32) -> usize
     ensures { λ r. ⌜ Written (now (t .entry)) (typeLinesText (tablesIn (now (tables .entry))) i ++ typeRowsText (tablesIn (now (tables .entry))) i)
         (now (t .exit)) 0 r ⌝ }
 {
@@ -48,26 +51,27 @@ fn put_form_type(t: &mut [u8], tables: &TableWords, i: u32) -> usize
     used + put_type_rows(&mut t[used..], tables, i)
 }
 
-fn put_form_types(t: &mut [u8], tables: &TableWords, count: u32) -> usize
-    ensures { λ r. ⌜ Written (now (t .entry))
-        (inTurn (λ i. typeLinesText (tablesIn (now (tables .entry))) i ++ typeRowsText (tablesIn (now (tables .entry))) i) count) (now (t .exit)) 0 r ⌝ }
-{
-    let mut used: usize = 0;
-    let mut i: u32 = 0;
-    while i < count {
-        used += put_form_type(&mut t[used..], tables, i);
-        i += 1;
-    }
-    used
-}
-
-pub(crate) fn put_form(t: &mut [u8], tables: &TableWords, program: &ProgramWords) -> usize
+fn put_form(t: &mut [u8], tables: &TableWords, program: &ProgramWords) -> usize
     ensures { λ r. ⌜ Written (now (t .entry)) (formLines (tablesIn (now (tables .entry))) (programIn (now (program .entry)))) (now (t .exit)) 0 r ⌝ }
 {
     let deep = depth(tables);
     let count = types(tables);
     let lines = instructions(program);
     let mut used = write_one(t, b"depth=", deep);
-    used += put_form_types(&mut t[used..], tables, count);
+    used += put_each_type(&mut t[used..], Layout::Form, tables, count);
     used + put_instructions(&mut t[used..], program, lines)
+}
+
+pub(crate) fn put_text(
+    t: &mut [u8],
+    layout: Layout,
+    tables: &TableWords,
+    program: &ProgramWords,
+) -> usize
+    ensures { λ r. ⌜ Written (now (t .entry)) (textAs layout (tablesIn (now (tables .entry))) (programIn (now (program .entry)))) (now (t .exit)) 0 r ⌝ }
+{
+    match layout {
+        Layout::Sheet => put_sheet(t, tables, program),
+        Layout::Form => put_form(t, tables, program),
+    }
 }

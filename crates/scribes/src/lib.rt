@@ -7,12 +7,12 @@ mod rows;
 
 use faults::answer_fault;
 use faults::sheet_fault;
-use filled::put_form;
+use filled::put_text;
 use forms::BUFFER_SHORT;
 use forms::TOO_LONG;
 use lines::LONGEST;
+use lines_of::Layout;
 use lines_of::put_answer;
-use lines_of::put_sheet;
 use words::AnswerWords;
 use words::ProgramWords;
 use words::TableWords;
@@ -25,8 +25,9 @@ ghost use Rattle.reading.specs.Limits.{lengthOk};
 ghost use Rattle.rules.specs.Refusal.{_⇒_∣_};
 ghost use Rattle.words.specs.Words.{tablesIn, programIn, answerIn};
 ghost use Rattle.writing.specs.Texts.{sheetText, sheetFault, answerText, answerFault};
-ghost use Rattle.writing.specs.Buffer.{Penned};
-ghost use Rattle.scribes.specs.Form.{formLines, formText};
+ghost use Rattle.writing.specs.Buffer.{writeNumber, Penned};
+ghost use Rattle.scribes.specs.Form.{formText};
+ghost use Rattle.scribes.specs.Layouts.{textAs};
 
 // The number of the refusal, or 0, and the bytes written.
 pub struct Written {
@@ -35,11 +36,11 @@ pub struct Written {
 }
 
 // One byte more than a text may have tells one that is too long.
-fn sheet_length(tables: &TableWords, program: &ProgramWords) -> usize
-    ensures { λ r. ⌜ r ≡ min 32769 (length (sheetText (tablesIn (now (tables .entry))) (programIn (now (program .entry))))) ⌝ }
+fn text_length(layout: Layout, tables: &TableWords, program: &ProgramWords) -> usize
+    ensures { λ r. ⌜ r ≡ min 32769 (length (textAs layout (tablesIn (now (tables .entry))) (programIn (now (program .entry))))) ⌝ }
 {
     let mut scratch = [0u8; 32769];
-    put_sheet(&mut scratch, tables, program)
+    put_text(&mut scratch, layout, tables, program)
 }
 
 fn answer_length(answer: &AnswerWords) -> usize
@@ -47,13 +48,6 @@ fn answer_length(answer: &AnswerWords) -> usize
 {
     let mut scratch = [0u8; 32769];
     put_answer(&mut scratch, answer)
-}
-
-fn form_length(tables: &TableWords, program: &ProgramWords) -> usize
-    ensures { λ r. ⌜ r ≡ min 32769 (length (formLines (tablesIn (now (tables .entry))) (programIn (now (program .entry))))) ⌝ }
-{
-    let mut scratch = [0u8; 32769];
-    put_form(&mut scratch, tables, program)
 }
 
 // 1 before 6, of a text of so many bytes.
@@ -69,44 +63,52 @@ fn room_fault(length: usize, room: usize) -> u8
     0
 }
 
-// The sheet of tables and a program. No line is looked at past the first at fault, and nothing is written before all is known to fit.
+// No line is looked at past the first at fault, and nothing is measured before.
+fn text_number(layout: Layout, tables: &TableWords, program: &ProgramWords, room: usize) -> u8
+    ensures { λ r. ⌜ r ≡ writeNumber (sheetFault (tablesIn (now (tables .entry))) (programIn (now (program .entry))))
+        (textAs layout (tablesIn (now (tables .entry))) (programIn (now (program .entry)))) room ⌝ }
+{
+    let fault = sheet_fault(tables, program);
+    if fault != 0 {
+        return fault;
+    }
+    room_fault(text_length(layout, tables, program), room)
+}
+
+fn answer_number(answer: &AnswerWords, room: usize) -> u8
+    ensures { λ r. ⌜ r ≡ writeNumber (answerFault (answerIn (now (answer .entry)))) (answerText (answerIn (now (answer .entry)))) room ⌝ }
+{
+    let fault = answer_fault(answer);
+    if fault != 0 {
+        return fault;
+    }
+    room_fault(answer_length(answer), room)
+}
+
+// Nothing is written before all is known to fit.
+fn write_text(
+    layout: Layout,
+    tables: &TableWords,
+    program: &ProgramWords,
+    out: &mut [u8],
+) -> Written
+    ensures { λ r. ⌜ Penned (sheetFault (tablesIn (now (tables .entry))) (programIn (now (program .entry))))
+        (textAs layout (tablesIn (now (tables .entry))) (programIn (now (program .entry)))) (now (out .entry)) (now (out .exit)) (r .refused) (r .bytes) ⌝ }
+{
+    let refused = text_number(layout, tables, program, out.len());
+    if refused != 0 {
+        return Written { refused, bytes: 0 };
+    }
+    let bytes = put_text(out, layout, tables, program);
+    Written { refused: 0, bytes }
+}
+
+// The sheet of tables and a program.
 pub fn write_sheet(tables: &TableWords, program: &ProgramWords, out: &mut [u8]) -> Written
     ensures { λ r. ⌜ Penned (sheetFault (tablesIn (now (tables .entry))) (programIn (now (program .entry))))
         (sheetText (tablesIn (now (tables .entry))) (programIn (now (program .entry)))) (now (out .entry)) (now (out .exit)) (r .refused) (r .bytes) ⌝ }
 {
-    let fault = sheet_fault(tables, program);
-    if fault != 0 {
-        return Written {
-            refused: fault,
-            bytes: 0,
-        };
-    }
-    let refused = room_fault(sheet_length(tables, program), out.len());
-    if refused != 0 {
-        return Written { refused, bytes: 0 };
-    }
-    let bytes = put_sheet(out, tables, program);
-    Written { refused: 0, bytes }
-}
-
-// The answer of steps.
-pub fn write_answer(answer: &AnswerWords, out: &mut [u8]) -> Written
-    ensures { λ r. ⌜ Penned (answerFault (answerIn (now (answer .entry)))) (answerText (answerIn (now (answer .entry)))) (now (out .entry)) (now (out .exit))
-        (r .refused) (r .bytes) ⌝ }
-{
-    let fault = answer_fault(answer);
-    if fault != 0 {
-        return Written {
-            refused: fault,
-            bytes: 0,
-        };
-    }
-    let refused = room_fault(answer_length(answer), out.len());
-    if refused != 0 {
-        return Written { refused, bytes: 0 };
-    }
-    let bytes = put_answer(out, answer);
-    Written { refused: 0, bytes }
+    write_text(Layout::Sheet, tables, program, out)
 }
 
 // The form of tables and a program, as rows of cells.
@@ -114,18 +116,20 @@ pub fn write_form(tables: &TableWords, program: &ProgramWords, out: &mut [u8]) -
     ensures { λ r. ⌜ Penned (sheetFault (tablesIn (now (tables .entry))) (programIn (now (program .entry))))
         (formText (tablesIn (now (tables .entry))) (programIn (now (program .entry)))) (now (out .entry)) (now (out .exit)) (r .refused) (r .bytes) ⌝ }
 {
-    let fault = sheet_fault(tables, program);
-    if fault != 0 {
-        return Written {
-            refused: fault,
-            bytes: 0,
-        };
-    }
-    let refused = room_fault(form_length(tables, program), out.len());
+    let written = write_text(Layout::Form, tables, program, out);
+    cells::put_cells(out, written.bytes);
+    written
+}
+
+// The answer of steps.
+pub fn write_answer(answer: &AnswerWords, out: &mut [u8]) -> Written
+    ensures { λ r. ⌜ Penned (answerFault (answerIn (now (answer .entry)))) (answerText (answerIn (now (answer .entry)))) (now (out .entry)) (now (out .exit))
+        (r .refused) (r .bytes) ⌝ }
+{
+    let refused = answer_number(answer, out.len());
     if refused != 0 {
         return Written { refused, bytes: 0 };
     }
-    let bytes = put_form(out, tables, program);
-    cells::put_cells(out, bytes);
+    let bytes = put_answer(out, answer);
     Written { refused: 0, bytes }
 }

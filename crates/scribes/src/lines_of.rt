@@ -1,11 +1,12 @@
 // The lines in order: each is written into the part of the buffer that is still free, and cut at its end.
+use crate::filled::put_form_type;
 use crate::rows::count_of;
 use crate::rows::row_at;
-use sheet_inks::write_do;
+use sheet_inks::verbs::write_do;
+use sheet_inks::verbs::write_step;
 use sheet_inks::write_initial;
 use sheet_inks::write_one;
 use sheet_inks::write_row;
-use sheet_inks::write_step;
 use sheet_lines::Rows;
 use words::AnswerWords;
 use words::ProgramWords;
@@ -31,6 +32,7 @@ ghost use Rattle.words.specs.Words.{tablesIn, programIn, answerIn};
 ghost use Rattle.writing.specs.Kinds.{doText, stepText};
 ghost use Rattle.writing.specs.Texts.{instructionRow, stepRow, typeText, sheetText, answerText};
 ghost use Rattle.scribes.specs.Parts.{keyOf, rowsText, kindText, kindsText, headText, firstText, typesText, programText};
+ghost use Rattle.scribes.specs.Layouts.{typeAs};
 
 // So many rows of type i.
 pub(crate) fn put_rows(t: &mut [u8], tables: &TableWords, rows: Rows, i: u32, count: u32) -> usize
@@ -84,20 +86,35 @@ fn put_kinds(t: &mut [u8], tables: &TableWords, i: u32) -> usize
     used + put_kind(&mut t[used..], tables, Rows::Ports, i)
 }
 
-fn put_type(t: &mut [u8], tables: &TableWords, i: u32) -> usize
+fn put_sheet_type(t: &mut [u8], tables: &TableWords, i: u32) -> usize
     ensures { λ r. ⌜ Written (now (t .entry)) (typeText (tablesIn (now (tables .entry))) i) (now (t .exit)) 0 r ⌝ }
 {
     let used = put_head(t, tables, i);
     used + put_kinds(&mut t[used..], tables, i)
 }
 
-fn put_each_type(t: &mut [u8], tables: &TableWords, count: u32) -> usize
-    ensures { λ r. ⌜ Written (now (t .entry)) (inTurn (typeText (tablesIn (now (tables .entry)))) count) (now (t .exit)) 0 r ⌝ }
+// How tables and a program are written: as a sheet, or as the lines of a form.
+pub(crate) enum Layout {
+    Sheet,
+    Form,
+}
+
+fn put_type(t: &mut [u8], layout: Layout, tables: &TableWords, i: u32) -> usize
+    ensures { λ r. ⌜ Written (now (t .entry)) (typeAs layout (tablesIn (now (tables .entry))) i) (now (t .exit)) 0 r ⌝ }
+{
+    match layout {
+        Layout::Sheet => put_sheet_type(t, tables, i),
+        Layout::Form => put_form_type(t, tables, i),
+    }
+}
+
+pub(crate) fn put_each_type(t: &mut [u8], layout: Layout, tables: &TableWords, count: u32) -> usize
+    ensures { λ r. ⌜ Written (now (t .entry)) (inTurn (typeAs layout (tablesIn (now (tables .entry)))) count) (now (t .exit)) 0 r ⌝ }
 {
     let mut used: usize = 0;
     let mut i: u32 = 0;
     while i < count {
-        used += put_type(&mut t[used..], tables, i);
+        used += put_type(&mut t[used..], layout, tables, i);
         i += 1;
     }
     used
@@ -109,7 +126,7 @@ fn put_types(t: &mut [u8], tables: &TableWords) -> usize
 {
     let count = types(tables);
     let used = write_one(t, b"types=", count);
-    used + put_each_type(&mut t[used..], tables, count)
+    used + put_each_type(&mut t[used..], Layout::Sheet, tables, count)
 }
 
 fn put_instruction(t: &mut [u8], program: &ProgramWords, j: u32) -> usize

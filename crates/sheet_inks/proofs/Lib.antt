@@ -1,1 +1,2 @@
--- Nothing of its own: a proof for each function.
+-- Limits as they are tested (Limits).
+pub mod Limits

@@ -1,2 +1,3 @@
--- The rows of a type by their kind.
+-- The rows of a type by their kind (Rows), and the lines of verbs (Verbs).
 pub mod Rows
+pub mod Verbs

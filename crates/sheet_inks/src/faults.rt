@@ -8,9 +8,8 @@ use sheet_lines::Row;
 use sheet_lines::Rows;
 ghost use mathlib.Core.Path.{_≡_};
 ghost use Rattle.reading.specs.Limits.{maskOk};
-ghost use Rattle.reading.specs.Kinds.{anInstruction, aStep};
 ghost use Rattle.rules.specs.Refusal.{_⇒_∣_};
-ghost use Rattle.writing.specs.Kinds.{limitFault, initialFault, doFault, stepFault};
+ghost use Rattle.writing.specs.Kinds.{limitFault, initialFault};
 ghost use Rattle.sheet_lines.specs.declared.Rows.the-variants.{Transitions, Ports};
 ghost use Rattle.sheet_inks.specs.Rows.{rowFault};
 
@@ -22,7 +21,7 @@ fn mask_ok(n: u32, m: u32) -> bool
 }
 
 // A row of checks, as in rules/specs/Refusal: where the test holds its number, else what follows.
-fn refuse_if(test: bool, number: u8, rest: u8) -> u8
+pub(crate) fn refuse_if(test: bool, number: u8, rest: u8) -> u8
     ensures { λ r. ⌜ r ≡ (test ⇒ number ∣ rest) ⌝ }
 {
     if test { number } else { rest }
@@ -68,34 +67,5 @@ pub fn row_fault(rows: Rows, known: Known, row: Row) -> u8
         Rows::Transitions => tran_fault(known, row),
         Rows::Behaviors => limit_fault(mask_ok(known.transitions, row.transitions)),
         Rows::Ports => port_fault(known, row),
-    }
-}
-
-// do=, in a sheet of so many types.
-pub fn do_fault(types: u32, verb: u32, id: u32, number: u32, provider: u32, provideport: u32) -> u8
-    ensures { λ r. ⌜ r ≡ doFault types (anInstruction verb id number provider provideport) ⌝ }
-{
-    match verb {
-        0 => limit_fault((id <= 31) & (number < types)),
-        1 => limit_fault(id <= 31),
-        2 => limit_fault((id <= 31) & (number <= 7)),
-        3 => limit_fault((id <= 31) & ((number <= 15) & ((provider <= 31) & (provideport <= 15)))),
-        4 => limit_fault((id <= 31) & ((number <= 15) & ((provider <= 31) & (provideport <= 15)))),
-        5 => limit_fault(id <= 31),
-        _ => BAD_FORM,
-    }
-}
-
-// step=
-pub fn step_fault(verb: u32, id: u32, number: u32) -> u8
-    ensures { λ r. ⌜ r ≡ stepFault (aStep verb id number) ⌝ }
-{
-    match verb {
-        0 => 0,
-        1 => limit_fault((id <= 31) & (number <= 15)),
-        2 => limit_fault((id <= 31) & (number <= 31)),
-        3 => limit_fault((id <= 31) & (number <= 15)),
-        4 => limit_fault(id <= 31),
-        _ => BAD_FORM,
     }
 }

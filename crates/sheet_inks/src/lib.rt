@@ -1,6 +1,7 @@
 // The lines of the two texts as they are written: each at the start of a lent part, cut at its end, and its writer answers the bytes used.
 // Promised: every byte of the lent part and the bytes used (`Written`), and of each kind of line the number that its reader gives, for all numbers.
 pub mod faults;
+pub mod verbs;
 
 use inks::write_byte;
 use inks::write_key;
@@ -10,11 +11,11 @@ use sheet_lines::Row;
 use sheet_lines::Rows;
 ghost use mathlib.Core.List.{_++_};
 ghost use Rattle.forms.specs.Write.{oneText, twoText, fourText};
-ghost use Rattle.reading.specs.Kinds.{anInstruction, aStep};
 ghost use Rattle.inks.specs.Written.{Written};
-ghost use Rattle.writing.specs.Kinds.{setText, setsText, initialText, doText, stepText};
+ghost use Rattle.writing.specs.Kinds.{setText, setsText, initialText};
 ghost use Rattle.sheet_lines.specs.declared.Rows.the-variants.{Ports};
 ghost use Rattle.sheet_inks.specs.Rows.{rowText};
+ghost use Rattle.sheet_inks.specs.Verbs.{numbersText};
 
 // At a position: what follows a key to the line's end.
 fn write_last(t: &mut [u8], at: usize, a: u32) -> usize
@@ -32,30 +33,34 @@ fn write_pair(t: &mut [u8], at: usize, a: u32, b: u32) -> usize
     write_last(t, end, b)
 }
 
-// A key and one number, two, four.
+fn write_four(t: &mut [u8], at: usize, a: u32, b: u32, c: u32, d: u32) -> usize
+    ensures { λ r. ⌜ Written (now (t .entry)) (fourText a b c d) (now (t .exit)) at r ⌝ }
+{
+    let mut end = write_number(t, at, a as usize);
+    end = write_byte(t, end, b',');
+    end = write_number(t, end, b as usize);
+    end = write_byte(t, end, b',');
+    write_pair(t, end, c, d)
+}
+
+// A key and so many numbers.
+fn write_line(t: &mut [u8], key: &[u8], count: u32, a: u32, b: u32, c: u32, d: u32) -> usize
+    ensures { λ r. ⌜ Written (now (t .entry)) (now (key .entry) ++ numbersText count a b c d) (now (t .exit)) 0 r ⌝ }
+{
+    let at = write_key(t, 0, key);
+    match count {
+        0 => at,
+        1 => write_last(t, at, a),
+        2 => write_pair(t, at, a, b),
+        _ => write_four(t, at, a, b, c, d),
+    }
+}
+
+// A key and one number.
 pub fn write_one(t: &mut [u8], key: &[u8], a: u32) -> usize
     ensures { λ r. ⌜ Written (now (t .entry)) (now (key .entry) ++ oneText a) (now (t .exit)) 0 r ⌝ }
 {
-    let at = write_key(t, 0, key);
-    write_last(t, at, a)
-}
-
-fn write_two(t: &mut [u8], key: &[u8], a: u32, b: u32) -> usize
-    ensures { λ r. ⌜ Written (now (t .entry)) (now (key .entry) ++ twoText a b) (now (t .exit)) 0 r ⌝ }
-{
-    let at = write_key(t, 0, key);
-    write_pair(t, at, a, b)
-}
-
-fn write_four(t: &mut [u8], key: &[u8], a: u32, b: u32, c: u32, d: u32) -> usize
-    ensures { λ r. ⌜ Written (now (t .entry)) (now (key .entry) ++ fourText a b c d) (now (t .exit)) 0 r ⌝ }
-{
-    let mut at = write_key(t, 0, key);
-    at = write_number(t, at, a as usize);
-    at = write_byte(t, at, b',');
-    at = write_number(t, at, b as usize);
-    at = write_byte(t, at, b',');
-    write_pair(t, at, c, d)
+    write_line(t, key, 1, a, 0, 0, 0)
 }
 
 // A key and one list, two.
@@ -101,44 +106,8 @@ pub fn write_row(t: &mut [u8], rows: Rows, row: Row) -> usize
     ensures { λ r. ⌜ Written (now (t .entry)) (rowText rows row) (now (t .exit)) 0 r ⌝ }
 {
     match rows {
-        Rows::Transitions => write_two(t, b"tran=", row.source, row.destination),
+        Rows::Transitions => write_line(t, b"tran=", 2, row.source, row.destination, 0, 0),
         Rows::Behaviors => write_set(t, b"behavior=", row.transitions),
         Rows::Ports => write_port(t, row),
-    }
-}
-
-// do=
-pub fn write_do(
-    t: &mut [u8],
-    verb: u32,
-    id: u32,
-    number: u32,
-    provider: u32,
-    provideport: u32,
-) -> usize
-    ensures { λ r. ⌜ Written (now (t .entry)) (doText (anInstruction verb id number provider provideport)) (now (t .exit)) 0 r ⌝ }
-{
-    match verb {
-        0 => write_two(t, b"do=add,", id, number),
-        1 => write_one(t, b"do=del,", id),
-        2 => write_two(t, b"do=pushb,", id, number),
-        3 => write_four(t, b"do=con,", id, number, provider, provideport),
-        4 => write_four(t, b"do=dcon,", id, number, provider, provideport),
-        5 => write_one(t, b"do=wait,", id),
-        _ => write_key(t, 0, b"do=\n"),
-    }
-}
-
-// step=
-pub fn write_step(t: &mut [u8], verb: u32, id: u32, number: u32) -> usize
-    ensures { λ r. ⌜ Written (now (t .entry)) (stepText (aStep verb id number)) (now (t .exit)) 0 r ⌝ }
-{
-    match verb {
-        0 => write_key(t, 0, b"step=next\n"),
-        1 => write_two(t, b"step=fire,", id, number),
-        2 => write_two(t, b"step=end,", id, number),
-        3 => write_two(t, b"step=enter,", id, number),
-        4 => write_one(t, b"step=finish,", id),
-        _ => write_key(t, 0, b"step=\n"),
     }
 }

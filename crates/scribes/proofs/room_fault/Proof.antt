@@ -3,17 +3,7 @@ use borrow.Author.Needs.{needs}
 use Rattle.scribes.proofs.room_fault.Statement.{statement}
 use Rattle.scribes.proofs.room_fault.Tie as tie
 
-returns : tie.Need-returns
-returns c = rw (lt-leb _ _ (c .if1 .taken))
-
-returns-2 : tie.Need-returns-2
-returns-2 c = rw (le-leb _ _ (c .before .if1 .left), lt-leb _ _ (c .if2 .taken))
-
-returns-3 : tie.Need-returns-3
-returns-3 c = rw (le-leb _ _ (c .before .if1 .left), le-leb _ _ (c .if2 .left))
-
 pub room-fault-spec : {M : Type 1} → statement M
-room-fault-spec =
-    tie.close
-    (tie.spec
-    returns returns-2 returns-3)
+room-fault-spec = tie.close (tie.spec
+    (λ c. rw (lt-leb _ _ (c .if1 .taken))) (λ c. rw (le-leb _ _ (c .before .if1 .left), lt-leb _ _ (c .if2 .taken)))
+    (λ c. rw (le-leb _ _ (c .before .if1 .left), le-leb _ _ (c .if2 .left))))

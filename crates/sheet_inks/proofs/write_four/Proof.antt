@@ -4,13 +4,8 @@ use borrow.Author.Needs.{needs}
 use Rattle.sheet_inks.proofs.write_four.Statement.{statement}
 use Rattle.sheet_inks.proofs.write_four.Tie as tie
 
-returns : tie.Need-returns
-unfolding fourText threeText
-returns c = then (c .before .before .before .before .before .before .before .before .before .before .before .before .before .before .before .before .before .before .before .before .before .before .write-key .ensures) (then (then (c .before .before .before .before .before .before .before .before .before .before .before .before .before .before .before .before .before .before .write-number .ensures) (c .before .before .before .before .before .before .before .before .before .before .before .before .before .before .write-byte .ensures)) (then (then (c .before .before .before .before .before .before .before .before .before .before .write-number2 .ensures) (c .before .before .before .before .before .before .write-byte2 .ensures)) (c .before .before .write-pair .ensures)))
-
 pub write-four-spec : {M : Type 1} → statement M
-write-four-spec =
-    tie.close
-    (tie.spec
-    (λ c κs. search needs) (λ c κs. search needs) (λ c κs. search needs) (λ c κs. search needs) (λ c κs. search needs) (λ c κs. search needs)
-    (λ c. search needs) returns)
+unfolding fourText threeText
+write-four-spec = tie.close (tie.spec
+    (λ c κs. search needs) (λ c κs. search needs) (λ c κs. search needs) (λ c κs. search needs) (λ c κs. search needs) (λ c. search needs)
+    (λ c. then (then (c .before .before .before .before .before .before .before .before .before .before .before .before .before .before .before .before .before .before .write-number .ensures) (c .before .before .before .before .before .before .before .before .before .before .before .before .before .before .write-byte .ensures)) (then (then (c .before .before .before .before .before .before .before .before .before .before .write-number2 .ensures) (c .before .before .before .before .before .before .write-byte2 .ensures)) (c .before .before .write-pair .ensures))))

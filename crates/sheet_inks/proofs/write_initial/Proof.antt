@@ -3,12 +3,6 @@ use borrow.Author.Needs.{needs}
 use Rattle.sheet_inks.proofs.write_initial.Statement.{statement}
 use Rattle.sheet_inks.proofs.write_initial.Tie as tie
 
-returns : tie.Need-returns
-unfolding initialText
-returns c = c .before .before .write-set .ensures
-
 pub write-initial-spec : {M : Type 1} → statement M
-write-initial-spec =
-    tie.close
-    (tie.spec
-    (λ c. search needs) (λ c κs. search needs) (λ c. search needs) returns)
+unfolding initialText
+write-initial-spec = tie.close (tie.spec (λ c. search needs) (λ c κs. search needs) (λ c. search needs) (λ c. c .before .before .write-set .ensures))

@@ -1,13 +1,8 @@
-use Rattle.inks.proofs.Laws.{then}
+use Rattle.sheet_inks.specs.Verbs.{numbersText}
 use borrow.Author.Needs.{needs}
 use Rattle.sheet_inks.proofs.write_one.Statement.{statement}
 use Rattle.sheet_inks.proofs.write_one.Tie as tie
 
-returns : tie.Need-returns
-returns c = then (c .before .before .before .before .before .before .write-key .ensures) (c .before .before .write-last .ensures)
-
 pub write-one-spec : {M : Type 1} → statement M
-write-one-spec =
-    tie.close
-    (tie.spec
-    (λ c κs. search needs) (λ c κs. search needs) (λ c. search needs) returns)
+unfolding numbersText
+write-one-spec = tie.close (tie.spec (λ c κs. search needs) (λ c. search needs) (λ c. c .before .before .write-line .ensures))

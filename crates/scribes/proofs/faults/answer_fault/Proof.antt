@@ -1,40 +1,25 @@
 use Prim.Native.Nat.{_-_}
-use Rattle.scribes.proofs.Loops.{Passed, none-yet, one-more, first-found, all-passed, limited, unlimited}
-use Rattle.words.specs.Words.{tablesIn, programIn, answerIn}
+use native.Mathlib.Omega.{arith}
+use Rattle.words.specs.Words.{answerIn}
+use Rattle.scribes.proofs.Loops.{Found, going, found-none, found-more, found-all}
 use Rattle.reading.specs.Limits.{stepsOk}
-use Rattle.writing.specs.Kinds.{stepFault}
+use Rattle.writing.specs.Kinds.{limitFault, stepFault}
 use Rattle.writing.specs.Texts.{stepRow, answerFault}
 use borrow.Author.Needs.{needs}
 use Rattle.scribes.proofs.faults.answer_fault.Statement.{statement}
 use Rattle.scribes.proofs.faults.answer_fault.Tie as tie
 
 abbrev Inv-loop : tie.InvT-loop
-Inv-loop answer count most j₀ j = Passed (λ j. stepFault (stepRow (answerIn answer) j)) count j
+Inv-loop answer count n₀ j₀ n j = Found (limitFault (stepsOk count)) (λ j. stepFault (stepRow (answerIn answer) j)) count j n
 
 abbrev μ-loop : tie.MeasureT-loop
-μ-loop answer count most j₀ j = count - j
-
-returns : tie.Need-returns Inv-loop μ-loop
-unfolding answerFault
-returns c = limited stepsOk (λ j. stepFault (stepRow (answerIn (c .before .before .before .args .answer .now)) j)) _ _ _ (c .before .before .steps .ensures) (c .before .limit-fault .ensures) (c .if1 .taken)
-
-loop-holds : tie.Need-loop-holds Inv-loop μ-loop
-loop-holds c = none-yet _ _
-
-returns-2 : tie.Need-returns-2 Inv-loop μ-loop
-unfolding answerFault
-returns-2 c = unlimited stepsOk (λ j. stepFault (stepRow (answerIn (c .before .before .before .before .before .before .before .args .answer .now)) j)) _ _ _ (c .before .before .before .before .before .before .steps .ensures) (c .before .before .before .before .before .limit-fault .ensures) (c .before .before .before .before .if1 .left) _ (first-found _ _ (c .before .before .before .loop .j) _ (c .before .before .loop-test .taken) (c .before .step-fault-at .ensures) (c .if2 .taken) (c .before .before .before .loop .inv))
-
-loop-again : tie.Need-loop-again Inv-loop μ-loop
-loop-again c = one-more _ _ (c .before .before .before .loop .j) _ (c .before .before .loop-test .taken) (c .before .step-fault-at .ensures) (c .if2 .left) (c .before .before .before .loop .inv)
-
-returns-3 : tie.Need-returns-3 Inv-loop μ-loop
-unfolding answerFault
-returns-3 c = unlimited stepsOk (λ j. stepFault (stepRow (answerIn (c .before .before .before .before .before .args .answer .now)) j)) _ _ _ (c .before .before .before .before .steps .ensures) (c .before .before .before .limit-fault .ensures) (c .before .before .if1 .left) _ (all-passed _ _ (c .before .loop .j) (c .before .loop .inv) (c .loop-test .left))
+μ-loop answer count n₀ j₀ n j = count - j
 
 pub answer-fault-spec : {M : Type 1} → statement M
-answer-fault-spec =
-    tie.close
-    (tie.spec
-    Inv-loop μ-loop (λ c κs. search needs) (λ c κs. search needs) returns loop-holds (λ c κs. search needs) returns-2 (λ c. search needs)
-    (λ c. search needs) loop-again returns-3)
+unfolding answerFault
+answer-fault-spec = tie.close (tie.spec
+    Inv-loop μ-loop (λ c κs. search needs) (λ c κs. search needs) (λ c. found-none _ _ _ _ (c .limit-fault .ensures)) (λ c κs. search needs)
+    (λ c. let l = going (c .before .before .before .before .steps .result) (c .before .before .loop .j) (c .before .before .loop .n) (c .before .loop-test .taken) in search needs)
+    (λ c. omega (arith, going (c .before .before .before .before .steps .result) (c .before .before .loop .j) (c .before .before .loop .n) (c .before .loop-test .taken)))
+    (λ c. found-more _ _ _ _ _ _ (c .before .before .loop .inv) (c .before .loop-test .taken) (c .step-fault-at .ensures))
+    (λ c. rw (c .before .before .before .steps .ensures) at (found-all _ _ _ (c .before .loop .j) _ (c .before .loop .inv) (c .loop-test .left))))

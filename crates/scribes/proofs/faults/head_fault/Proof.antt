@@ -4,12 +4,8 @@ use borrow.Author.Needs.{needs}
 use Rattle.scribes.proofs.faults.head_fault.Statement.{statement}
 use Rattle.scribes.proofs.faults.head_fault.Tie as tie
 
-returns : tie.Need-returns
-unfolding headFault
-returns c = c .or-number .ensures ∙ rw (c .before .limit-fault .ensures, c .before .before .initial-fault .ensures, c .before .before .before .before .places-of .ensures, c .before .before .before .initial-of .ensures)
-
 pub head-fault-spec : {M : Type 1} → statement M
-head-fault-spec =
-    tie.close
-    (tie.spec
-    (λ c κs. search needs) (λ c κs. search needs) (λ c κs. search needs) (λ c κs. search needs) (λ c κs. search needs) returns)
+unfolding headFault
+head-fault-spec = tie.close (tie.spec
+    (λ c κs. search needs) (λ c κs. search needs) (λ c κs. search needs) (λ c κs. search needs) (λ c κs. search needs)
+    (λ c. c .or-number .ensures ∙ rw (c .before .limit-fault .ensures, c .before .before .initial-fault .ensures, c .before .before .before .before .places-of .ensures, c .before .before .before .initial-of .ensures)))

@@ -1,22 +1,27 @@
-use Rattle.model.specs.View.{typeOf}
-use Rattle.words.specs.Words.{tablesIn, programIn, answerIn}
+use Prim.Native.Nat.{_-_}
+use mathlib.Core.Path.{_∙_}
+use native.Mathlib.Omega.{arith}
+use Rattle.words.specs.Words.{tablesIn}
+use Rattle.scribes.proofs.Loops.{Found, going, found-none, found-more, found-all}
 use Rattle.sheet_inks.specs.Rows.{rowFault}
-use Rattle.scribes.proofs.Loops.{limited, unlimited}
-use Rattle.scribes.specs.Parts.{knownOf, rowAt, countOk, kindFault}
+use Rattle.writing.specs.Kinds.{limitFault}
+use Rattle.scribes.specs.Parts.{rowAt, countOk, kindFault}
 use borrow.Author.Needs.{needs}
 use Rattle.scribes.proofs.faults.kind_fault.Statement.{statement}
 use Rattle.scribes.proofs.faults.kind_fault.Tie as tie
 
-returns : tie.Need-returns
-unfolding kindFault
-returns c = limited (countOk (c .before .before .before .before .args .rows)) (λ x. rowFault (c .before .before .before .before .args .rows) (knownOf (typeOf (tablesIn (c .before .before .before .before .args .tables .now)) (c .before .before .before .before .args .i))) (rowAt (c .before .before .before .before .args .rows) (tablesIn (c .before .before .before .before .args .tables .now)) (c .before .before .before .before .args .i) x)) _ _ _ (c .before .before .before .count-of .ensures) (rw (c .before .before .count-ok .ensures) at (c .before .limit-fault .ensures)) (c .if1 .taken)
+abbrev Inv-loop : tie.InvT-loop
+Inv-loop tables rows i count known n₀ x₀ n x = Found (limitFault (countOk rows count)) (λ x. rowFault rows known (rowAt rows (tablesIn tables) i x)) count x n
 
-returns-2 : tie.Need-returns-2
-unfolding kindFault
-returns-2 c = unlimited (countOk (c .before .before .before .before .before .before .args .rows)) (λ x. rowFault (c .before .before .before .before .before .before .args .rows) (knownOf (typeOf (tablesIn (c .before .before .before .before .before .before .args .tables .now)) (c .before .before .before .before .before .before .args .i))) (rowAt (c .before .before .before .before .before .before .args .rows) (tablesIn (c .before .before .before .before .before .before .args .tables .now)) (c .before .before .before .before .before .before .args .i) x)) _ _ _ (c .before .before .before .before .before .count-of .ensures) (rw (c .before .before .before .before .count-ok .ensures) at (c .before .before .before .limit-fault .ensures)) (c .before .before .if1 .left) _ (rw (c .before .known-of .ensures) at (c .rows-fault .ensures))
+abbrev μ-loop : tie.MeasureT-loop
+μ-loop tables rows i count known n₀ x₀ n x = count - x
 
 pub kind-fault-spec : {M : Type 1} → statement M
-kind-fault-spec =
-    tie.close
-    (tie.spec
-    (λ c κs. search needs) (λ c κs. search needs) (λ c κs. search needs) returns (λ c κs. search needs) (λ c κs. search needs) returns-2)
+unfolding kindFault
+kind-fault-spec = tie.close (tie.spec
+    Inv-loop μ-loop (λ c κs. search needs) (λ c κs. search needs) (λ c κs. search needs) (λ c κs. search needs)
+    (λ c. found-none _ _ _ _ (rw (c .before .count-ok .ensures) at (c .limit-fault .ensures))) (λ c κs. search needs) (λ c κs. search needs)
+    (λ c. let l = going (c .before .before .before .before .before .before .before .count-of .result) (c .before .before .before .loop .x) (c .before .before .before .loop .n) (c .before .before .loop-test .taken) in search needs)
+    (λ c. omega (arith, going (c .before .before .before .before .before .before .before .count-of .result) (c .before .before .before .loop .x) (c .before .before .before .loop .n) (c .before .before .loop-test .taken)))
+    (λ c. found-more _ _ _ _ _ _ (c .before .before .before .loop .inv) (c .before .before .loop-test .taken) (c .row-fault .ensures ∙ rw (c .before .row-at .ensures)))
+    (λ c. rw (c .before .before .before .before .known-of .ensures, c .before .before .before .before .before .count-of .ensures) at (found-all _ _ _ (c .before .loop .x) _ (c .before .loop .inv) (c .loop-test .left))))

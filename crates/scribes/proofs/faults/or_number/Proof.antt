@@ -3,14 +3,5 @@ use borrow.Author.Needs.{needs}
 use Rattle.scribes.proofs.faults.or_number.Statement.{statement}
 use Rattle.scribes.proofs.faults.or_number.Tie as tie
 
-returns : tie.Need-returns
-returns c = rw (eq-eqb _ _ (c .if1 .taken))
-
-returns-2 : tie.Need-returns-2
-returns-2 c = rw (ne-eqb _ _ (c .if1 .left))
-
 pub or-number-spec : {M : Type 1} → statement M
-or-number-spec =
-    tie.close
-    (tie.spec
-    returns returns-2)
+or-number-spec = tie.close (tie.spec (λ c. rw (eq-eqb _ _ (c .if1 .taken))) (λ c. rw (ne-eqb _ _ (c .if1 .left))))

@@ -4,12 +4,8 @@ use borrow.Author.Needs.{needs}
 use Rattle.scribes.proofs.faults.sheet_fault.Statement.{statement}
 use Rattle.scribes.proofs.faults.sheet_fault.Tie as tie
 
-returns : tie.Need-returns
-returns c = c .or-number2 .ensures ∙ rw (c .before .or-number .ensures, c .before .before .before .before .before .limit-fault .ensures, c .before .before .before .before .types-fault .ensures, c .before .before .program-fault .ensures, c .before .before .before .before .before .before .depth .ensures, c .before .before .before .types .ensures) (sheet-numbers _ _)
-
 pub sheet-fault-spec : {M : Type 1} → statement M
-sheet-fault-spec =
-    tie.close
-    (tie.spec
+sheet-fault-spec = tie.close (tie.spec
     (λ c κs. search needs) (λ c κs. search needs) (λ c κs. search needs) (λ c κs. search needs) (λ c κs. search needs) (λ c κs. search needs)
-    (λ c κs. search needs) returns)
+    (λ c κs. search needs)
+    (λ c. c .or-number2 .ensures ∙ rw (c .before .or-number .ensures, c .before .before .before .before .before .limit-fault .ensures, c .before .before .before .before .types-fault .ensures, c .before .before .program-fault .ensures, c .before .before .before .before .before .before .depth .ensures, c .before .before .before .types .ensures) (sheet-numbers _ _)))

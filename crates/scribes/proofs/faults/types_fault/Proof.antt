@@ -1,7 +1,9 @@
 use Prim.Native.Nat.{_-_}
-use Rattle.scribes.proofs.Loops.{Passed, none-yet, one-more, first-found, all-passed, limited, unlimited}
-use Rattle.words.specs.Words.{tablesIn, programIn, answerIn}
+use native.Mathlib.Omega.{arith}
+use Rattle.words.specs.Words.{tablesIn}
+use Rattle.scribes.proofs.Loops.{Found, going, found-none, found-more, found-all}
 use Rattle.reading.specs.Limits.{typesOk}
+use Rattle.writing.specs.Kinds.{limitFault}
 use Rattle.writing.specs.Texts.{typeFault}
 use Rattle.scribes.specs.Parts.{typesFault}
 use borrow.Author.Needs.{needs}
@@ -9,32 +11,16 @@ use Rattle.scribes.proofs.faults.types_fault.Statement.{statement}
 use Rattle.scribes.proofs.faults.types_fault.Tie as tie
 
 abbrev Inv-loop : tie.InvT-loop
-Inv-loop tables count most i₀ i = Passed (λ i. typeFault (tablesIn tables) i) count i
+Inv-loop tables count n₀ i₀ n i = Found (limitFault (typesOk count)) (typeFault (tablesIn tables)) count i n
 
 abbrev μ-loop : tie.MeasureT-loop
-μ-loop tables count most i₀ i = count - i
-
-returns : tie.Need-returns Inv-loop μ-loop
-unfolding typesFault
-returns c = limited typesOk (typeFault (tablesIn (c .before .before .before .args .tables .now))) _ _ _ (c .before .before .types .ensures) (c .before .limit-fault .ensures) (c .if1 .taken)
-
-loop-holds : tie.Need-loop-holds Inv-loop μ-loop
-loop-holds c = none-yet _ _
-
-returns-2 : tie.Need-returns-2 Inv-loop μ-loop
-unfolding typesFault
-returns-2 c = unlimited typesOk (typeFault (tablesIn (c .before .before .before .before .before .before .before .args .tables .now))) _ _ _ (c .before .before .before .before .before .before .types .ensures) (c .before .before .before .before .before .limit-fault .ensures) (c .before .before .before .before .if1 .left) _ (first-found _ _ (c .before .before .before .loop .i) _ (c .before .before .loop-test .taken) (c .before .type-fault .ensures) (c .if2 .taken) (c .before .before .before .loop .inv))
-
-loop-again : tie.Need-loop-again Inv-loop μ-loop
-loop-again c = one-more _ _ (c .before .before .before .loop .i) _ (c .before .before .loop-test .taken) (c .before .type-fault .ensures) (c .if2 .left) (c .before .before .before .loop .inv)
-
-returns-3 : tie.Need-returns-3 Inv-loop μ-loop
-unfolding typesFault
-returns-3 c = unlimited typesOk (typeFault (tablesIn (c .before .before .before .before .before .args .tables .now))) _ _ _ (c .before .before .before .before .types .ensures) (c .before .before .before .limit-fault .ensures) (c .before .before .if1 .left) _ (all-passed _ _ (c .before .loop .i) (c .before .loop .inv) (c .loop-test .left))
+μ-loop tables count n₀ i₀ n i = count - i
 
 pub types-fault-spec : {M : Type 1} → statement M
-types-fault-spec =
-    tie.close
-    (tie.spec
-    Inv-loop μ-loop (λ c κs. search needs) (λ c κs. search needs) returns loop-holds (λ c κs. search needs) returns-2 (λ c. search needs)
-    (λ c. search needs) loop-again returns-3)
+unfolding typesFault
+types-fault-spec = tie.close (tie.spec
+    Inv-loop μ-loop (λ c κs. search needs) (λ c κs. search needs) (λ c. found-none _ _ _ _ (c .limit-fault .ensures)) (λ c κs. search needs)
+    (λ c. let l = going (c .before .before .before .before .types .result) (c .before .before .loop .i) (c .before .before .loop .n) (c .before .loop-test .taken) in search needs)
+    (λ c. omega (arith, going (c .before .before .before .before .types .result) (c .before .before .loop .i) (c .before .before .loop .n) (c .before .loop-test .taken)))
+    (λ c. found-more _ _ _ _ _ _ (c .before .before .loop .inv) (c .before .loop-test .taken) (c .type-fault .ensures))
+    (λ c. rw (c .before .before .before .types .ensures) at (found-all _ _ _ (c .before .loop .i) _ (c .before .loop .inv) (c .loop-test .left))))

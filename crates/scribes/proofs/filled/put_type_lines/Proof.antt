@@ -5,13 +5,9 @@ use borrow.Author.Needs.{needs}
 use Rattle.scribes.proofs.filled.put_type_lines.Statement.{statement}
 use Rattle.scribes.proofs.filled.put_type_lines.Tie as tie
 
-returns : tie.Need-returns
-unfolding typeLinesText countText
-returns c = rw (c .before .before .before .before .before .before .before .before .before .before .places-of .ensures, c .before .before .before .before .before .before .before .before .before .initial-of .ensures) at (next (c .before .before .before .before .before .before .write-one .ensures) (c .before .before .write-initial .ensures))
-
 pub put-type-lines-spec : {M : Type 1} → statement M
-put-type-lines-spec =
-    tie.close
-    (tie.spec
+unfolding typeLinesText countText
+put-type-lines-spec = tie.close (tie.spec
     (λ c κs. search needs) (λ c κs. search needs) (λ c. search needs) (λ c κs. search needs) (λ c. search needs) (λ c. search needs)
-    (λ c. search needs) (λ c κs. search needs) (λ c. search needs) (λ c. search needs) returns)
+    (λ c. search needs) (λ c κs. search needs) (λ c. search needs) (λ c. search needs)
+    (λ c. rw (c .before .before .before .before .before .before .before .before .before .before .places-of .ensures, c .before .before .before .before .before .before .before .before .before .initial-of .ensures) at (next (c .before .before .before .before .before .before .write-one .ensures) (c .before .before .write-initial .ensures))))

@@ -4,17 +4,11 @@ use borrow.Author.Needs.{needs}
 use Rattle.scribes.proofs.filled.put_type_rows.Statement.{statement}
 use Rattle.scribes.proofs.filled.put_type_rows.Tie as tie
 
-add-result : tie.Need-add-result
-add-result c = used-fits (next (next (c .before .before .before .before .before .before .before .before .before .before .put-rows .ensures) (c .before .before .before .before .before .before .put-rows2 .ensures)) (c .before .before .put-rows3 .ensures)) (search needs)
-
-returns : tie.Need-returns
-unfolding typeRowsText
-returns c = rw (c .before .before .before .before .before .before .before .before .before .before .before .before .before .before .count-of .ensures, c .before .before .before .before .before .before .before .before .before .before .before .before .before .count-of2 .ensures, c .before .before .before .before .before .before .before .before .before .before .before .before .count-of3 .ensures) at (next (next (c .before .before .before .before .before .before .before .before .before .before .put-rows .ensures) (c .before .before .before .before .before .before .put-rows2 .ensures)) (c .before .before .put-rows3 .ensures))
-
 pub put-type-rows-spec : {M : Type 1} → statement M
-put-type-rows-spec =
-    tie.close
-    (tie.spec
+unfolding typeRowsText
+put-type-rows-spec = tie.close (tie.spec
     (λ c κs. search needs) (λ c κs. search needs) (λ c κs. search needs) (λ c κs. search needs) (λ c. search needs) (λ c. search needs)
-    (λ c. search needs) (λ c κs. search needs) (λ c. search needs) (λ c. search needs) (λ c. search needs) (λ c. search needs)
-    (λ c κs. search needs) add-result (λ c. search needs) returns)
+    (λ c. search needs) (λ c κs. search needs) (λ c. search needs) (λ c. search needs) (λ c. search needs) (λ c. search needs) (λ c κs. search needs)
+    (λ c. used-fits (next (next (c .before .before .before .before .before .before .before .before .before .before .put-rows .ensures) (c .before .before .before .before .before .before .put-rows2 .ensures)) (c .before .before .put-rows3 .ensures)) (search needs))
+    (λ c. search needs)
+    (λ c. rw (c .before .before .before .before .before .before .before .before .before .before .before .before .before .before .count-of .ensures, c .before .before .before .before .before .before .before .before .before .before .before .before .before .count-of2 .ensures, c .before .before .before .before .before .before .before .before .before .before .before .before .count-of3 .ensures) at (next (next (c .before .before .before .before .before .before .before .before .before .before .put-rows .ensures) (c .before .before .before .before .before .before .put-rows2 .ensures)) (c .before .before .put-rows3 .ensures))))

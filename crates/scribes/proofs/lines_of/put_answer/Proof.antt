@@ -6,17 +6,11 @@ use borrow.Author.Needs.{needs}
 use Rattle.scribes.proofs.lines_of.put_answer.Statement.{statement}
 use Rattle.scribes.proofs.lines_of.put_answer.Tie as tie
 
-add-result : tie.Need-add-result
-add-result c = used-fits (next (next (c .before .before .before .before .before .before .before .before .before .before .before .write-one .ensures) (c .before .before .before .before .before .before .write-one2 .ensures)) (c .before .before .put-steps .ensures)) (search needs)
-
-returns : tie.Need-returns
-unfolding answerText countText
-returns c = rw (c .before .before .before .before .before .before .before .before .before .before .before .before .before .before .steps .ensures) at (simp append-assoc at (next (next (c .before .before .before .before .before .before .before .before .before .before .before .write-one .ensures) (c .before .before .before .before .before .before .write-one2 .ensures)) (c .before .before .put-steps .ensures)))
-
 pub put-answer-spec : {M : Type 1} → statement M
-put-answer-spec =
-    tie.close
-    (tie.spec
-    (λ c κs. search needs) (λ c. search needs) (λ c κs. search needs) (λ c. search needs) (λ c. search needs) (λ c. search needs)
-    (λ c. search needs) (λ c κs. search needs) (λ c. search needs) (λ c. search needs) (λ c. search needs) (λ c. search needs)
-    (λ c κs. search needs) add-result (λ c. search needs) returns)
+unfolding answerText countText
+put-answer-spec = tie.close (tie.spec
+    (λ c κs. search needs) (λ c. search needs) (λ c κs. search needs) (λ c. search needs) (λ c. search needs) (λ c. search needs) (λ c. search needs)
+    (λ c κs. search needs) (λ c. search needs) (λ c. search needs) (λ c. search needs) (λ c. search needs) (λ c κs. search needs)
+    (λ c. used-fits (next (next (c .before .before .before .before .before .before .before .before .before .before .before .write-one .ensures) (c .before .before .before .before .before .before .write-one2 .ensures)) (c .before .before .put-steps .ensures)) (search needs))
+    (λ c. search needs)
+    (λ c. rw (c .before .before .before .before .before .before .before .before .before .before .before .before .before .before .steps .ensures) at (simp append-assoc at (next (next (c .before .before .before .before .before .before .before .before .before .before .before .write-one .ensures) (c .before .before .before .before .before .before .write-one2 .ensures)) (c .before .before .put-steps .ensures)))))

@@ -5,13 +5,9 @@ use borrow.Author.Needs.{needs}
 use Rattle.scribes.proofs.lines_of.put_first.Statement.{statement}
 use Rattle.scribes.proofs.lines_of.put_first.Tie as tie
 
-returns : tie.Need-returns
-unfolding firstText countText
-returns c = next (c .before .before .before .before .before .before .before .write-one .ensures) (c .before .before .write-one2 .ensures)
-
 pub put-first-spec : {M : Type 1} → statement M
-put-first-spec =
-    tie.close
-    (tie.spec
-    (λ c. search needs) (λ c κs. search needs) (λ c. search needs) (λ c. search needs) (λ c. search needs) (λ c. search needs)
-    (λ c κs. search needs) (λ c. search needs) (λ c. search needs) returns)
+unfolding firstText countText
+put-first-spec = tie.close (tie.spec
+    (λ c. search needs) (λ c κs. search needs) (λ c. search needs) (λ c. search needs) (λ c. search needs) (λ c. search needs) (λ c κs. search needs)
+    (λ c. search needs) (λ c. search needs)
+    (λ c. next (c .before .before .before .before .before .before .before .write-one .ensures) (c .before .before .write-one2 .ensures)))

@@ -4,16 +4,10 @@ use borrow.Author.Needs.{needs}
 use Rattle.scribes.proofs.lines_of.put_kind.Statement.{statement}
 use Rattle.scribes.proofs.lines_of.put_kind.Tie as tie
 
-add-result : tie.Need-add-result
-add-result c = used-fits (next (c .before .before .before .before .before .before .put-count .ensures) (c .before .before .put-rows .ensures)) (search needs)
-
-returns : tie.Need-returns
-unfolding kindText
-returns c = rw (c .before .before .before .before .before .before .before .before .count-of .ensures) at (next (c .before .before .before .before .before .before .put-count .ensures) (c .before .before .put-rows .ensures))
-
 pub put-kind-spec : {M : Type 1} → statement M
-put-kind-spec =
-    tie.close
-    (tie.spec
+unfolding kindText
+put-kind-spec = tie.close (tie.spec
     (λ c κs. search needs) (λ c κs. search needs) (λ c. search needs) (λ c. search needs) (λ c. search needs) (λ c κs. search needs)
-    add-result (λ c. search needs) returns)
+    (λ c. used-fits (next (c .before .before .before .before .before .before .put-count .ensures) (c .before .before .put-rows .ensures)) (search needs))
+    (λ c. search needs)
+    (λ c. rw (c .before .before .before .before .before .before .before .before .count-of .ensures) at (next (c .before .before .before .before .before .before .put-count .ensures) (c .before .before .put-rows .ensures))))

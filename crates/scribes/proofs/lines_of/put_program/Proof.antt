@@ -5,16 +5,11 @@ use borrow.Author.Needs.{needs}
 use Rattle.scribes.proofs.lines_of.put_program.Statement.{statement}
 use Rattle.scribes.proofs.lines_of.put_program.Tie as tie
 
-add-result : tie.Need-add-result
-add-result c = used-fits (next (c .before .before .before .before .before .before .write-one .ensures) (c .before .before .put-instructions .ensures)) (search needs)
-
-returns : tie.Need-returns
-unfolding programText countText
-returns c = rw (c .before .before .before .before .before .before .before .before .before .instructions .ensures) at (next (c .before .before .before .before .before .before .write-one .ensures) (c .before .before .put-instructions .ensures))
-
 pub put-program-spec : {M : Type 1} → statement M
-put-program-spec =
-    tie.close
-    (tie.spec
+unfolding programText countText
+put-program-spec = tie.close (tie.spec
     (λ c κs. search needs) (λ c. search needs) (λ c κs. search needs) (λ c. search needs) (λ c. search needs) (λ c. search needs)
-    (λ c κs. search needs) add-result (λ c. search needs) returns)
+    (λ c κs. search needs)
+    (λ c. used-fits (next (c .before .before .before .before .before .before .write-one .ensures) (c .before .before .put-instructions .ensures)) (search needs))
+    (λ c. search needs)
+    (λ c. rw (c .before .before .before .before .before .before .before .before .before .instructions .ensures) at (next (c .before .before .before .before .before .before .write-one .ensures) (c .before .before .put-instructions .ensures))))

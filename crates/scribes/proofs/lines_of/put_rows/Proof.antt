@@ -13,21 +13,9 @@ Inv-loop t₀ tables rows i count used₀ x₀ t used x = Turns (λ x. rowText r
 abbrev μ-loop : tie.MeasureT-loop
 μ-loop t₀ tables rows i count used₀ x₀ t used x = count - x
 
-loop-holds : tie.Need-loop-holds Inv-loop μ-loop
-loop-holds c = turns-none
-
-loop-again : tie.Need-loop-again Inv-loop μ-loop
-loop-again c = turns-more (c .before .before .before .before .before .before .loop .inv) (c .before .before .before .before .before .loop-test .taken) (rw (c .before .before .before .before .row-at .ensures) at (c .before .before .write-row .ensures))
-
-same-length : tie.Need-same-length Inv-loop μ-loop
-same-length c = c .before .loop .inv .same-length
-
-returns : tie.Need-returns Inv-loop μ-loop
-returns c = turns-all (c .before .loop .inv) (c .loop-test .left)
-
 pub put-rows-spec : {M : Type 1} → statement M
-put-rows-spec =
-    tie.close
-    (tie.spec
-    Inv-loop μ-loop loop-holds (λ c κs. search needs) (λ c. search needs) (λ c. search needs) (λ c. search needs) (λ c κs. search needs)
-    (λ c. search needs) (λ c. search needs) (λ c. search needs) loop-again same-length returns)
+put-rows-spec = tie.close (tie.spec
+    Inv-loop μ-loop (λ c. turns-none) (λ c κs. search needs) (λ c. search needs) (λ c. search needs) (λ c. search needs) (λ c κs. search needs)
+    (λ c. search needs) (λ c. search needs) (λ c. search needs)
+    (λ c. turns-more (c .before .before .before .before .before .before .loop .inv) (c .before .before .before .before .before .loop-test .taken) (rw (c .before .before .before .before .row-at .ensures) at (c .before .before .write-row .ensures)))
+    (λ c. c .before .loop .inv .same-length) (λ c. turns-all (c .before .loop .inv) (c .loop-test .left)))

@@ -4,16 +4,10 @@ use borrow.Author.Needs.{needs}
 use Rattle.scribes.proofs.lines_of.put_sheet.Statement.{statement}
 use Rattle.scribes.proofs.lines_of.put_sheet.Tie as tie
 
-add-result : tie.Need-add-result
-add-result c = used-fits (next (next (c .before .before .before .before .before .before .before .before .before .before .put-first .ensures) (c .before .before .before .before .before .before .put-types .ensures)) (c .before .before .put-program .ensures)) (search needs)
-
-returns : tie.Need-returns
-returns c = rw (sheet-parts _ _) at (rw (c .before .before .before .before .before .before .before .before .before .before .before .depth .ensures) at (next (next (c .before .before .before .before .before .before .before .before .before .before .put-first .ensures) (c .before .before .before .before .before .before .put-types .ensures)) (c .before .before .put-program .ensures)))
-
 pub put-sheet-spec : {M : Type 1} → statement M
-put-sheet-spec =
-    tie.close
-    (tie.spec
+put-sheet-spec = tie.close (tie.spec
     (λ c κs. search needs) (λ c κs. search needs) (λ c. search needs) (λ c. search needs) (λ c. search needs) (λ c κs. search needs)
-    (λ c. search needs) (λ c. search needs) (λ c. search needs) (λ c. search needs) (λ c κs. search needs) add-result (λ c. search needs)
-    returns)
+    (λ c. search needs) (λ c. search needs) (λ c. search needs) (λ c. search needs) (λ c κs. search needs)
+    (λ c. used-fits (next (next (c .before .before .before .before .before .before .before .before .before .before .put-first .ensures) (c .before .before .before .before .before .before .put-types .ensures)) (c .before .before .put-program .ensures)) (search needs))
+    (λ c. search needs)
+    (λ c. rw (sheet-parts _ _) at (rw (c .before .before .before .before .before .before .before .before .before .before .before .depth .ensures) at (next (next (c .before .before .before .before .before .before .before .before .before .before .put-first .ensures) (c .before .before .before .before .before .before .put-types .ensures)) (c .before .before .put-program .ensures)))))

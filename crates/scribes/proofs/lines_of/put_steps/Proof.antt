@@ -13,21 +13,9 @@ Inv-loop t₀ answer count used₀ j₀ t used j = Turns (λ j. stepText (stepRo
 abbrev μ-loop : tie.MeasureT-loop
 μ-loop t₀ answer count used₀ j₀ t used j = count - j
 
-loop-holds : tie.Need-loop-holds Inv-loop μ-loop
-loop-holds c = turns-none
-
-loop-again : tie.Need-loop-again Inv-loop μ-loop
-loop-again c = turns-more (c .before .before .before .before .before .loop .inv) (c .before .before .before .before .loop-test .taken) (c .before .before .put-step .ensures)
-
-same-length : tie.Need-same-length Inv-loop μ-loop
-same-length c = c .before .loop .inv .same-length
-
-returns : tie.Need-returns Inv-loop μ-loop
-returns c = turns-all (c .before .loop .inv) (c .loop-test .left)
-
 pub put-steps-spec : {M : Type 1} → statement M
-put-steps-spec =
-    tie.close
-    (tie.spec
-    Inv-loop μ-loop loop-holds (λ c. search needs) (λ c. search needs) (λ c. search needs) (λ c κs. search needs) (λ c. search needs)
-    (λ c. search needs) (λ c. search needs) loop-again same-length returns)
+put-steps-spec = tie.close (tie.spec
+    Inv-loop μ-loop (λ c. turns-none) (λ c. search needs) (λ c. search needs) (λ c. search needs) (λ c κs. search needs) (λ c. search needs)
+    (λ c. search needs) (λ c. search needs)
+    (λ c. turns-more (c .before .before .before .before .before .loop .inv) (c .before .before .before .before .loop-test .taken) (c .before .before .put-step .ensures))
+    (λ c. c .before .loop .inv .same-length) (λ c. turns-all (c .before .loop .inv) (c .loop-test .left)))

@@ -1,15 +1,9 @@
-use Rattle.inks.proofs.Laws.{next}
-use Rattle.scribes.proofs.Whole.{type-parts}
 use borrow.Author.Needs.{needs}
 use Rattle.scribes.proofs.lines_of.put_type.Statement.{statement}
 use Rattle.scribes.proofs.lines_of.put_type.Tie as tie
 
-returns : tie.Need-returns
-returns c = rw (type-parts _ _) at (next (c .before .before .before .before .before .before .put-head .ensures) (c .before .before .put-kinds .ensures))
-
 pub put-type-spec : {M : Type 1} → statement M
-put-type-spec =
-    tie.close
-    (tie.spec
-    (λ c κs. search needs) (λ c. search needs) (λ c. search needs) (λ c. search needs) (λ c κs. search needs) (λ c. search needs)
-    (λ c. search needs) returns)
+put-type-spec = tie.close (tie.spec
+    (λ c. search needs) (λ c κs. search needs) (λ c. search needs) (λ c κs. search needs) (λ c. search needs)
+    (λ c. rw (c .before .before .before .before .enum-told .given .1) (c .before .before .put-sheet-type .ensures)) (λ c. search needs)
+    (λ c. rw (c .before .before .before .before .enum-told2 .given .1) (c .before .before .put-form-type .ensures)))

@@ -5,13 +5,9 @@ use borrow.Author.Needs.{needs}
 use Rattle.scribes.proofs.lines_of.put_types.Statement.{statement}
 use Rattle.scribes.proofs.lines_of.put_types.Tie as tie
 
-returns : tie.Need-returns
-unfolding typesText countText
-returns c = rw (c .before .before .before .before .before .before .before .before .before .types .ensures) at (next (c .before .before .before .before .before .before .write-one .ensures) (c .before .before .put-each-type .ensures))
-
 pub put-types-spec : {M : Type 1} → statement M
-put-types-spec =
-    tie.close
-    (tie.spec
+unfolding typesText countText
+put-types-spec = tie.close (tie.spec
     (λ c κs. search needs) (λ c. search needs) (λ c κs. search needs) (λ c. search needs) (λ c. search needs) (λ c. search needs)
-    (λ c κs. search needs) (λ c. search needs) (λ c. search needs) returns)
+    (λ c κs. search needs) (λ c. search needs) (λ c. search needs)
+    (λ c. rw (c .before .before .before .before .before .before .before .before .before .types .ensures) at (next (c .before .before .before .before .before .before .write-one .ensures) (c .before .before .put-each-type .ensures))))

@@ -2,18 +2,8 @@ use borrow.Author.Needs.{needs}
 use Rattle.scribes.proofs.rows.count_of.Statement.{statement}
 use Rattle.scribes.proofs.rows.count_of.Tie as tie
 
-returns : tie.Need-returns
-returns c = rw (c .before .enum-told .given .1) (c .transitions-of .ensures)
-
-returns-2 : tie.Need-returns-2
-returns-2 c = rw (c .before .enum-told2 .given .1) (c .behaviors-of .ensures)
-
-returns-3 : tie.Need-returns-3
-returns-3 c = rw (c .before .enum-told3 .given .1) (c .ports-of .ensures)
-
 pub count-of-spec : {M : Type 1} → statement M
-count-of-spec =
-    tie.close
-    (tie.spec
-    (λ c. search needs) (λ c κs. search needs) (λ c. search needs) (λ c κs. search needs) (λ c. search needs) (λ c κs. search needs) returns
-    returns-2 returns-3)
+count-of-spec = tie.close (tie.spec
+    (λ c. search needs) (λ c κs. search needs) (λ c. search needs) (λ c κs. search needs) (λ c. search needs) (λ c κs. search needs)
+    (λ c. rw (c .before .enum-told .given .1) (c .transitions-of .ensures)) (λ c. rw (c .before .enum-told2 .given .1) (c .behaviors-of .ensures))
+    (λ c. rw (c .before .enum-told3 .given .1) (c .ports-of .ensures)))

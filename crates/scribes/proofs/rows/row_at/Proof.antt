@@ -2,18 +2,8 @@ use borrow.Author.Needs.{needs}
 use Rattle.scribes.proofs.rows.row_at.Statement.{statement}
 use Rattle.scribes.proofs.rows.row_at.Tie as tie
 
-returns : tie.Need-returns
-returns c = rw (c .before .enum-told .given .1) (c .transition-at .ensures)
-
-returns-2 : tie.Need-returns-2
-returns-2 c = rw (c .before .enum-told2 .given .1) (c .behavior-at .ensures)
-
-returns-3 : tie.Need-returns-3
-returns-3 c = rw (c .before .enum-told3 .given .1) (c .port-at .ensures)
-
 pub row-at-spec : {M : Type 1} → statement M
-row-at-spec =
-    tie.close
-    (tie.spec
-    (λ c. search needs) (λ c κs. search needs) (λ c. search needs) (λ c κs. search needs) (λ c. search needs) (λ c κs. search needs) returns
-    returns-2 returns-3)
+row-at-spec = tie.close (tie.spec
+    (λ c. search needs) (λ c κs. search needs) (λ c. search needs) (λ c κs. search needs) (λ c. search needs) (λ c κs. search needs)
+    (λ c. rw (c .before .enum-told .given .1) (c .transition-at .ensures)) (λ c. rw (c .before .enum-told2 .given .1) (c .behavior-at .ensures))
+    (λ c. rw (c .before .enum-told3 .given .1) (c .port-at .ensures)))

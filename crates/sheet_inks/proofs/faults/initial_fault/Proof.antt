@@ -6,12 +6,8 @@ use borrow.Author.Needs.{needs}
 use Rattle.sheet_inks.proofs.faults.initial_fault.Statement.{statement}
 use Rattle.sheet_inks.proofs.faults.initial_fault.Tie as tie
 
-returns : tie.Need-returns
-unfolding initialFault
-returns c = c .refuse-if2 .ensures ∙ rw (c .before .mask-ok .ensures, c .before .before .refuse-if .ensures, Bool·not-not (eqb (c .before .before .before .args .initial) 0))
-
 pub initial-fault-spec : {M : Type 1} → statement M
-initial-fault-spec =
-    tie.close
-    (tie.spec
-    (λ c κs. search needs) (λ c κs. search needs) (λ c κs. search needs) returns)
+unfolding initialFault
+initial-fault-spec = tie.close (tie.spec
+    (λ c κs. search needs) (λ c κs. search needs) (λ c κs. search needs)
+    (λ c. c .refuse-if2 .ensures ∙ rw (c .before .mask-ok .ensures, c .before .before .refuse-if .ensures, Bool·not-not (eqb (c .before .before .before .args .initial) 0))))

@@ -6,13 +6,8 @@ use borrow.Author.Needs.{needs}
 use Rattle.sheet_inks.proofs.faults.port_fault.Statement.{statement}
 use Rattle.sheet_inks.proofs.faults.port_fault.Tie as tie
 
-returns : tie.Need-returns
-unfolding portFault
-returns c = c .refuse-if3 .ensures ∙ rw (c .before .before .refuse-if2 .ensures, c .before .before .before .before .before .refuse-if .ensures, c .before .before .before .before .mask-ok .ensures, c .before .before .before .mask-ok2 .ensures, c .before .before .before .before .before .before .overlaps .ensures, Bool·not-not (overlaps _ _))
-
 pub port-fault-spec : {M : Type 1} → statement M
-port-fault-spec =
-    tie.close
-    (tie.spec
+unfolding portFault
+port-fault-spec = tie.close (tie.spec
     (λ c κs. search needs) (λ c κs. search needs) (λ c κs. search needs) (λ c κs. search needs) (λ c κs. search needs) (λ c κs. search needs)
-    returns)
+    (λ c. c .refuse-if3 .ensures ∙ rw (c .before .before .refuse-if2 .ensures, c .before .before .before .before .before .refuse-if .ensures, c .before .before .before .before .mask-ok .ensures, c .before .before .before .mask-ok2 .ensures, c .before .before .before .before .before .before .overlaps .ensures, Bool·not-not (overlaps _ _))))

@@ -6,12 +6,8 @@ use borrow.Author.Needs.{needs}
 use Rattle.sheet_inks.proofs.faults.tran_fault.Statement.{statement}
 use Rattle.sheet_inks.proofs.faults.tran_fault.Tie as tie
 
-returns : tie.Need-returns
-unfolding tranFault
-returns c = c .refuse-if2 .ensures ∙ rw (c .before .before .before .before .before .refuse-if .ensures, Bool·not-not (eqb _ _))
-
 pub tran-fault-spec : {M : Type 1} → statement M
-tran-fault-spec =
-    tie.close
-    (tie.spec
-    (λ c κs. search needs) (λ c κs. search needs) returns)
+unfolding tranFault
+tran-fault-spec = tie.close (tie.spec
+    (λ c κs. search needs) (λ c κs. search needs)
+    (λ c. c .refuse-if2 .ensures ∙ rw (c .before .before .before .before .before .refuse-if .ensures, Bool·not-not (eqb _ _))))

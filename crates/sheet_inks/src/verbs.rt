@@ -1,0 +1,103 @@
+// The lines of verbs, do= and step=: a row of a table each.
+use crate::faults::refuse_if;
+use crate::write_line;
+use forms::BAD_FORM;
+use forms::BEYOND_LIMIT;
+ghost use mathlib.Core.List.{_++_};
+ghost use mathlib.Core.Path.{_≡_};
+ghost use mathlib.Core.Bool.{not};
+ghost use Prim.Native.Nat.{_≤_};
+ghost use lib.ListN.{length, take};
+ghost use Rattle.reading.specs.Kinds.{anInstruction, aStep};
+ghost use Rattle.rules.specs.Refusal.{_⇒_∣_};
+ghost use Rattle.inks.specs.Written.{Written};
+ghost use Rattle.writing.specs.Kinds.{doText, doFault, stepText, stepFault};
+ghost use Rattle.sheet_inks.specs.Verbs.{numbersText, numbersOk, Says};
+
+// The key, how many bytes of it count, how many numbers follow, what each lies below, and the number of a line where they do.
+struct Verb([u8; 12], usize, u32, [u32; 4], u8);
+
+// In a sheet of so many types. A code that no line says has no word.
+fn do_verb(types: u32, verb: u32) -> Verb
+    ensures { λ r. ⌜ Says r (λ a b c d. doText (anInstruction verb a b c d)) (λ a b c d. doFault types (anInstruction verb a b c d)) ⌝ }
+{
+    match verb {
+        0 => Verb(*b"do=add,     ", 7, 2, [32, types, 0, 0], 0),
+        1 => Verb(*b"do=del,     ", 7, 1, [32, 0, 0, 0], 0),
+        2 => Verb(*b"do=pushb,   ", 9, 2, [32, 8, 0, 0], 0),
+        3 => Verb(*b"do=con,     ", 7, 4, [32, 16, 32, 16], 0),
+        4 => Verb(*b"do=dcon,    ", 8, 4, [32, 16, 32, 16], 0),
+        5 => Verb(*b"do=wait,    ", 8, 1, [32, 0, 0, 0], 0),
+        _ => Verb(*b"do=\n        ", 4, 0, [0; 4], BAD_FORM),
+    }
+}
+
+fn step_verb(verb: u32) -> Verb
+    ensures { λ r. ⌜ Says r (λ a b c d. stepText (aStep verb a b)) (λ a b c d. stepFault (aStep verb a b)) ⌝ }
+{
+    match verb {
+        0 => Verb(*b"step=next\n  ", 10, 0, [0; 4], 0),
+        1 => Verb(*b"step=fire,  ", 10, 2, [32, 16, 0, 0], 0),
+        2 => Verb(*b"step=end,   ", 9, 2, [32, 32, 0, 0], 0),
+        3 => Verb(*b"step=enter, ", 11, 2, [32, 16, 0, 0], 0),
+        4 => Verb(*b"step=finish,", 12, 1, [32, 0, 0, 0], 0),
+        _ => Verb(*b"step=\n      ", 6, 0, [0; 4], BAD_FORM),
+    }
+}
+
+fn write_verb(t: &mut [u8], verb: Verb, a: u32, b: u32, c: u32, d: u32) -> usize
+    requires { ⌜ verb .1 ≤ length (verb .0) ⌝ }
+    ensures { λ r. ⌜ Written (now (t .entry)) (take (verb .1) (verb .0) ++ numbersText (verb .2) a b c d) (now (t .exit)) 0 r ⌝ }
+{
+    let key = verb.0;
+    let n = verb.1;
+    write_line(t, &key[..n], verb.2, a, b, c, d)
+}
+
+fn within(count: u32, below: [u32; 4], a: u32, b: u32, c: u32, d: u32) -> bool
+    ensures { λ r. ⌜ r ≡ numbersOk count below a b c d ⌝ }
+{
+    match count {
+        0 => true,
+        1 => a < below[0],
+        2 => (a < below[0]) & (b < below[1]),
+        _ => (a < below[0]) & ((b < below[1]) & ((c < below[2]) & (d < below[3]))),
+    }
+}
+
+fn verb_fault(verb: Verb, a: u32, b: u32, c: u32, d: u32) -> u8
+    ensures { λ r. ⌜ r ≡ (not (numbersOk (verb .2) (verb .3) a b c d) ⇒ 3 ∣ verb .4) ⌝ }
+{
+    let below = verb.3;
+    let ok = within(verb.2, below, a, b, c, d);
+    refuse_if(!ok, BEYOND_LIMIT, verb.4)
+}
+
+// do=
+pub fn write_do(t: &mut [u8], verb: u32, a: u32, b: u32, c: u32, d: u32) -> usize
+    ensures { λ r. ⌜ Written (now (t .entry)) (doText (anInstruction verb a b c d)) (now (t .exit)) 0 r ⌝ }
+{
+    let v = do_verb(0, verb);
+    write_verb(t, v, a, b, c, d)
+}
+
+// In a sheet of so many types.
+pub fn do_fault(types: u32, verb: u32, a: u32, b: u32, c: u32, d: u32) -> u8
+    ensures { λ r. ⌜ r ≡ doFault types (anInstruction verb a b c d) ⌝ }
+{
+    verb_fault(do_verb(types, verb), a, b, c, d)
+}
+
+// step=
+pub fn write_step(t: &mut [u8], verb: u32, id: u32, number: u32) -> usize
+    ensures { λ r. ⌜ Written (now (t .entry)) (stepText (aStep verb id number)) (now (t .exit)) 0 r ⌝ }
+{
+    let v = step_verb(verb);
+    write_verb(t, v, id, number, 0, 0)
+}
+
+pub fn step_fault(verb: u32, id: u32, number: u32) -> u8
+    ensures { λ r. ⌜ r ≡ stepFault (aStep verb id number) ⌝ }
+{
+    verb_fault(step_verb(verb), id, number, 0, 0)
+}
