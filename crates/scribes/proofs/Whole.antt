@@ -26,7 +26,8 @@ use Rattle.writing.specs.Texts.{firstOf, typeText, typeFault, sheetText, sheetF
 use Rattle.writing.specs.Buffer.{writeNumber, penned, Penned}
 use Rattle.writing.proofs.Turns.{or-assoc}
 use Rattle.sheet_lines.specs.declared.Rows.the-variants.{Transitions, Behaviors, Ports}
-use Rattle.scribes.specs.Parts.{knownOf, rowsFault, kindText, kindFault, kindsText, headText, headFault, firstText, typesText, typesFault, programText, programFault}
+use Rattle.scribes.specs.Parts.{knownOf, rowsFault, kindText, kindFault, kindsText, headText, headFault, firstText, typesText, programText, partFault}
+use Rattle.scribes.specs.declared.parts.Part.the-variants.{Types, Instructions}
 
 pub type-parts : (t : Tables) (i : ℕ) → headText t i ++ kindsText t i ≡ typeText t i
 unfolding headText kindsText kindText typeText
@@ -49,10 +50,10 @@ type-numbers t i =
     two-pairs (limitFault (placesOk (v .places))) (initialFault (v .places) (v .initial)) (limitFault (transitionsOk (v .transitions))) (rowsFault Transitions t i (knownOf v) (v .transitions))
     (limitFault (behaviorsOk (v .behaviors))) (rowsFault Behaviors t i (knownOf v) (v .behaviors)) (limitFault (portsOk (v .ports))) (rowsFault Ports t i (knownOf v) (v .ports))
 
-pub sheet-numbers : (t : Tables) (p : Program) → orNumber (limitFault (depthOk (t .depth))) (orNumber (typesFault t) (programFault (t .count) p)) ≡ sheetFault t p
-unfolding typesFault programFault sheetFault
+pub sheet-numbers : (t : Tables) (p : Program) → orNumber (limitFault (depthOk (t .depth))) (orNumber (partFault Types t p) (partFault Instructions t p)) ≡ sheetFault t p
+unfolding partFault sheetFault
 sheet-numbers t p =
-    ap (λ (n : ℕ). orNumber (limitFault (depthOk (t .depth))) n) (sym (or-assoc (limitFault (typesOk (t .count))) (firstOf (typeFault t) (t .count)) (programFault (t .count) p)))
+    ap (λ (n : ℕ). orNumber (limitFault (depthOk (t .depth))) n) (sym (or-assoc (limitFault (typesOk (t .count))) (firstOf (typeFault t) (t .count)) (partFault Instructions t p)))
 
 -- ---- the lent buffer
 -- what is asked of a length, for a length cut at one byte more than a text may have

@@ -3,15 +3,23 @@ use Prim.Native.Nat.{ℕ}
 use mathlib.Core.List.{List, _++_}
 use Rattle.model.specs.declared.Tables.{Tables}
 use Rattle.model.specs.declared.Program.{Program}
-use Rattle.writing.specs.Texts.{typeText, sheetText}
-use Rattle.scribes.specs.declared.lines_of.Layout.{Layout}
-use Rattle.scribes.specs.declared.lines_of.Layout.the-variants.{Sheet, Form}
+use Rattle.writing.specs.Kinds.{doText}
+use Rattle.writing.specs.Texts.{instructionRow, typeText, sheetText}
+use Rattle.scribes.specs.declared.parts.Layout.{Layout}
+use Rattle.scribes.specs.declared.parts.Layout.the-variants.{Sheet, Form}
+use Rattle.scribes.specs.declared.parts.Part.{Part}
+use Rattle.scribes.specs.declared.parts.Part.the-variants.{Types, Instructions}
 use Rattle.scribes.specs.Form.{typeLinesText, typeRowsText, formLines}
 
 -- type i
 abbrev pub typeAs : Layout → Tables → ℕ → List ℕ
 typeAs Sheet t i = typeText t i
 typeAs Form t i = typeLinesText t i ++ typeRowsText t i
+
+-- line i of a part, and the whole
+abbrev pub lineAs : Layout → Part → Tables → Program → ℕ → List ℕ
+lineAs l Types t p i = typeAs l t i
+lineAs l Instructions t p i = doText (instructionRow p i)
 
 abbrev pub textAs : Layout → Tables → Program → List ℕ
 textAs Sheet t p = sheetText t p

@@ -20,6 +20,8 @@ use Rattle.sheet_lines.specs.declared.Rows.{Rows}
 use Rattle.sheet_lines.specs.declared.Rows.the-variants.{Transitions, Behaviors, Ports}
 use Rattle.sheet_lines.specs.Rows.{transitionRow, behaviorRow, portRow}
 use Rattle.sheet_inks.specs.Rows.{rowText, rowFault}
+use Rattle.scribes.specs.declared.parts.Part.{Part}
+use Rattle.scribes.specs.declared.parts.Part.the-variants.{Types, Instructions}
 
 -- row x of type i
 abbrev pub rowAt : Rows → Tables → ℕ → ℕ → Row
@@ -79,11 +81,21 @@ firstText d = countText (bytes "sheet=") 1 ++ countText (bytes "depth=") d
 unfoldable pub typesText : Tables → List ℕ
 typesText t = countText (bytes "types=") (t .count) ++ inTurn (typeText t) (t .count)
 
-unfoldable pub typesFault : Tables → ℕ
-typesFault t = orNumber (limitFault (typesOk (t .count))) (firstOf (typeFault t) (t .count))
-
 unfoldable pub programText : Program → List ℕ
 programText p = countText (bytes "program=") (p .count) ++ inTurn (λ j. doText (instructionRow p j)) (p .count)
 
-unfoldable pub programFault : ℕ → Program → ℕ
-programFault n p = orNumber (limitFault (programOk (p .count))) (firstOf (λ j. doFault n (instructionRow p j)) (p .count))
+abbrev pub partCount : Part → Tables → Program → ℕ
+partCount Types t p = t .count
+partCount Instructions t p = p .count
+
+abbrev pub partOk : Part → ℕ → Bool
+partOk Types n = typesOk n
+partOk Instructions n = programOk n
+
+-- the number of type i, of instruction i, and of the whole part
+abbrev pub lineFault : Part → Tables → Program → ℕ → ℕ
+lineFault Types t p i = typeFault t i
+lineFault Instructions t p i = doFault (t .count) (instructionRow p i)
+
+unfoldable pub partFault : Part → Tables → Program → ℕ
+partFault k t p = orNumber (limitFault (partOk k (partCount k t p))) (firstOf (lineFault k t p) (partCount k t p))

@@ -1,6 +1,11 @@
 // The number of the first line at fault, 0 where there is none. Rows are looked at only where their count is within its limit.
+use crate::parts::Part;
+use crate::parts::part_count;
+use crate::parts::part_ok;
 use crate::rows::count_of;
+use crate::rows::instruction_at;
 use crate::rows::row_at;
+use crate::rows::step_at;
 use sheet_inks::faults::initial_fault;
 use sheet_inks::faults::limit_fault;
 use sheet_inks::faults::row_fault;
@@ -11,16 +16,7 @@ use sheet_lines::Rows;
 use words::AnswerWords;
 use words::ProgramWords;
 use words::TableWords;
-use words::answer::step_id;
-use words::answer::step_number;
-use words::answer::step_verb;
 use words::answer::steps;
-use words::program::instruction_id;
-use words::program::instruction_number;
-use words::program::instruction_provideport;
-use words::program::instruction_provider;
-use words::program::instruction_verb;
-use words::program::instructions;
 use words::tables::depth;
 use words::tables::initial_of;
 use words::tables::places_of;
@@ -30,9 +26,8 @@ ghost use mathlib.Core.Path.{_≡_};
 ghost use Rattle.rules.specs.Refusal.{orNumber};
 ghost use Rattle.words.specs.Words.{tablesIn, programIn, answerIn};
 ghost use Rattle.model.specs.View.{typeOf};
-ghost use Rattle.writing.specs.Kinds.{doFault, stepFault};
-ghost use Rattle.writing.specs.Texts.{instructionRow, stepRow, typeFault, sheetFault, answerFault};
-ghost use Rattle.scribes.specs.Parts.{knownOf, kindFault, headFault, typesFault, programFault, countOk};
+ghost use Rattle.writing.specs.Texts.{typeFault, sheetFault, answerFault};
+ghost use Rattle.scribes.specs.Parts.{knownOf, kindFault, headFault, lineFault, partFault, countOk};
 
 // The number a, or b where a is none.
 fn or_number(a: u8, b: u8) -> u8
@@ -97,39 +92,25 @@ fn type_fault(tables: &TableWords, i: u32) -> u8
     or_number(head, or_number(ends, or_number(sets, groups)))
 }
 
-fn types_fault(tables: &TableWords) -> u8
-    ensures { λ r. ⌜ r ≡ typesFault (tablesIn (now (tables .entry))) ⌝ }
+// Type i, or instruction i.
+fn line_fault(part: Part, tables: &TableWords, program: &ProgramWords, i: u32) -> u8
+    ensures { λ r. ⌜ r ≡ lineFault part (tablesIn (now (tables .entry))) (programIn (now (program .entry))) i ⌝ }
 {
-    let count = types(tables);
-    let mut n = limit_fault((1 <= count) & (count <= 16));
+    match part {
+        Part::Types => type_fault(tables, i),
+        Part::Instructions => do_fault(types(tables), instruction_at(program, i)),
+    }
+}
+
+fn part_fault(part: Part, tables: &TableWords, program: &ProgramWords) -> u8
+    ensures { λ r. ⌜ r ≡ partFault part (tablesIn (now (tables .entry))) (programIn (now (program .entry))) ⌝ }
+{
+    let count = part_count(part, tables, program);
+    let mut n = limit_fault(part_ok(part, count));
     let mut i: u32 = 0;
     while (n == 0) & (i < count) {
-        n = type_fault(tables, i);
+        n = line_fault(part, tables, program, i);
         i += 1;
-    }
-    n
-}
-
-fn instruction_fault(types: u32, program: &ProgramWords, j: u32) -> u8
-    ensures { λ r. ⌜ r ≡ doFault types (instructionRow (programIn (now (program .entry))) j) ⌝ }
-{
-    let verb = instruction_verb(program, j);
-    let id = instruction_id(program, j);
-    let number = instruction_number(program, j);
-    let provider = instruction_provider(program, j);
-    let provideport = instruction_provideport(program, j);
-    do_fault(types, verb, id, number, provider, provideport)
-}
-
-fn program_fault(types: u32, program: &ProgramWords) -> u8
-    ensures { λ r. ⌜ r ≡ programFault types (programIn (now (program .entry))) ⌝ }
-{
-    let count = instructions(program);
-    let mut n = limit_fault(count <= 256);
-    let mut j: u32 = 0;
-    while (n == 0) & (j < count) {
-        n = instruction_fault(types, program, j);
-        j += 1;
     }
     n
 }
@@ -138,18 +119,9 @@ pub(crate) fn sheet_fault(tables: &TableWords, program: &ProgramWords) -> u8
     ensures { λ r. ⌜ r ≡ sheetFault (tablesIn (now (tables .entry))) (programIn (now (program .entry))) ⌝ }
 {
     let deep = limit_fault(depth(tables) <= 8);
-    let rows = types_fault(tables);
-    let lines = program_fault(types(tables), program);
+    let rows = part_fault(Part::Types, tables, program);
+    let lines = part_fault(Part::Instructions, tables, program);
     or_number(deep, or_number(rows, lines))
-}
-
-fn step_fault_at(answer: &AnswerWords, j: u32) -> u8
-    ensures { λ r. ⌜ r ≡ stepFault (stepRow (answerIn (now (answer .entry))) j) ⌝ }
-{
-    let verb = step_verb(answer, j);
-    let id = step_id(answer, j);
-    let number = step_number(answer, j);
-    step_fault(verb, id, number)
 }
 
 pub(crate) fn answer_fault(answer: &AnswerWords) -> u8
@@ -159,7 +131,7 @@ pub(crate) fn answer_fault(answer: &AnswerWords) -> u8
     let mut n = limit_fault(count <= 1024);
     let mut j: u32 = 0;
     while (n == 0) & (j < count) {
-        n = step_fault_at(answer, j);
+        n = step_fault(step_at(answer, j));
         j += 1;
     }
     n

@@ -1,9 +1,9 @@
 // Tables and a program as the lines of a form, each written into the part of the buffer that is still free.
-use crate::lines_of::Layout;
-use crate::lines_of::put_each_type;
-use crate::lines_of::put_instructions;
+use crate::lines_of::put_lines;
 use crate::lines_of::put_rows;
 use crate::lines_of::put_sheet;
+use crate::parts::Layout;
+use crate::parts::Part;
 use crate::rows::count_of;
 use sheet_inks::write_initial;
 use sheet_inks::write_one;
@@ -58,8 +58,23 @@ fn put_form(t: &mut [u8], tables: &TableWords, program: &ProgramWords) -> usize
     let count = types(tables);
     let lines = instructions(program);
     let mut used = write_one(t, b"depth=", deep);
-    used += put_each_type(&mut t[used..], Layout::Form, tables, count);
-    used + put_instructions(&mut t[used..], program, lines)
+    used += put_lines(
+        &mut t[used..],
+        Layout::Form,
+        Part::Types,
+        tables,
+        program,
+        count,
+    );
+    used
+        + put_lines(
+            &mut t[used..],
+            Layout::Form,
+            Part::Instructions,
+            tables,
+            program,
+            lines,
+        )
 }
 
 pub(crate) fn put_text(

@@ -3,6 +3,7 @@
 mod faults;
 mod filled;
 mod lines_of;
+mod parts;
 mod rows;
 
 use faults::answer_fault;
@@ -11,8 +12,8 @@ use filled::put_text;
 use forms::BUFFER_SHORT;
 use forms::TOO_LONG;
 use lines::LONGEST;
-use lines_of::Layout;
 use lines_of::put_answer;
+use parts::Layout;
 use words::AnswerWords;
 use words::ProgramWords;
 use words::TableWords;

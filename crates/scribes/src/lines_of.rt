@@ -1,7 +1,11 @@
 // The lines in order: each is written into the part of the buffer that is still free, and cut at its end.
 use crate::filled::put_form_type;
+use crate::parts::Layout;
+use crate::parts::Part;
 use crate::rows::count_of;
+use crate::rows::instruction_at;
 use crate::rows::row_at;
+use crate::rows::step_at;
 use sheet_inks::verbs::write_do;
 use sheet_inks::verbs::write_step;
 use sheet_inks::write_initial;
@@ -11,15 +15,7 @@ use sheet_lines::Rows;
 use words::AnswerWords;
 use words::ProgramWords;
 use words::TableWords;
-use words::answer::step_id;
-use words::answer::step_number;
-use words::answer::step_verb;
 use words::answer::steps;
-use words::program::instruction_id;
-use words::program::instruction_number;
-use words::program::instruction_provideport;
-use words::program::instruction_provider;
-use words::program::instruction_verb;
 use words::program::instructions;
 use words::tables::depth;
 use words::tables::initial_of;
@@ -29,10 +25,10 @@ ghost use Rattle.forms.specs.Write.{inTurn};
 ghost use Rattle.report.specs.Report.{countText};
 ghost use Rattle.inks.specs.Written.{Written};
 ghost use Rattle.words.specs.Words.{tablesIn, programIn, answerIn};
-ghost use Rattle.writing.specs.Kinds.{doText, stepText};
-ghost use Rattle.writing.specs.Texts.{instructionRow, stepRow, typeText, sheetText, answerText};
+ghost use Rattle.writing.specs.Kinds.{stepText};
+ghost use Rattle.writing.specs.Texts.{stepRow, typeText, sheetText, answerText};
 ghost use Rattle.scribes.specs.Parts.{keyOf, rowsText, kindText, kindsText, headText, firstText, typesText, programText};
-ghost use Rattle.scribes.specs.Layouts.{typeAs};
+ghost use Rattle.scribes.specs.Layouts.{typeAs, lineAs};
 
 // So many rows of type i.
 pub(crate) fn put_rows(t: &mut [u8], tables: &TableWords, rows: Rows, i: u32, count: u32) -> usize
@@ -93,12 +89,6 @@ fn put_sheet_type(t: &mut [u8], tables: &TableWords, i: u32) -> usize
     used + put_kinds(&mut t[used..], tables, i)
 }
 
-// How tables and a program are written: as a sheet, or as the lines of a form.
-pub(crate) enum Layout {
-    Sheet,
-    Form,
-}
-
 fn put_type(t: &mut [u8], layout: Layout, tables: &TableWords, i: u32) -> usize
     ensures { λ r. ⌜ Written (now (t .entry)) (typeAs layout (tablesIn (now (tables .entry))) i) (now (t .exit)) 0 r ⌝ }
 {
@@ -108,57 +98,76 @@ fn put_type(t: &mut [u8], layout: Layout, tables: &TableWords, i: u32) -> usize
     }
 }
 
-pub(crate) fn put_each_type(t: &mut [u8], layout: Layout, tables: &TableWords, count: u32) -> usize
-    ensures { λ r. ⌜ Written (now (t .entry)) (inTurn (typeAs layout (tablesIn (now (tables .entry)))) count) (now (t .exit)) 0 r ⌝ }
+// Type i, or instruction i.
+fn put_line(
+    t: &mut [u8],
+    layout: Layout,
+    part: Part,
+    tables: &TableWords,
+    program: &ProgramWords,
+    i: u32,
+) -> usize
+    ensures { λ r. ⌜ Written (now (t .entry)) (lineAs layout part (tablesIn (now (tables .entry))) (programIn (now (program .entry))) i) (now (t .exit)) 0 r ⌝ }
+{
+    match part {
+        Part::Types => put_type(t, layout, tables, i),
+        Part::Instructions => write_do(t, instruction_at(program, i)),
+    }
+}
+
+// So many lines of a part.
+pub(crate) fn put_lines(
+    t: &mut [u8],
+    layout: Layout,
+    part: Part,
+    tables: &TableWords,
+    program: &ProgramWords,
+    count: u32,
+) -> usize
+    ensures { λ r. ⌜ Written (now (t .entry)) (inTurn (lineAs layout part (tablesIn (now (tables .entry))) (programIn (now (program .entry)))) count)
+        (now (t .exit)) 0 r ⌝ }
 {
     let mut used: usize = 0;
     let mut i: u32 = 0;
     while i < count {
-        used += put_type(&mut t[used..], layout, tables, i);
+        used += put_line(&mut t[used..], layout, part, tables, program, i);
         i += 1;
     }
     used
 }
 
 // types= and the types
-fn put_types(t: &mut [u8], tables: &TableWords) -> usize
+fn put_types(t: &mut [u8], tables: &TableWords, program: &ProgramWords) -> usize
     ensures { λ r. ⌜ Written (now (t .entry)) (typesText (tablesIn (now (tables .entry)))) (now (t .exit)) 0 r ⌝ }
 {
     let count = types(tables);
     let used = write_one(t, b"types=", count);
-    used + put_each_type(&mut t[used..], Layout::Sheet, tables, count)
-}
-
-fn put_instruction(t: &mut [u8], program: &ProgramWords, j: u32) -> usize
-    ensures { λ r. ⌜ Written (now (t .entry)) (doText (instructionRow (programIn (now (program .entry))) j)) (now (t .exit)) 0 r ⌝ }
-{
-    let verb = instruction_verb(program, j);
-    let id = instruction_id(program, j);
-    let number = instruction_number(program, j);
-    let provider = instruction_provider(program, j);
-    let provideport = instruction_provideport(program, j);
-    write_do(t, verb, id, number, provider, provideport)
-}
-
-pub(crate) fn put_instructions(t: &mut [u8], program: &ProgramWords, count: u32) -> usize
-    ensures { λ r. ⌜ Written (now (t .entry)) (inTurn (λ j. doText (instructionRow (programIn (now (program .entry))) j)) count) (now (t .exit)) 0 r ⌝ }
-{
-    let mut used: usize = 0;
-    let mut j: u32 = 0;
-    while j < count {
-        used += put_instruction(&mut t[used..], program, j);
-        j += 1;
-    }
     used
+        + put_lines(
+            &mut t[used..],
+            Layout::Sheet,
+            Part::Types,
+            tables,
+            program,
+            count,
+        )
 }
 
 // program= and the instructions
-fn put_program(t: &mut [u8], program: &ProgramWords) -> usize
+fn put_program(t: &mut [u8], tables: &TableWords, program: &ProgramWords) -> usize
     ensures { λ r. ⌜ Written (now (t .entry)) (programText (programIn (now (program .entry)))) (now (t .exit)) 0 r ⌝ }
 {
     let count = instructions(program);
     let used = write_one(t, b"program=", count);
-    used + put_instructions(&mut t[used..], program, count)
+    used
+        + put_lines(
+            &mut t[used..],
+            Layout::Sheet,
+            Part::Instructions,
+            tables,
+            program,
+            count,
+        )
 }
 
 // sheet=, depth=
@@ -173,17 +182,8 @@ pub(crate) fn put_sheet(t: &mut [u8], tables: &TableWords, program: &ProgramWord
     ensures { λ r. ⌜ Written (now (t .entry)) (sheetText (tablesIn (now (tables .entry))) (programIn (now (program .entry)))) (now (t .exit)) 0 r ⌝ }
 {
     let mut used = put_first(t, depth(tables));
-    used += put_types(&mut t[used..], tables);
-    used + put_program(&mut t[used..], program)
-}
-
-fn put_step(t: &mut [u8], answer: &AnswerWords, j: u32) -> usize
-    ensures { λ r. ⌜ Written (now (t .entry)) (stepText (stepRow (answerIn (now (answer .entry))) j)) (now (t .exit)) 0 r ⌝ }
-{
-    let verb = step_verb(answer, j);
-    let id = step_id(answer, j);
-    let number = step_number(answer, j);
-    write_step(t, verb, id, number)
+    used += put_types(&mut t[used..], tables, program);
+    used + put_program(&mut t[used..], tables, program)
 }
 
 fn put_steps(t: &mut [u8], answer: &AnswerWords, count: u32) -> usize
@@ -192,7 +192,7 @@ fn put_steps(t: &mut [u8], answer: &AnswerWords, count: u32) -> usize
     let mut used: usize = 0;
     let mut j: u32 = 0;
     while j < count {
-        used += put_step(&mut t[used..], answer, j);
+        used += write_step(&mut t[used..], step_at(answer, j));
         j += 1;
     }
     used

@@ -1,7 +1,18 @@
-// The rows of a type in the words of the tables, by their kind.
+// The rows of a type in the words of the tables, by their kind; the instructions and the steps, as lines say them.
+use sheet_inks::verbs::Said;
 use sheet_lines::Row;
 use sheet_lines::Rows;
+use words::AnswerWords;
+use words::ProgramWords;
 use words::TableWords;
+use words::answer::step_id;
+use words::answer::step_number;
+use words::answer::step_verb;
+use words::program::instruction_id;
+use words::program::instruction_number;
+use words::program::instruction_provideport;
+use words::program::instruction_provider;
+use words::program::instruction_verb;
 use words::tables::behavior_of;
 use words::tables::behaviors_of;
 use words::tables::destination;
@@ -13,7 +24,9 @@ use words::tables::source;
 use words::tables::transitions_of;
 ghost use mathlib.Core.Path.{_≡_};
 ghost use Rattle.model.specs.View.{typeOf, source, destination, behaviorOf, portKind, groupPlaces, groupTransitions};
-ghost use Rattle.words.specs.Words.{tablesIn};
+ghost use Rattle.words.specs.Words.{tablesIn, programIn, answerIn};
+ghost use Rattle.writing.specs.Texts.{instructionRow, stepRow};
+ghost use Rattle.sheet_inks.specs.Verbs.{asInstruction, asStep};
 ghost use Rattle.sheet_lines.specs.Rows.{transitionRow, behaviorRow, portRow};
 ghost use Rattle.scribes.specs.Parts.{rowAt, countOf};
 
@@ -79,5 +92,39 @@ pub(crate) fn row_at(tables: &TableWords, rows: Rows, i: u32, x: u32) -> Row
         Rows::Transitions => transition_at(tables, i, x),
         Rows::Behaviors => behavior_at(tables, i, x),
         Rows::Ports => port_at(tables, i, x),
+    }
+}
+
+// Instruction j.
+pub(crate) fn instruction_at(program: &ProgramWords, j: u32) -> Said
+    ensures { λ r. ⌜ asInstruction r ≡ instructionRow (programIn (now (program .entry))) j ⌝ }
+{
+    let verb = instruction_verb(program, j);
+    let id = instruction_id(program, j);
+    let number = instruction_number(program, j);
+    let provider = instruction_provider(program, j);
+    let provideport = instruction_provideport(program, j);
+    Said {
+        verb,
+        id,
+        number,
+        provider,
+        provideport,
+    }
+}
+
+// Step j.
+pub(crate) fn step_at(answer: &AnswerWords, j: u32) -> Said
+    ensures { λ r. ⌜ asStep r ≡ stepRow (answerIn (now (answer .entry))) j ⌝ }
+{
+    let verb = step_verb(answer, j);
+    let id = step_id(answer, j);
+    let number = step_number(answer, j);
+    Said {
+        verb,
+        id,
+        number,
+        provider: 0,
+        provideport: 0,
     }
 }

@@ -7,7 +7,17 @@ use lib.Dec.{eqb, ltb}
 use lib.ListN.{length, take, getD}
 use Rattle.forms.specs.Write.{oneText, twoText, fourText}
 use Rattle.rules.specs.Refusal.{_⇒_∣_}
+use Rattle.model.specs.declared.Instruction.{Instruction}
+use Rattle.model.specs.declared.Step.{Step}
+use Rattle.sheet_inks.specs.declared.verbs.Said.{Said}
 use Rattle.sheet_inks.specs.declared.verbs.Verb.{Verb}
+
+-- what a line says, as an instruction and as a step
+abbrev pub asInstruction : Said → Instruction
+asInstruction x = record { verb = x .verb; id = x .id; number = x .number; provider = x .provider; provideport = x .provideport }
+
+abbrev pub asStep : Said → Step
+asStep x = record { verb = x .verb; id = x .id; number = x .number }
 
 -- n numbers to the line's end, nothing where it has none
 unfoldable pub numbersText : ℕ → ℕ → ℕ → ℕ → ℕ → List ℕ

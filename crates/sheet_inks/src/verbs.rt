@@ -12,7 +12,16 @@ ghost use Rattle.reading.specs.Kinds.{anInstruction, aStep};
 ghost use Rattle.rules.specs.Refusal.{_⇒_∣_};
 ghost use Rattle.inks.specs.Written.{Written};
 ghost use Rattle.writing.specs.Kinds.{doText, doFault, stepText, stepFault};
-ghost use Rattle.sheet_inks.specs.Verbs.{numbersText, numbersOk, Says};
+ghost use Rattle.sheet_inks.specs.Verbs.{asInstruction, asStep, numbersText, numbersOk, Says};
+
+// What a line says: a verb's code and numbers, 0 for those that it has not.
+pub struct Said {
+    pub verb: u32,
+    pub id: u32,
+    pub number: u32,
+    pub provider: u32,
+    pub provideport: u32,
+}
 
 // The key, how many bytes of it count, how many numbers follow, what each lies below, and the number of a line where they do.
 struct Verb([u8; 12], usize, u32, [u32; 4], u8);
@@ -45,59 +54,72 @@ fn step_verb(verb: u32) -> Verb
     }
 }
 
-fn write_verb(t: &mut [u8], verb: Verb, a: u32, b: u32, c: u32, d: u32) -> usize
+fn write_verb(t: &mut [u8], verb: Verb, x: Said) -> usize
     requires { ⌜ verb .1 ≤ length (verb .0) ⌝ }
-    ensures { λ r. ⌜ Written (now (t .entry)) (take (verb .1) (verb .0) ++ numbersText (verb .2) a b c d) (now (t .exit)) 0 r ⌝ }
+    ensures { λ r. ⌜ Written (now (t .entry)) (take (verb .1) (verb .0) ++ numbersText (verb .2) (x .id) (x .number) (x .provider) (x .provideport))
+        (now (t .exit)) 0 r ⌝ }
 {
     let key = verb.0;
     let n = verb.1;
-    write_line(t, &key[..n], verb.2, a, b, c, d)
+    write_line(
+        t,
+        &key[..n],
+        verb.2,
+        x.id,
+        x.number,
+        x.provider,
+        x.provideport,
+    )
 }
 
-fn within(count: u32, below: [u32; 4], a: u32, b: u32, c: u32, d: u32) -> bool
-    ensures { λ r. ⌜ r ≡ numbersOk count below a b c d ⌝ }
+fn within(count: u32, below: [u32; 4], x: Said) -> bool
+    ensures { λ r. ⌜ r ≡ numbersOk count below (x .id) (x .number) (x .provider) (x .provideport) ⌝ }
 {
+    let id = x.id < below[0];
+    let number = x.number < below[1];
+    let provider = x.provider < below[2];
+    let provideport = x.provideport < below[3];
     match count {
         0 => true,
-        1 => a < below[0],
-        2 => (a < below[0]) & (b < below[1]),
-        _ => (a < below[0]) & ((b < below[1]) & ((c < below[2]) & (d < below[3]))),
+        1 => id,
+        2 => id & number,
+        _ => id & (number & (provider & provideport)),
     }
 }
 
-fn verb_fault(verb: Verb, a: u32, b: u32, c: u32, d: u32) -> u8
-    ensures { λ r. ⌜ r ≡ (not (numbersOk (verb .2) (verb .3) a b c d) ⇒ 3 ∣ verb .4) ⌝ }
+fn verb_fault(verb: Verb, x: Said) -> u8
+    ensures { λ r. ⌜ r ≡ (not (numbersOk (verb .2) (verb .3) (x .id) (x .number) (x .provider) (x .provideport)) ⇒ 3 ∣ verb .4) ⌝ }
 {
     let below = verb.3;
-    let ok = within(verb.2, below, a, b, c, d);
+    let ok = within(verb.2, below, x);
     refuse_if(!ok, BEYOND_LIMIT, verb.4)
 }
 
 // do=
-pub fn write_do(t: &mut [u8], verb: u32, a: u32, b: u32, c: u32, d: u32) -> usize
-    ensures { λ r. ⌜ Written (now (t .entry)) (doText (anInstruction verb a b c d)) (now (t .exit)) 0 r ⌝ }
+pub fn write_do(t: &mut [u8], x: Said) -> usize
+    ensures { λ r. ⌜ Written (now (t .entry)) (doText (asInstruction x)) (now (t .exit)) 0 r ⌝ }
 {
-    let v = do_verb(0, verb);
-    write_verb(t, v, a, b, c, d)
+    let verb = do_verb(0, x.verb);
+    write_verb(t, verb, x)
 }
 
 // In a sheet of so many types.
-pub fn do_fault(types: u32, verb: u32, a: u32, b: u32, c: u32, d: u32) -> u8
-    ensures { λ r. ⌜ r ≡ doFault types (anInstruction verb a b c d) ⌝ }
+pub fn do_fault(types: u32, x: Said) -> u8
+    ensures { λ r. ⌜ r ≡ doFault types (asInstruction x) ⌝ }
 {
-    verb_fault(do_verb(types, verb), a, b, c, d)
+    verb_fault(do_verb(types, x.verb), x)
 }
 
 // step=
-pub fn write_step(t: &mut [u8], verb: u32, id: u32, number: u32) -> usize
-    ensures { λ r. ⌜ Written (now (t .entry)) (stepText (aStep verb id number)) (now (t .exit)) 0 r ⌝ }
+pub fn write_step(t: &mut [u8], x: Said) -> usize
+    ensures { λ r. ⌜ Written (now (t .entry)) (stepText (asStep x)) (now (t .exit)) 0 r ⌝ }
 {
-    let v = step_verb(verb);
-    write_verb(t, v, id, number, 0, 0)
+    let verb = step_verb(x.verb);
+    write_verb(t, verb, x)
 }
 
-pub fn step_fault(verb: u32, id: u32, number: u32) -> u8
-    ensures { λ r. ⌜ r ≡ stepFault (aStep verb id number) ⌝ }
+pub fn step_fault(x: Said) -> u8
+    ensures { λ r. ⌜ r ≡ stepFault (asStep x) ⌝ }
 {
-    verb_fault(step_verb(verb), id, number, 0, 0)
+    verb_fault(step_verb(x.verb), x)
 }

@@ -1,10 +1,11 @@
 use Prim.Native.Nat.{_-_}
+use mathlib.Core.Path.{_∙_}
 use native.Mathlib.Omega.{arith}
 use Rattle.words.specs.Words.{answerIn}
-use Rattle.scribes.proofs.Loops.{Found, going, found-none, found-more, found-all}
 use Rattle.reading.specs.Limits.{stepsOk}
 use Rattle.writing.specs.Kinds.{limitFault, stepFault}
 use Rattle.writing.specs.Texts.{stepRow, answerFault}
+use Rattle.scribes.proofs.Loops.{Found, going, found-none, found-more, found-all}
 use borrow.Author.Needs.{needs}
 use Rattle.scribes.proofs.faults.answer_fault.Statement.{statement}
 use Rattle.scribes.proofs.faults.answer_fault.Tie as tie
@@ -18,8 +19,8 @@ abbrev μ-loop : tie.MeasureT-loop
 pub answer-fault-spec : {M : Type 1} → statement M
 unfolding answerFault
 answer-fault-spec = tie.close (tie.spec
-    Inv-loop μ-loop (λ c κs. search needs) (λ c κs. search needs) (λ c. found-none _ _ _ _ (c .limit-fault .ensures)) (λ c κs. search needs)
-    (λ c. let l = going (c .before .before .before .before .steps .result) (c .before .before .loop .j) (c .before .before .loop .n) (c .before .loop-test .taken) in search needs)
-    (λ c. omega (arith, going (c .before .before .before .before .steps .result) (c .before .before .loop .j) (c .before .before .loop .n) (c .before .loop-test .taken)))
-    (λ c. found-more _ _ _ _ _ _ (c .before .before .loop .inv) (c .before .loop-test .taken) (c .step-fault-at .ensures))
+    Inv-loop μ-loop (λ c κs. search needs) (λ c κs. search needs) (λ c. found-none _ _ _ _ (c .limit-fault .ensures)) (λ c κs. search needs) (λ c κs. search needs)
+    (λ c. let l = going (c .before .before .before .before .before .steps .result) (c .before .before .before .loop .j) (c .before .before .before .loop .n) (c .before .before .loop-test .taken) in search needs)
+    (λ c. omega (arith, going (c .before .before .before .before .before .steps .result) (c .before .before .before .loop .j) (c .before .before .before .loop .n) (c .before .before .loop-test .taken)))
+    (λ c. found-more _ _ _ _ _ _ (c .before .before .before .loop .inv) (c .before .before .loop-test .taken) (c .step-fault .ensures ∙ rw (c .before .step-at .ensures)))
     (λ c. rw (c .before .before .before .steps .ensures) at (found-all _ _ _ (c .before .loop .j) _ (c .before .loop .inv) (c .loop-test .left))))

@@ -11,6 +11,6 @@ put-form-spec = tie.close (tie.spec
     (λ c κs. search needs) (λ c κs. search needs) (λ c κs. search needs) (λ c. search needs) (λ c κs. search needs) (λ c. search needs)
     (λ c. search needs) (λ c. search needs) (λ c κs. search needs) (λ c. search needs) (λ c. search needs) (λ c. search needs) (λ c. search needs)
     (λ c κs. search needs)
-    (λ c. used-fits (next (next (c .before .before .before .before .before .before .before .before .before .before .write-one .ensures) (c .before .before .before .before .before .before .put-each-type .ensures)) (c .before .before .put-instructions .ensures)) (search needs))
+    (λ c. used-fits (next (next (c .before .before .before .before .before .before .before .before .before .before .write-one .ensures) (c .before .before .before .before .before .before .put-lines .ensures)) (c .before .before .put-lines2 .ensures)) (search needs))
     (λ c. search needs)
-    (λ c. rw (c .before .before .before .before .before .before .before .before .before .before .before .before .before .before .before .depth .ensures, c .before .before .before .before .before .before .before .before .before .before .before .before .before .before .types .ensures, c .before .before .before .before .before .before .before .before .before .before .before .before .before .instructions .ensures) at (next (next (c .before .before .before .before .before .before .before .before .before .before .write-one .ensures) (c .before .before .before .before .before .before .put-each-type .ensures)) (c .before .before .put-instructions .ensures))))
+    (λ c. rw (c .before .before .before .before .before .before .before .before .before .before .before .before .before .before .before .depth .ensures, c .before .before .before .before .before .before .before .before .before .before .before .before .before .before .types .ensures, c .before .before .before .before .before .before .before .before .before .before .before .before .before .instructions .ensures) at (next (next (c .before .before .before .before .before .before .before .before .before .before .write-one .ensures) (c .before .before .before .before .before .before .put-lines .ensures)) (c .before .before .put-lines2 .ensures))))

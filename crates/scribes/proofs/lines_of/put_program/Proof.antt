@@ -10,6 +10,6 @@ unfolding programText countText
 put-program-spec = tie.close (tie.spec
     (λ c κs. search needs) (λ c. search needs) (λ c κs. search needs) (λ c. search needs) (λ c. search needs) (λ c. search needs)
     (λ c κs. search needs)
-    (λ c. used-fits (next (c .before .before .before .before .before .before .write-one .ensures) (c .before .before .put-instructions .ensures)) (search needs))
+    (λ c. used-fits (next (c .before .before .before .before .before .before .write-one .ensures) (c .before .before .put-lines .ensures)) (search needs))
     (λ c. search needs)
-    (λ c. rw (c .before .before .before .before .before .before .before .before .before .instructions .ensures) at (next (c .before .before .before .before .before .before .write-one .ensures) (c .before .before .put-instructions .ensures))))
+    (λ c. rw (c .before .before .before .before .before .before .before .before .before .instructions .ensures) at (next (c .before .before .before .before .before .before .write-one .ensures) (c .before .before .put-lines .ensures))))

@@ -1,6 +1,6 @@
 use Prim.Native.Nat.{_-_}
 use Rattle.scribes.proofs.Loops.{Turns, turns-none, turns-more, turns-all}
-use Rattle.words.specs.Words.{tablesIn, programIn, answerIn}
+use Rattle.words.specs.Words.{answerIn}
 use Rattle.writing.specs.Kinds.{stepText}
 use Rattle.writing.specs.Texts.{stepRow}
 use borrow.Author.Needs.{needs}
@@ -15,7 +15,6 @@ abbrev μ-loop : tie.MeasureT-loop
 
 pub put-steps-spec : {M : Type 1} → statement M
 put-steps-spec = tie.close (tie.spec
-    Inv-loop μ-loop (λ c. turns-none) (λ c. search needs) (λ c. search needs) (λ c. search needs) (λ c κs. search needs) (λ c. search needs)
-    (λ c. search needs) (λ c. search needs)
-    (λ c. turns-more (c .before .before .before .before .before .loop .inv) (c .before .before .before .before .loop-test .taken) (c .before .before .put-step .ensures))
+    Inv-loop μ-loop (λ c. turns-none) (λ c. search needs) (λ c. search needs) (λ c. search needs) (λ c κs. search needs) (λ c κs. search needs) (λ c. search needs) (λ c. search needs) (λ c. search needs)
+    (λ c. turns-more (c .before .before .before .before .before .before .loop .inv) (c .before .before .before .before .before .loop-test .taken) (rw (c .before .before .before .step-at .ensures) at (c .before .before .write-step .ensures)))
     (λ c. c .before .loop .inv .same-length) (λ c. turns-all (c .before .loop .inv) (c .loop-test .left)))

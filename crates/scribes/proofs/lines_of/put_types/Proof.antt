@@ -10,4 +10,4 @@ unfolding typesText countText
 put-types-spec = tie.close (tie.spec
     (λ c κs. search needs) (λ c. search needs) (λ c κs. search needs) (λ c. search needs) (λ c. search needs) (λ c. search needs)
     (λ c κs. search needs) (λ c. search needs) (λ c. search needs)
-    (λ c. rw (c .before .before .before .before .before .before .before .before .before .types .ensures) at (next (c .before .before .before .before .before .before .write-one .ensures) (c .before .before .put-each-type .ensures))))
+    (λ c. rw (c .before .before .before .before .before .before .before .before .before .types .ensures) at (next (c .before .before .before .before .before .before .write-one .ensures) (c .before .before .put-lines .ensures))))
