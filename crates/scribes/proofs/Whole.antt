@@ -26,15 +26,16 @@ use Rattle.writing.specs.Texts.{firstOf, typeText, typeFault, sheetText, sheetF
 use Rattle.writing.specs.Buffer.{writeNumber, penned, Penned}
 use Rattle.writing.proofs.Turns.{or-assoc}
 use Rattle.sheet_lines.specs.declared.Rows.the-variants.{Transitions, Behaviors, Ports}
-use Rattle.scribes.specs.Parts.{knownOf, rowsFault, kindText, kindFault, kindsText, headText, headFault, firstText, typesText, programText, partFault}
+use Rattle.scribes.specs.Parts.{knownOf, rowsFault, kindText, kindFault, kindsText, headText, headFault, firstText, partFault}
+use Rattle.scribes.specs.Layouts.{partText}
 use Rattle.scribes.specs.declared.parts.Part.the-variants.{Types, Instructions}
 
 pub type-parts : (t : Tables) (i : ℕ) → headText t i ++ kindsText t i ≡ typeText t i
 unfolding headText kindsText kindText typeText
 type-parts t i = simp append-assoc
 
-pub sheet-parts : (t : Tables) (p : Program) → firstText (t .depth) ++ typesText t ++ programText p ≡ sheetText t p
-unfolding firstText typesText programText sheetText
+pub sheet-parts : (t : Tables) (p : Program) → firstText (t .depth) ++ partText Types t p ++ partText Instructions t p ≡ sheetText t p
+unfolding firstText partText sheetText
 sheet-parts t p = simp append-assoc
 
 two-pairs : (a b c d e f g h : ℕ) → orNumber (orNumber a b) (orNumber (orNumber c d) (orNumber (orNumber e f) (orNumber g h)))

@@ -1,14 +1,17 @@
 -- The texts by their layout: a sheet, or the lines of a form.
 use Prim.Native.Nat.{ℕ}
 use mathlib.Core.List.{List, _++_}
+use Rattle.forms.specs.Write.{inTurn}
 use Rattle.model.specs.declared.Tables.{Tables}
 use Rattle.model.specs.declared.Program.{Program}
+use Rattle.report.specs.Report.{countText}
 use Rattle.writing.specs.Kinds.{doText}
 use Rattle.writing.specs.Texts.{instructionRow, typeText, sheetText}
 use Rattle.scribes.specs.declared.parts.Layout.{Layout}
 use Rattle.scribes.specs.declared.parts.Layout.the-variants.{Sheet, Form}
 use Rattle.scribes.specs.declared.parts.Part.{Part}
 use Rattle.scribes.specs.declared.parts.Part.the-variants.{Types, Instructions}
+use Rattle.scribes.specs.Parts.{partKey, partCount}
 use Rattle.scribes.specs.Form.{typeLinesText, typeRowsText, formLines}
 
 -- type i
@@ -16,10 +19,13 @@ abbrev pub typeAs : Layout → Tables → ℕ → List ℕ
 typeAs Sheet t i = typeText t i
 typeAs Form t i = typeLinesText t i ++ typeRowsText t i
 
--- line i of a part, and the whole
+-- line i of a part; a part of a sheet, after the line of its count; the whole
 abbrev pub lineAs : Layout → Part → Tables → Program → ℕ → List ℕ
 lineAs l Types t p i = typeAs l t i
 lineAs l Instructions t p i = doText (instructionRow p i)
+
+unfoldable pub partText : Part → Tables → Program → List ℕ
+partText k t p = countText (partKey k) (partCount k t p) ++ inTurn (lineAs Sheet k t p) (partCount k t p)
 
 abbrev pub textAs : Layout → Tables → Program → List ℕ
 textAs Sheet t p = sheetText t p

@@ -12,8 +12,8 @@ use Rattle.model.specs.View.{typeOf, source, destination, behaviorOf, portKind,
 use Rattle.reading.specs.Limits.{typesOk, placesOk, transitionsOk, behaviorsOk, portsOk, programOk}
 use Rattle.rules.specs.Refusal.{orNumber}
 use Rattle.report.specs.Report.{countText}
-use Rattle.writing.specs.Kinds.{limitFault, initialText, initialFault, doText, doFault}
-use Rattle.writing.specs.Texts.{firstOf, instructionRow, typeText, typeFault}
+use Rattle.writing.specs.Kinds.{limitFault, initialText, initialFault, doFault}
+use Rattle.writing.specs.Texts.{firstOf, instructionRow, typeFault}
 use Rattle.sheet_lines.specs.declared.Known.{Known}
 use Rattle.sheet_lines.specs.declared.Row.{Row}
 use Rattle.sheet_lines.specs.declared.Rows.{Rows}
@@ -77,12 +77,10 @@ headFault t i = orNumber (limitFault (placesOk (typeOf t i .places))) (initialFa
 unfoldable pub firstText : ℕ → List ℕ
 firstText d = countText (bytes "sheet=") 1 ++ countText (bytes "depth=") d
 
--- all types, and the program, each after the line of its count
-unfoldable pub typesText : Tables → List ℕ
-typesText t = countText (bytes "types=") (t .count) ++ inTurn (typeText t) (t .count)
-
-unfoldable pub programText : Program → List ℕ
-programText p = countText (bytes "program=") (p .count) ++ inTurn (λ j. doText (instructionRow p j)) (p .count)
+-- all types, and the program: the line of its count, how many there are, and may be
+abbrev pub partKey : Part → List ℕ
+partKey Types = bytes "types="
+partKey Instructions = bytes "program="
 
 abbrev pub partCount : Part → Tables → Program → ℕ
 partCount Types t p = t .count

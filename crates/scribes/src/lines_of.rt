@@ -2,6 +2,7 @@
 use crate::filled::put_form_type;
 use crate::parts::Layout;
 use crate::parts::Part;
+use crate::parts::part_count;
 use crate::rows::count_of;
 use crate::rows::instruction_at;
 use crate::rows::row_at;
@@ -16,19 +17,17 @@ use words::AnswerWords;
 use words::ProgramWords;
 use words::TableWords;
 use words::answer::steps;
-use words::program::instructions;
 use words::tables::depth;
 use words::tables::initial_of;
 use words::tables::places_of;
-use words::tables::types;
 ghost use Rattle.forms.specs.Write.{inTurn};
 ghost use Rattle.report.specs.Report.{countText};
 ghost use Rattle.inks.specs.Written.{Written};
 ghost use Rattle.words.specs.Words.{tablesIn, programIn, answerIn};
 ghost use Rattle.writing.specs.Kinds.{stepText};
 ghost use Rattle.writing.specs.Texts.{stepRow, typeText, sheetText, answerText};
-ghost use Rattle.scribes.specs.Parts.{keyOf, rowsText, kindText, kindsText, headText, firstText, typesText, programText};
-ghost use Rattle.scribes.specs.Layouts.{typeAs, lineAs};
+ghost use Rattle.scribes.specs.Parts.{keyOf, rowsText, kindText, kindsText, headText, firstText, partKey};
+ghost use Rattle.scribes.specs.Layouts.{typeAs, lineAs, partText};
 
 // So many rows of type i.
 pub(crate) fn put_rows(t: &mut [u8], tables: &TableWords, rows: Rows, i: u32, count: u32) -> usize
@@ -136,38 +135,22 @@ pub(crate) fn put_lines(
     used
 }
 
-// types= and the types
-fn put_types(t: &mut [u8], tables: &TableWords, program: &ProgramWords) -> usize
-    ensures { λ r. ⌜ Written (now (t .entry)) (typesText (tablesIn (now (tables .entry)))) (now (t .exit)) 0 r ⌝ }
+// types=, program=
+fn put_part_count(t: &mut [u8], part: Part, count: u32) -> usize
+    ensures { λ r. ⌜ Written (now (t .entry)) (countText (partKey part) count) (now (t .exit)) 0 r ⌝ }
 {
-    let count = types(tables);
-    let used = write_one(t, b"types=", count);
-    used
-        + put_lines(
-            &mut t[used..],
-            Layout::Sheet,
-            Part::Types,
-            tables,
-            program,
-            count,
-        )
+    match part {
+        Part::Types => write_one(t, b"types=", count),
+        Part::Instructions => write_one(t, b"program=", count),
+    }
 }
 
-// program= and the instructions
-fn put_program(t: &mut [u8], tables: &TableWords, program: &ProgramWords) -> usize
-    ensures { λ r. ⌜ Written (now (t .entry)) (programText (programIn (now (program .entry)))) (now (t .exit)) 0 r ⌝ }
+fn put_part(t: &mut [u8], part: Part, tables: &TableWords, program: &ProgramWords) -> usize
+    ensures { λ r. ⌜ Written (now (t .entry)) (partText part (tablesIn (now (tables .entry))) (programIn (now (program .entry)))) (now (t .exit)) 0 r ⌝ }
 {
-    let count = instructions(program);
-    let used = write_one(t, b"program=", count);
-    used
-        + put_lines(
-            &mut t[used..],
-            Layout::Sheet,
-            Part::Instructions,
-            tables,
-            program,
-            count,
-        )
+    let count = part_count(part, tables, program);
+    let used = put_part_count(t, part, count);
+    used + put_lines(&mut t[used..], Layout::Sheet, part, tables, program, count)
 }
 
 // sheet=, depth=
@@ -182,8 +165,8 @@ pub(crate) fn put_sheet(t: &mut [u8], tables: &TableWords, program: &ProgramWord
     ensures { λ r. ⌜ Written (now (t .entry)) (sheetText (tablesIn (now (tables .entry))) (programIn (now (program .entry)))) (now (t .exit)) 0 r ⌝ }
 {
     let mut used = put_first(t, depth(tables));
-    used += put_types(&mut t[used..], tables, program);
-    used + put_program(&mut t[used..], tables, program)
+    used += put_part(&mut t[used..], Part::Types, tables, program);
+    used + put_part(&mut t[used..], Part::Instructions, tables, program)
 }
 
 fn put_steps(t: &mut [u8], answer: &AnswerWords, count: u32) -> usize

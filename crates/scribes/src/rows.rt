@@ -104,13 +104,7 @@ pub(crate) fn instruction_at(program: &ProgramWords, j: u32) -> Said
     let number = instruction_number(program, j);
     let provider = instruction_provider(program, j);
     let provideport = instruction_provideport(program, j);
-    Said {
-        verb,
-        id,
-        number,
-        provider,
-        provideport,
-    }
+    Said(verb, id, number, provider, provideport)
 }
 
 // Step j.
@@ -120,11 +114,5 @@ pub(crate) fn step_at(answer: &AnswerWords, j: u32) -> Said
     let verb = step_verb(answer, j);
     let id = step_id(answer, j);
     let number = step_number(answer, j);
-    Said {
-        verb,
-        id,
-        number,
-        provider: 0,
-        provideport: 0,
-    }
+    Said(verb, id, number, 0, 0)
 }

@@ -14,10 +14,10 @@ use Rattle.sheet_inks.specs.declared.verbs.Verb.{Verb}
 
 -- what a line says, as an instruction and as a step
 abbrev pub asInstruction : Said → Instruction
-asInstruction x = record { verb = x .verb; id = x .id; number = x .number; provider = x .provider; provideport = x .provideport }
+asInstruction x = record { verb = x .0; id = x .1; number = x .2; provider = x .3; provideport = x .4 }
 
 abbrev pub asStep : Said → Step
-asStep x = record { verb = x .verb; id = x .id; number = x .number }
+asStep x = record { verb = x .0; id = x .1; number = x .2 }
 
 -- n numbers to the line's end, nothing where it has none
 unfoldable pub numbersText : ℕ → ℕ → ℕ → ℕ → ℕ → List ℕ

@@ -14,14 +14,8 @@ ghost use Rattle.inks.specs.Written.{Written};
 ghost use Rattle.writing.specs.Kinds.{doText, doFault, stepText, stepFault};
 ghost use Rattle.sheet_inks.specs.Verbs.{asInstruction, asStep, numbersText, numbersOk, Says};
 
-// What a line says: a verb's code and numbers, 0 for those that it has not.
-pub struct Said {
-    pub verb: u32,
-    pub id: u32,
-    pub number: u32,
-    pub provider: u32,
-    pub provideport: u32,
-}
+// What a line says: a verb's code, then id, number, provider and provideport, 0 for those that it has not.
+pub struct Said(pub u32, pub u32, pub u32, pub u32, pub u32);
 
 // The key, how many bytes of it count, how many numbers follow, what each lies below, and the number of a line where they do.
 struct Verb([u8; 12], usize, u32, [u32; 4], u8);
@@ -56,29 +50,21 @@ fn step_verb(verb: u32) -> Verb
 
 fn write_verb(t: &mut [u8], verb: Verb, x: Said) -> usize
     requires { ⌜ verb .1 ≤ length (verb .0) ⌝ }
-    ensures { λ r. ⌜ Written (now (t .entry)) (take (verb .1) (verb .0) ++ numbersText (verb .2) (x .id) (x .number) (x .provider) (x .provideport))
+    ensures { λ r. ⌜ Written (now (t .entry)) (take (verb .1) (verb .0) ++ numbersText (verb .2) (x .1) (x .2) (x .3) (x .4))
         (now (t .exit)) 0 r ⌝ }
 {
     let key = verb.0;
     let n = verb.1;
-    write_line(
-        t,
-        &key[..n],
-        verb.2,
-        x.id,
-        x.number,
-        x.provider,
-        x.provideport,
-    )
+    write_line(t, &key[..n], verb.2, x.1, x.2, x.3, x.4)
 }
 
 fn within(count: u32, below: [u32; 4], x: Said) -> bool
-    ensures { λ r. ⌜ r ≡ numbersOk count below (x .id) (x .number) (x .provider) (x .provideport) ⌝ }
+    ensures { λ r. ⌜ r ≡ numbersOk count below (x .1) (x .2) (x .3) (x .4) ⌝ }
 {
-    let id = x.id < below[0];
-    let number = x.number < below[1];
-    let provider = x.provider < below[2];
-    let provideport = x.provideport < below[3];
+    let id = x.1 < below[0];
+    let number = x.2 < below[1];
+    let provider = x.3 < below[2];
+    let provideport = x.4 < below[3];
     match count {
         0 => true,
         1 => id,
@@ -88,7 +74,7 @@ fn within(count: u32, below: [u32; 4], x: Said) -> bool
 }
 
 fn verb_fault(verb: Verb, x: Said) -> u8
-    ensures { λ r. ⌜ r ≡ (not (numbersOk (verb .2) (verb .3) (x .id) (x .number) (x .provider) (x .provideport)) ⇒ 3 ∣ verb .4) ⌝ }
+    ensures { λ r. ⌜ r ≡ (not (numbersOk (verb .2) (verb .3) (x .1) (x .2) (x .3) (x .4)) ⇒ 3 ∣ verb .4) ⌝ }
 {
     let below = verb.3;
     let ok = within(verb.2, below, x);
@@ -99,7 +85,7 @@ fn verb_fault(verb: Verb, x: Said) -> u8
 pub fn write_do(t: &mut [u8], x: Said) -> usize
     ensures { λ r. ⌜ Written (now (t .entry)) (doText (asInstruction x)) (now (t .exit)) 0 r ⌝ }
 {
-    let verb = do_verb(0, x.verb);
+    let verb = do_verb(0, x.0);
     write_verb(t, verb, x)
 }
 
@@ -107,19 +93,19 @@ pub fn write_do(t: &mut [u8], x: Said) -> usize
 pub fn do_fault(types: u32, x: Said) -> u8
     ensures { λ r. ⌜ r ≡ doFault types (asInstruction x) ⌝ }
 {
-    verb_fault(do_verb(types, x.verb), x)
+    verb_fault(do_verb(types, x.0), x)
 }
 
 // step=
 pub fn write_step(t: &mut [u8], x: Said) -> usize
     ensures { λ r. ⌜ Written (now (t .entry)) (stepText (asStep x)) (now (t .exit)) 0 r ⌝ }
 {
-    let verb = step_verb(x.verb);
+    let verb = step_verb(x.0);
     write_verb(t, verb, x)
 }
 
 pub fn step_fault(x: Said) -> u8
     ensures { λ r. ⌜ r ≡ stepFault (asStep x) ⌝ }
 {
-    verb_fault(step_verb(x.verb), x)
+    verb_fault(step_verb(x.0), x)
 }
