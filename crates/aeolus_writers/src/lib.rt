@@ -21,7 +21,7 @@ ghost use Rattle.sets.specs.Mask.{member};
 ghost use Rattle.forms.specs.Write.{onlyIf, inTurn, threeText};
 ghost use Rattle.inks.specs.Written.{Written};
 ghost use Rattle.aeolus_model.specs.Words.{universeIn, configurationIn};
-ghost use Rattle.aeolus_judged.specs.Report.{bindingText, componentAt, providersText, bindingsAt, componentsText, bindingsText, headPart, componentsPart, bindingsPart, report};
+ghost use Rattle.aeolus_judged.specs.Report.{bindingText, componentAt, providersText, bindingsAt, headPart, componentsPart, bindingsPart, report};
 ghost use Rattle.aeolus_writers.specs.Ran.{ran};
 
 // A key and three numbers.
@@ -50,7 +50,7 @@ fn write_component(t: &mut [u8], deployed: &Deployed, z: u32) -> usize
 }
 
 fn write_component_lines(t: &mut [u8], deployed: &Deployed) -> usize
-    ensures { λ r. ⌜ Written (now (t .entry)) (componentsText (configurationIn (now (deployed .entry)))) (now (t .exit)) 0 r ⌝ }
+    ensures { λ r. ⌜ Written (now (t .entry)) (inTurn (componentAt (configurationIn (now (deployed .entry)))) 32) (now (t .exit)) 0 r ⌝ }
 {
     let mut used: usize = 0;
     let mut z: u32 = 0;
@@ -114,7 +114,7 @@ fn write_requirers(t: &mut [u8], universe: &Universe, deployed: &Deployed, r: u3
 
 fn write_binding_lines(t: &mut [u8], universe: &Universe, deployed: &Deployed) -> usize
     ensures { λ n. ⌜ Written (now (t .entry))
-        (bindingsText (universeIn (now (universe .entry))) (configurationIn (now (deployed .entry)))) (now (t .exit)) 0 n ⌝ }
+        (inTurn (λ r. inTurn (bindingsAt (universeIn (now (universe .entry))) (configurationIn (now (deployed .entry))) r) 32) 256) (now (t .exit)) 0 n ⌝ }
 {
     let mut used: usize = 0;
     let mut r: u32 = 0;

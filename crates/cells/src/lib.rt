@@ -7,6 +7,7 @@ ghost use mathlib.Core.Bool.{cond};
 ghost use mathlib.Core.List.{[], _∷_, _++_};
 ghost use Prim.Native.Nat.{_≤_, _<_};
 ghost use lib.ListN.{length, take, drop, replicate};
+ghost use Rattle.io.specs.Counts.{Counts};
 ghost use Rattle.inks.specs.Written.{Written};
 ghost use Rattle.cells.specs.Cells.{gap, stands, firstAfter, commasAfter, unmarked, linesOf, cellByte, cellsOf};
 
@@ -103,7 +104,8 @@ fn past_mark(rows: &[u8]) -> usize
 
 // The lines that rows of cells stand for, cut at the buffer's end, and the bytes used.
 pub fn write_lines(rows: &[u8], out: &mut [u8]) -> usize
-    ensures { λ r. ⌜ Written (now (out .entry)) (linesOf (now (rows .entry))) (now (out .exit)) 0 r ⌝ }
+    ensures bytes { λ r. ⌜ Written (now (out .entry)) (linesOf (now (rows .entry))) (now (out .exit)) 0 r ⌝ }
+    ensures counts { λ r. ⌜ Counts r (now (out .exit)) ⌝ }
 {
     let mut row = Row {
         first: true,

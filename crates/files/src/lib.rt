@@ -49,6 +49,16 @@ pub fn read_text(file: i32, text: &mut [u8]) -> Read
     }
 }
 
+// What a named file holds.
+pub fn read_named(name: &[u8], text: &mut [u8]) -> Read
+    ensures { λ r. ⌜ Counts (r .size) (now (text .exit)) ⌝ }
+{
+    let file = os::open_read(name);
+    let read = read_text(file, text);
+    libc::close(file);
+    read
+}
+
 // The answer, from standard input; `unread` says on standard error that it could not be read.
 pub fn read_answer(answer: &mut [u8], unread: &[u8]) -> Read
     ensures { λ r. ⌜ Counts (r .size) (now (answer .exit)) ⌝ }

@@ -1,20 +1,6 @@
 // A test program: each argument names a text, by its end a sheet or an answer, and one line says what came of reading it:
 // `NAME refused=N line=L start=S size=Z`, with the line at fault by its number and as a part of the text. make.py writes the cases.
 use libc::STDOUT_FILENO;
-ghost use Rattle.io.specs.Counts.{Counts};
-
-// What stands in a file, or nothing.
-fn read_file(path: &[u8], buffer: &mut [u8]) -> usize
-    ensures { λ r. ⌜ Counts r (now (buffer .exit)) ⌝ }
-{
-    let file = os::open_read(path);
-    if file < 0 {
-        return 0;
-    }
-    let n = io::read_full(file, buffer);
-    libc::close(file);
-    n
-}
 
 fn ends_in(name: &[u8], end: &[u8]) -> bool {
     if name.len() < end.len() {
@@ -67,7 +53,7 @@ fn run_case(i: usize) {
     let mut name = [0u8; 64];
     let k = os::arg(i, &mut name);
     let mut buffer = [0u8; 32769];
-    let n = read_file(&name[..k], &mut buffer);
+    let n = files::read_named(&name[..k], &mut buffer).size;
     read_text(&name[..k], &buffer[..n]);
 }
 

@@ -1,25 +1,20 @@
--- A loop over lines, for their numbers and for their texts.
+-- A loop over lines, for their numbers.
 -- Assumes nothing.
 use Prim.Native.Nat.{ℕ, zero, suc, _+_, _≤_, _<_}
-use mathlib.Core.List.{List}
 use mathlib.Core.Bool.{true, false, _&&_}
-use mathlib.Core.Path.{_≡_, refl, sym, ap, _∙_}
+use mathlib.Core.Path.{_≡_, sym, ap, _∙_}
 use mathlib.Core.Logic.{by-cases}
 use native.Mathlib.Omega.{arith}
 use native.Mathlib.Numerals.{add-one}
 use native.Mathlib.Decide.{decLt}
 use lib.Dec.{eqb, ltb}
-use lib.ListN.{length}
 use borrow.Author.Tests.{eqb-true, eqb-false, ltb-true, ltb-false}
 use Rattle.forms.proofs.Tests.{by-test, and-left, and-right}
-use Rattle.forms.specs.Write.{inTurn}
 use Rattle.rules.specs.Refusal.{orNumber}
-use Rattle.inks.specs.Written.{Written}
-use Rattle.inks.proofs.Laws.{none, next, free, back, length-written}
 use Rattle.writing.specs.Texts.{firstOf}
 use Rattle.writing.proofs.Turns.{or-zero, or-some, or-assoc}
 
--- ---- numbers: n is the first of a and of the numbers of x lines, of m in all; a loop goes on while there is none
+-- n is the first of a and of the numbers of x lines, of m in all; a loop goes on while there is none
 pub record Found (a : ℕ) (f : ℕ → ℕ) (m x n : ℕ) : Type 0 where
   pub up : x ≤ m
   pub first : n ≡ orNumber a (firstOf f x)
@@ -57,20 +52,3 @@ module _ (a : ℕ) (f : ℕ → ℕ) (m : ℕ) where
           by-cases (decLt k x)
           (λ u. let e : x ≡ suc k = omega arith in rw e at (sym (h .first)))
           (λ u. further k ∙ ap (λ (i : ℕ). orNumber i (f k)) (stays z k (omega arith)) ∙ or-some n (f k) (eqb-false n 0 z))
-
--- ---- texts: the first k of n are written
-pub record Turns (f : ℕ → List ℕ) (n k : ℕ) (old new : List ℕ) (used : ℕ) : Type 0 where
-  pub up : k ≤ n
-  pub same-length : length new ≡ length old
-  pub written : Written old (inTurn f k) new 0 used
-
-pub turns-none : {f : ℕ → List ℕ} {n : ℕ} {old : List ℕ} → Turns f n 0 old old 0
-unfolding inTurn
-turns-none {f} {n} {old} = record { up = omega arith; same-length = refl; written = none old 0 }
-
-pub turns-more : {f : ℕ → List ℕ} {n k : ℕ} {old mid end : List ℕ} {a b : ℕ} → Turns f n k old mid a → k < n → Written (free a mid) (f k) end 0 b → Turns f n (k + 1) old (back a mid end) (a + b)
-unfolding inTurn
-turns-more {f} {n} {k} h l v = let w = next (h .written) v in record { up = omega arith; same-length = length-written w; written = rw (add-one k) w }
-
-pub turns-all : {f : ℕ → List ℕ} {n k : ℕ} {old new : List ℕ} {used : ℕ} → Turns f n k old new used → n ≤ k → Written old (inTurn f n) new 0 used
-turns-all {n = n} {k = k} h l = let e : n ≡ k = omega (arith, h .up) in rw e (h .written)

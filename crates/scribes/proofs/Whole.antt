@@ -34,7 +34,7 @@ pub type-parts : (t : Tables) (i : ℕ) → headText t i ++ kindsText t i ≡ ty
 unfolding headText kindsText kindText typeText
 type-parts t i = simp append-assoc
 
-pub sheet-parts : (t : Tables) (p : Program) → firstText (t .depth) ++ partText Types t p ++ partText Instructions t p ≡ sheetText t p
+pub sheet-parts : (t : Tables) (p : Program) → firstText (t .depth) ++ partText (bytes "types=") Types t p ++ partText (bytes "program=") Instructions t p ≡ sheetText t p
 unfolding firstText partText sheetText
 sheet-parts t p = simp append-assoc
 

@@ -11,7 +11,7 @@ use Rattle.scribes.specs.declared.parts.Layout.{Layout}
 use Rattle.scribes.specs.declared.parts.Layout.the-variants.{Sheet, Form}
 use Rattle.scribes.specs.declared.parts.Part.{Part}
 use Rattle.scribes.specs.declared.parts.Part.the-variants.{Types, Instructions}
-use Rattle.scribes.specs.Parts.{partKey, partCount}
+use Rattle.scribes.specs.Parts.{partCount}
 use Rattle.scribes.specs.Form.{typeLinesText, typeRowsText, formLines}
 
 -- type i
@@ -24,8 +24,8 @@ abbrev pub lineAs : Layout → Part → Tables → Program → ℕ → List ℕ
 lineAs l Types t p i = typeAs l t i
 lineAs l Instructions t p i = doText (instructionRow p i)
 
-unfoldable pub partText : Part → Tables → Program → List ℕ
-partText k t p = countText (partKey k) (partCount k t p) ++ inTurn (lineAs Sheet k t p) (partCount k t p)
+unfoldable pub partText : List ℕ → Part → Tables → Program → List ℕ
+partText key k t p = countText key (partCount k t p) ++ inTurn (lineAs Sheet k t p) (partCount k t p)
 
 abbrev pub textAs : Layout → Tables → Program → List ℕ
 textAs Sheet t p = sheetText t p

@@ -44,11 +44,6 @@ countOk Ports n = portsOk n
 abbrev pub knownOf : ComponentType → Known
 knownOf k = record { places = k .places; initial = k .initial; transitions = k .transitions }
 
-abbrev pub keyOf : Rows → List ℕ
-keyOf Transitions = bytes "transitions="
-keyOf Behaviors = bytes "behaviors="
-keyOf Ports = bytes "ports="
-
 -- the rows of a kind, and with the line of their count
 abbrev pub rowsText : Rows → Tables → ℕ → ℕ → List ℕ
 rowsText k t i n = inTurn (λ x. rowText k (rowAt k t i x)) n
@@ -56,15 +51,15 @@ rowsText k t i n = inTurn (λ x. rowText k (rowAt k t i x)) n
 abbrev pub rowsFault : Rows → Tables → ℕ → Known → ℕ → ℕ
 rowsFault k t i c n = firstOf (λ x. rowFault k c (rowAt k t i x)) n
 
-unfoldable pub kindText : Rows → Tables → ℕ → List ℕ
-kindText k t i = countText (keyOf k) (countOf k (typeOf t i)) ++ rowsText k t i (countOf k (typeOf t i))
+unfoldable pub kindText : List ℕ → Rows → Tables → ℕ → List ℕ
+kindText key k t i = countText key (countOf k (typeOf t i)) ++ rowsText k t i (countOf k (typeOf t i))
 
 unfoldable pub kindFault : Rows → Tables → ℕ → ℕ
 kindFault k t i = orNumber (limitFault (countOk k (countOf k (typeOf t i)))) (rowsFault k t i (knownOf (typeOf t i)) (countOf k (typeOf t i)))
 
 -- all three kinds
 unfoldable pub kindsText : Tables → ℕ → List ℕ
-kindsText t i = kindText Transitions t i ++ kindText Behaviors t i ++ kindText Ports t i
+kindsText t i = kindText (bytes "transitions=") Transitions t i ++ kindText (bytes "behaviors=") Behaviors t i ++ kindText (bytes "ports=") Ports t i
 
 -- the three first lines of a type
 unfoldable pub headText : Tables → ℕ → List ℕ
@@ -77,11 +72,7 @@ headFault t i = orNumber (limitFault (placesOk (typeOf t i .places))) (initialFa
 unfoldable pub firstText : ℕ → List ℕ
 firstText d = countText (bytes "sheet=") 1 ++ countText (bytes "depth=") d
 
--- all types, and the program: the line of its count, how many there are, and may be
-abbrev pub partKey : Part → List ℕ
-partKey Types = bytes "types="
-partKey Instructions = bytes "program="
-
+-- all types, and the program: how many there are, and may be
 abbrev pub partCount : Part → Tables → Program → ℕ
 partCount Types t p = t .count
 partCount Instructions t p = p .count

@@ -21,12 +21,11 @@ use words::tables::depth;
 use words::tables::initial_of;
 use words::tables::places_of;
 ghost use Rattle.forms.specs.Write.{inTurn};
-ghost use Rattle.report.specs.Report.{countText};
 ghost use Rattle.inks.specs.Written.{Written};
 ghost use Rattle.words.specs.Words.{tablesIn, programIn, answerIn};
 ghost use Rattle.writing.specs.Kinds.{stepText};
 ghost use Rattle.writing.specs.Texts.{stepRow, typeText, sheetText, answerText};
-ghost use Rattle.scribes.specs.Parts.{keyOf, rowsText, kindText, kindsText, headText, firstText, partKey};
+ghost use Rattle.scribes.specs.Parts.{rowsText, kindText, kindsText, headText, firstText};
 ghost use Rattle.scribes.specs.Layouts.{typeAs, lineAs, partText};
 
 // So many rows of type i.
@@ -43,22 +42,12 @@ pub(crate) fn put_rows(t: &mut [u8], tables: &TableWords, rows: Rows, i: u32, co
     used
 }
 
-// transitions=, behaviors=, ports=
-fn put_count(t: &mut [u8], rows: Rows, count: u32) -> usize
-    ensures { λ r. ⌜ Written (now (t .entry)) (countText (keyOf rows) count) (now (t .exit)) 0 r ⌝ }
-{
-    match rows {
-        Rows::Transitions => write_one(t, b"transitions=", count),
-        Rows::Behaviors => write_one(t, b"behaviors=", count),
-        Rows::Ports => write_one(t, b"ports=", count),
-    }
-}
-
-fn put_kind(t: &mut [u8], tables: &TableWords, rows: Rows, i: u32) -> usize
-    ensures { λ r. ⌜ Written (now (t .entry)) (kindText rows (tablesIn (now (tables .entry))) i) (now (t .exit)) 0 r ⌝ }
+// The rows of a kind after the line of their count.
+fn put_kind(t: &mut [u8], key: &[u8], tables: &TableWords, rows: Rows, i: u32) -> usize
+    ensures { λ r. ⌜ Written (now (t .entry)) (kindText (now (key .entry)) rows (tablesIn (now (tables .entry))) i) (now (t .exit)) 0 r ⌝ }
 {
     let count = count_of(tables, rows, i);
-    let used = put_count(t, rows, count);
+    let used = write_one(t, key, count);
     used + put_rows(&mut t[used..], tables, rows, i, count)
 }
 
@@ -76,9 +65,9 @@ fn put_head(t: &mut [u8], tables: &TableWords, i: u32) -> usize
 fn put_kinds(t: &mut [u8], tables: &TableWords, i: u32) -> usize
     ensures { λ r. ⌜ Written (now (t .entry)) (kindsText (tablesIn (now (tables .entry))) i) (now (t .exit)) 0 r ⌝ }
 {
-    let mut used = put_kind(t, tables, Rows::Transitions, i);
-    used += put_kind(&mut t[used..], tables, Rows::Behaviors, i);
-    used + put_kind(&mut t[used..], tables, Rows::Ports, i)
+    let mut used = put_kind(t, b"transitions=", tables, Rows::Transitions, i);
+    used += put_kind(&mut t[used..], b"behaviors=", tables, Rows::Behaviors, i);
+    used + put_kind(&mut t[used..], b"ports=", tables, Rows::Ports, i)
 }
 
 fn put_sheet_type(t: &mut [u8], tables: &TableWords, i: u32) -> usize
@@ -135,21 +124,19 @@ pub(crate) fn put_lines(
     used
 }
 
-// types=, program=
-fn put_part_count(t: &mut [u8], part: Part, count: u32) -> usize
-    ensures { λ r. ⌜ Written (now (t .entry)) (countText (partKey part) count) (now (t .exit)) 0 r ⌝ }
-{
-    match part {
-        Part::Types => write_one(t, b"types=", count),
-        Part::Instructions => write_one(t, b"program=", count),
-    }
-}
-
-fn put_part(t: &mut [u8], part: Part, tables: &TableWords, program: &ProgramWords) -> usize
-    ensures { λ r. ⌜ Written (now (t .entry)) (partText part (tablesIn (now (tables .entry))) (programIn (now (program .entry)))) (now (t .exit)) 0 r ⌝ }
+// A part after the line of its count.
+fn put_part(
+    t: &mut [u8],
+    key: &[u8],
+    part: Part,
+    tables: &TableWords,
+    program: &ProgramWords,
+) -> usize
+    ensures { λ r. ⌜ Written (now (t .entry)) (partText (now (key .entry)) part (tablesIn (now (tables .entry))) (programIn (now (program .entry))))
+        (now (t .exit)) 0 r ⌝ }
 {
     let count = part_count(part, tables, program);
-    let used = put_part_count(t, part, count);
+    let used = write_one(t, key, count);
     used + put_lines(&mut t[used..], Layout::Sheet, part, tables, program, count)
 }
 
@@ -165,8 +152,15 @@ pub(crate) fn put_sheet(t: &mut [u8], tables: &TableWords, program: &ProgramWord
     ensures { λ r. ⌜ Written (now (t .entry)) (sheetText (tablesIn (now (tables .entry))) (programIn (now (program .entry)))) (now (t .exit)) 0 r ⌝ }
 {
     let mut used = put_first(t, depth(tables));
-    used += put_part(&mut t[used..], Part::Types, tables, program);
-    used + put_part(&mut t[used..], Part::Instructions, tables, program)
+    used += put_part(&mut t[used..], b"types=", Part::Types, tables, program);
+    used
+        + put_part(
+            &mut t[used..],
+            b"program=",
+            Part::Instructions,
+            tables,
+            program,
+        )
 }
 
 fn put_steps(t: &mut [u8], answer: &AnswerWords, count: u32) -> usize

@@ -28,15 +28,6 @@ struct Went {
     size: usize,
 }
 
-fn read_named(name: &[u8], text: &mut [u8]) -> files::Read
-    ensures { λ r. ⌜ Counts (r .size) (now (text .exit)) ⌝ }
-{
-    let file = os::open_read(name);
-    let read = files::read_text(file, text);
-    libc::close(file);
-    read
-}
-
 // Argument i; of one that is longer than any path, its first bytes, by which no file can be opened.
 fn name_of(i: usize, name: &mut [u8]) -> usize
     ensures { λ r. ⌜ Counts r (now (name .exit)) ⌝ }
@@ -75,7 +66,7 @@ fn one_more(went: Went, unread: bool, written: bool) -> Went {
 // The candidate whose answer stands in `path`, shown by this name.
 fn run_answer(block: &mut [u8], sheet: &[u8], path: &[u8], name: &[u8], went: Went) -> Went {
     let mut answer = [0u8; 32769];
-    let read = read_named(path, &mut answer);
+    let read = files::read_named(path, &mut answer);
     let size = read.size;
     if read.failed {
         say_unreadable(block, name);
@@ -207,7 +198,7 @@ fn print_last(block: &mut [u8], went: Went) -> bool {
 // Each text has room for a byte more than it may have, so that a longer one still gets 1. A missing sheet counts as empty.
 fn sit(block: &mut [u8]) {
     let mut sheet = [0u8; 32769];
-    let n = read_named(b"sheet.txt", &mut sheet).size;
+    let n = files::read_named(b"sheet.txt", &mut sheet).size;
     let went = run_arguments(block, &sheet[..n]);
     print_last(block, went);
 }
@@ -216,7 +207,7 @@ fn sit_for_script(block: &mut [u8]) {
     let mut path = [0u8; 4096];
     let k = name_of(2, &mut path);
     let mut sheet = [0u8; 32769];
-    let n = read_named(&path[..k], &mut sheet).size;
+    let n = files::read_named(&path[..k], &mut sheet).size;
     let mut name = [0u8; 4096];
     let mut bytes = [0u8; 65536];
     let went = run_names(block, &sheet[..n], &mut name, &mut bytes);

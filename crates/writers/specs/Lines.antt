@@ -18,8 +18,8 @@ reached accepted refused port ws = record { accepted = accepted; refused = refus
 unfoldable pub endingPart : ℕ → Concerned → List ℕ
 endingPart refused port = countText (bytes "refused=") refused ++ portText port
 
-unfoldable pub headPart : Walked → List ℕ
-headPart w = countText (bytes "accepted=") (w .accepted) ++ endingPart (w .refused) (w .port) ++ countText (bytes "next=") (w .configuration .done)
+unfoldable pub headPart : ℕ → ℕ → Concerned → ℕ → List ℕ
+headPart accepted refused port next = countText (bytes "accepted=") accepted ++ endingPart refused port ++ countText (bytes "next=") next
 
 unfoldable pub instancesPart : Configuration → List ℕ
 instancesPart c = countText (bytes "instances=") (tally 32 (λ i. instance c i .present)) ++ instancesText c

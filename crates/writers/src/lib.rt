@@ -21,9 +21,9 @@ use words::state::server;
 use words::state::slot;
 ghost use mathlib.Core.Path.{_≡_};
 ghost use Rattle.model.specs.View.{instance, connectionOf, queueOf};
-ghost use Rattle.forms.specs.Write.{listText};
+ghost use Rattle.forms.specs.Write.{listText, inTurn};
 ghost use Rattle.sets.specs.Test.{tally};
-ghost use Rattle.report.specs.Report.{countText, portText, instanceText, connectionText, instanceAt, instancesText, connectionsText, report};
+ghost use Rattle.report.specs.Report.{countText, portText, instanceText, connectionText, instanceAt, connectionsText, report};
 ghost use Rattle.report.specs.Faults.{textText, faultText};
 ghost use Rattle.rules.specs.Standing.{standing};
 ghost use Rattle.inks.specs.Written.{Written};
@@ -105,7 +105,7 @@ fn write_present(t: &mut [u8], state: &StateWords, i: u32) -> usize
 
 // The lines of the instances by id.
 fn write_instance_lines(t: &mut [u8], state: &StateWords) -> usize
-    ensures { λ r. ⌜ Written (now (t .entry)) (instancesText (stateIn (now (state .entry)))) (now (t .exit)) 0 r ⌝ }
+    ensures { λ r. ⌜ Written (now (t .entry)) (inTurn (instanceAt (stateIn (now (state .entry)))) 32) (now (t .exit)) 0 r ⌝ }
 {
     let mut used: usize = 0;
     let mut i: u32 = 0;
@@ -169,18 +169,12 @@ fn write_ending(t: &mut [u8], refused: u32, port: Concerned) -> usize
 }
 
 // accepted=, refused=, port=, next=
-fn write_head(
-    t: &mut [u8],
-    accepted: u32,
-    refused: u32,
-    port: Concerned,
-    state: &StateWords,
-) -> usize
-    ensures { λ r. ⌜ Written (now (t .entry)) (headPart (reached accepted refused port (now (state .entry)))) (now (t .exit)) 0 r ⌝ }
+fn write_head(t: &mut [u8], accepted: u32, refused: u32, port: Concerned, next: u32) -> usize
+    ensures { λ r. ⌜ Written (now (t .entry)) (headPart accepted refused port next) (now (t .exit)) 0 r ⌝ }
 {
     let mut used = write_count(t, b"accepted=", accepted as usize);
     used += write_ending(&mut t[used..], refused, port);
-    used + write_count(&mut t[used..], b"next=", done(state) as usize)
+    used + write_count(&mut t[used..], b"next=", next as usize)
 }
 
 // instances= and a line for each that is present
@@ -210,7 +204,7 @@ pub fn write_report(
 ) -> usize
     ensures { λ r. ⌜ Written (now (t .entry)) (report (reached accepted refused port (now (state .entry)))) (now (t .exit)) 0 r ⌝ }
 {
-    let mut used = write_head(t, accepted, refused, port, state);
+    let mut used = write_head(t, accepted, refused, port, done(state));
     used += write_instances(&mut t[used..], state);
     used + write_connections(&mut t[used..], state)
 }

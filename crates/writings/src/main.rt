@@ -11,19 +11,6 @@ use scribes::Written;
 ghost use Prim.Native.Nat.{_≤_};
 ghost use Rattle.io.specs.Counts.{Counts};
 
-// What stands in a file, or nothing.
-fn read_file(path: &[u8], buffer: &mut [u8]) -> usize
-    ensures { λ r. ⌜ Counts r (now (buffer .exit)) ⌝ }
-{
-    let file = os::open_read(path);
-    if file < 0 {
-        return 0;
-    }
-    let n = io::read_full(file, buffer);
-    libc::close(file);
-    n
-}
-
 fn ends_in(name: &[u8], end: &[u8]) -> bool {
     if name.len() < end.len() {
         return false;
@@ -50,19 +37,13 @@ fn pen_form(tables: &[u32; 2002], program: &[u32; 1281], out: &mut [u8]) -> Writ
     scribes::write_form(tables, program, out)
 }
 
-fn write_lines(rows: &[u8], text: &mut [u8]) -> usize
-    ensures { λ r. ⌜ Counts r (now (text .exit)) ⌝ }
-{
-    cells::write_lines(rows, text)
-}
-
 // Through a form and back.
 fn through_form(tables: &mut [u32; 2002], program: &mut [u32; 1281]) {
     let mut out = [0u8; 32768];
     let written = pen_form(tables, program, &mut out);
     let bytes = written.bytes;
     let mut text = [0u8; 32769];
-    let used = write_lines(&out[..bytes], &mut text);
+    let used = cells::write_lines(&out[..bytes], &mut text);
     sheets::fill_form(&text[..used], tables, program);
 }
 
@@ -175,7 +156,7 @@ fn run_text(i: usize) {
     let mut name = [0u8; 64];
     let k = os::arg(i, &mut name);
     let mut buffer = [0u8; 70000];
-    let n = read_file(&name[..k], &mut buffer);
+    let n = files::read_named(&name[..k], &mut buffer).size;
     io::write_all(STDOUT_FILENO, &name[..k]);
     if ends_in(&name[..k], b".words") {
         write_words(&buffer[..n]);

@@ -1,12 +1,12 @@
 use Rattle.inks.proofs.Laws.{next}
-use Rattle.aeolus_judged.specs.Report.{bindingsPart}
+use Rattle.aeolus_judged.specs.Report.{bindingsText, bindingsPart}
 use borrow.Author.Needs.{needs}
 use Rattle.aeolus_writers.proofs.write_bindings.Statement.{statement}
 use Rattle.aeolus_writers.proofs.write_bindings.Tie as tie
 
-returns : tie.Need-returns
-unfolding bindingsPart
-returns c = next (rw (c .before .before .before .before .before .before .before .before .before .bindings .ensures) at (c .before .before .before .before .before .before .write-count .ensures)) (c .before .before .write-binding-lines .ensures)
-
 pub write-bindings-spec : {M : Type 1} → statement M
-write-bindings-spec = tie.close (tie.spec (λ c κs. search needs) (λ c. search needs) (λ c. search needs) (λ c κs. search needs) (λ c. search needs) (λ c. search needs) (λ c. search needs) (λ c κs. search needs) (λ c. search needs) (λ c. search needs) returns)
+unfolding bindingsPart bindingsText
+write-bindings-spec = tie.close (tie.spec
+    (λ c κs. search needs) (λ c. search needs) (λ c. search needs) (λ c κs. search needs) (λ c. search needs) (λ c. search needs) (λ c. search needs)
+    (λ c κs. search needs) (λ c. search needs) (λ c. search needs)
+    (λ c. next (rw (c .before .before .before .before .before .before .before .before .before .bindings .ensures) at (c .before .before .before .before .before .before .write-count .ensures)) (c .before .before .write-binding-lines .ensures)))

@@ -1,26 +1,20 @@
-use Prim.Native.Nat.{_≤_, _-_}
-use mathlib.Core.Path.{_≡_}
-use native.Mathlib.Omega.{arith}
-use Rattle.inks.proofs.Laws.{length-written}
-use Rattle.writers.proofs.Parts.{Turns, turns-none, turns-more}
+use Prim.Native.Nat.{_-_}
+use Rattle.inks.proofs.Turns.{Turns, turns-none, turns-more, turns-all}
 use Rattle.aeolus_model.specs.Words.{configurationIn}
-use Rattle.aeolus_judged.specs.Report.{componentAt, componentsText}
+use Rattle.aeolus_judged.specs.Report.{componentAt}
 use borrow.Author.Needs.{needs}
 use Rattle.aeolus_writers.proofs.write_component_lines.Statement.{statement}
 use Rattle.aeolus_writers.proofs.write_component_lines.Tie as tie
 
 abbrev Inv-loop : tie.InvT-loop
-Inv-loop t₀ deployed used₀ z₀ t used z = (z ≤ 32) × Turns (componentAt (configurationIn deployed)) z t₀ t used
+Inv-loop t₀ deployed used₀ z₀ t used z = Turns (componentAt (configurationIn deployed)) 32 z t₀ t used
 
 abbrev μ-loop : tie.MeasureT-loop
 μ-loop t₀ deployed used₀ z₀ t used z = 32 - z
 
-loop-again : tie.Need-loop-again Inv-loop μ-loop
-loop-again c = let line = c .before .before in (omega arith, turns-more (line .before .before .before .loop .inv .1) (line .write-component .ensures))
-
-returns : tie.Need-returns Inv-loop μ-loop
-unfolding componentsText
-returns c = let e : c .before .loop .z ≡ 32 = omega arith in rw e at (c .before .loop .inv .1 .written)
-
 pub write-component-lines-spec : {M : Type 1} → statement M
-write-component-lines-spec = tie.close (tie.spec Inv-loop μ-loop (λ c. (omega arith, turns-none)) (λ c. search needs) (λ c. search needs) (λ c. search needs) (λ c κs. search needs) (λ c. search needs) (λ c. search needs) (λ c. omega arith) loop-again (λ c. length-written (returns c)) returns)
+write-component-lines-spec = tie.close (tie.spec
+    Inv-loop μ-loop (λ c. turns-none) (λ c. search needs) (λ c. search needs) (λ c. search needs) (λ c κs. search needs) (λ c. search needs)
+    (λ c. search needs) (λ c. search needs)
+    (λ c. turns-more (c .before .before .before .before .before .loop .inv) (c .before .before .before .before .loop-test .taken) (c .before .before .write-component .ensures))
+    (λ c. search needs) (λ c. turns-all (c .before .loop .inv) (c .loop-test .left)))

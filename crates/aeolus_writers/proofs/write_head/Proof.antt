@@ -4,9 +4,9 @@ use borrow.Author.Needs.{needs}
 use Rattle.aeolus_writers.proofs.write_head.Statement.{statement}
 use Rattle.aeolus_writers.proofs.write_head.Tie as tie
 
-returns : tie.Need-returns
-unfolding headPart
-returns c = next (c .before .before .before .before .before .before .before .before .write-count .ensures) (c .before .before .write-count2 .ensures)
-
 pub write-head-spec : {M : Type 1} → statement M
-write-head-spec = tie.close (tie.spec (λ c. search needs) (λ c. search needs) (λ c κs. search needs) (λ c. search needs) (λ c. search needs) (λ c. search needs) (λ c. search needs) (λ c. search needs) (λ c κs. search needs) (λ c. search needs) (λ c. search needs) returns)
+unfolding headPart
+write-head-spec = tie.close (tie.spec
+    (λ c. search needs) (λ c. search needs) (λ c κs. search needs) (λ c. search needs) (λ c. search needs) (λ c. search needs) (λ c. search needs)
+    (λ c. search needs) (λ c κs. search needs) (λ c. search needs) (λ c. search needs)
+    (λ c. next (c .before .before .before .before .before .before .before .before .write-count .ensures) (c .before .before .write-count2 .ensures)))

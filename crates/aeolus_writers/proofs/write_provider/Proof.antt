@@ -6,12 +6,9 @@ use borrow.Author.Needs.{needs}
 use Rattle.aeolus_writers.proofs.write_provider.Statement.{statement}
 use Rattle.aeolus_writers.proofs.write_provider.Tie as tie
 
-returns : tie.Need-returns
-returns c = line-absent _ (sym (c .before .member .ensures) ∙ not-true (c .before .member .result) (c .if1 .taken))
-
-returns-2 : tie.Need-returns-2
-unfolding bindingText
-returns-2 c = line-there (sym (c .before .before .before .before .before .before .member .ensures) ∙ not-false (c .before .before .before .before .before .before .member .result) (c .before .before .before .before .before .if1 .left)) (c .before .before .write-three .ensures)
-
 pub write-provider-spec : {M : Type 1} → statement M
-write-provider-spec = tie.close (tie.spec (λ c κs. search needs) returns (λ c. search needs) (λ c κs. search needs) (λ c. search needs) returns-2)
+unfolding bindingText
+write-provider-spec = tie.close (tie.spec
+    (λ c κs. search needs) (λ c. line-absent _ (sym (c .before .member .ensures) ∙ not-true (c .before .member .result) (c .if1 .taken)))
+    (λ c. search needs) (λ c κs. search needs) (λ c. search needs)
+    (λ c. line-there (sym (c .before .before .before .before .before .before .member .ensures) ∙ not-false (c .before .before .before .before .before .before .member .result) (c .before .before .before .before .before .if1 .left)) (c .before .before .write-three .ensures)))

@@ -3,14 +3,5 @@ use borrow.Author.Needs.{needs}
 use Rattle.cells.proofs.cell_byte.Statement.{statement}
 use Rattle.cells.proofs.cell_byte.Tie as tie
 
-returns : tie.Need-returns
-returns c = rw (eq-eqb _ _ (c .if1 .taken))
-
-returns-2 : tie.Need-returns-2
-returns-2 c = rw (ne-eqb _ _ (c .if1 .left))
-
 pub cell-byte-spec : {M : Type 1} → statement M
-cell-byte-spec =
-    tie.close
-    (tie.spec
-    returns returns-2)
+cell-byte-spec = tie.close (tie.spec (λ c. rw (eq-eqb _ _ (c .if1 .taken))) (λ c. rw (ne-eqb _ _ (c .if1 .left))))

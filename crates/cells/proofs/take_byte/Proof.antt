@@ -7,34 +7,21 @@ use borrow.Author.Needs.{needs}
 use Rattle.cells.proofs.take_byte.Statement.{statement}
 use Rattle.cells.proofs.take_byte.Tie as tie
 
-returns : tie.Need-returns
+pub take-byte-spec : {M : Type 1} → statement M
 unfolding stands firstAfter commasAfter
-returns c =
-    let a = eq-eqb _ _ (c .before .before .before .before .if1 .taken) in (rw a (c .before .before .write-byte .ensures), (rw a, rw (c .before .before .before .before .if1 .taken)))
-
-returns-2 : tie.Need-returns-2
-unfolding stands firstAfter commasAfter
-returns-2 c =
+take-byte-spec = tie.close (tie.spec
+    (λ c κs. search needs) (λ c. search needs)
+    (λ c. let a = eq-eqb _ _ (c .before .before .before .before .if1 .taken) in (rw a (c .before .before .write-byte .ensures), (rw a, rw (c .before .before .before .before .if1 .taken))))
+    (λ c. search needs)
+    (λ c.
     let a = ne-eqb _ _ (c .before .before .if1 .left) in
-    let b = eq-eqb _ _ (c .before .if2 .taken) in (rw (a, b, or-true) (none _ _), (rw (a, b, or-true), rw b (add-one (c .before .before .before .before .args .row .commas))))
-
-returns-3 : tie.Need-returns-3
-unfolding stands firstAfter commasAfter
-returns-3 c =
+    let b = eq-eqb _ _ (c .before .if2 .taken) in (rw (a, b, or-true) (none _ _), (rw (a, b, or-true), rw b (add-one (c .before .before .before .before .args .row .commas)))))
+    (λ c.
     let a = ne-eqb _ _ (c .before .before .if1 .left) in
     let b = ne-eqb _ _ (c .before .if2 .left) in
-    let d = eq-eqb _ _ (c .if3 .taken) in (rw (a, b, d) (none _ _), (rw (a, b, d), rw (b, d)))
-
-returns-4 : tie.Need-returns-4
-unfolding stands firstAfter commasAfter
-returns-4 c =
+    let d = eq-eqb _ _ (c .if3 .taken) in (rw (a, b, d) (none _ _), (rw (a, b, d), rw (b, d))))
+    (λ c κs. search needs) (λ c. search needs)
+    (λ c.
     let a = ne-eqb _ _ (c .before .before .before .before .before .before .before .before .if1 .left) in
     let b = ne-eqb _ _ (c .before .before .before .before .before .before .before .if2 .left) in
-    let d = ne-eqb _ _ (c .before .before .before .before .before .before .if3 .left) in (rw (a, b, d) (c .before .before .before .before .write-value .ensures), (rw (a, b, d), rw (b, d)))
-
-pub take-byte-spec : {M : Type 1} → statement M
-take-byte-spec =
-    tie.close
-    (tie.spec
-    (λ c κs. search needs) (λ c. search needs) returns (λ c. search needs) returns-2 returns-3 (λ c κs. search needs) (λ c. search needs)
-    returns-4)
+    let d = ne-eqb _ _ (c .before .before .before .before .before .before .if3 .left) in (rw (a, b, d) (c .before .before .before .before .write-value .ensures), (rw (a, b, d), rw (b, d)))))

@@ -15,20 +15,9 @@ Inv-loop out₀ at count end₀ i₀ out end i = (i ≤ count) × Written out₀
 abbrev μ-loop : tie.MeasureT-loop
 μ-loop out₀ at count end₀ i₀ out end i = count - i
 
-loop-holds : tie.Need-loop-holds Inv-loop μ-loop
-loop-holds c = (omega arith, none _ _)
-
-loop-again : tie.Need-loop-again Inv-loop μ-loop
-loop-again c = (omega arith, rw (one-comma (c .before .before .before .before .before .loop .i) 44) (then (c .before .before .before .before .before .loop .inv .1) (c .before .before .write-byte .ensures)))
-
-same-length : tie.Need-same-length Inv-loop μ-loop
-same-length c = length-written (c .before .loop .inv .1)
-
-returns : tie.Need-returns Inv-loop μ-loop
-returns c = let e : c .before .loop .i ≡ c .before .before .before .args .count = omega (arith, c .before .loop .inv .0, c .loop-test .left) in rw e at (c .before .loop .inv .1)
-
 pub write-commas-spec : {M : Type 1} → statement M
-write-commas-spec =
-    tie.close
-    (tie.spec
-    Inv-loop μ-loop loop-holds (λ c κs. search needs) (λ c. search needs) (λ c. search needs) loop-again same-length returns)
+write-commas-spec = tie.close (tie.spec
+    Inv-loop μ-loop (λ c. (omega arith, none _ _)) (λ c κs. search needs) (λ c. search needs) (λ c. search needs)
+    (λ c. (omega arith, rw (one-comma (c .before .before .before .before .before .loop .i) 44) (then (c .before .before .before .before .before .loop .inv .1) (c .before .before .write-byte .ensures))))
+    (λ c. length-written (c .before .loop .inv .1))
+    (λ c. let e : c .before .loop .i ≡ c .before .before .before .args .count = omega (arith, c .before .loop .inv .0, c .loop-test .left) in rw e at (c .before .loop .inv .1)))

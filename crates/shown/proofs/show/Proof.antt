@@ -17,22 +17,12 @@ Inv-loop t₀ at text p₀ i₀ t p i = (i ≤ length text) × Written t₀ (sho
 abbrev μ-loop : tie.MeasureT-loop
 μ-loop t₀ at text p₀ i₀ t p i = length text - i
 
-loop-holds : tie.Need-loop-holds Inv-loop μ-loop
+pub show-spec : {M : Type 1} → statement M
 unfolding shown
-loop-holds c = (omega arith, none _ _)
-
-loop-again : tie.Need-loop-again Inv-loop μ-loop
-loop-again c =
+show-spec = tie.close (tie.spec
+    Inv-loop μ-loop (λ c. (omega arith, none _ _)) (λ c. search needs) (λ c κs. search needs) (λ c. search needs) (λ c. omega arith)
+    (λ c.
     let k = c .before .before .before .before .before in
     let w = then (k .before .loop .inv .1) (c .before .before .show-byte .ensures) in
-    (omega arith, rw (shown-more _ _ (k .loop-test .taken)) w)
-
-returns : tie.Need-returns Inv-loop μ-loop
-returns c = rw (take-all _ _ (c .loop-test .left)) at (c .before .loop .inv .1)
-
-pub show-spec : {M : Type 1} → statement M
-show-spec =
-    tie.close
-    (tie.spec
-    Inv-loop μ-loop loop-holds (λ c. search needs) (λ c κs. search needs) (λ c. search needs) (λ c. omega arith) loop-again
-    (λ c. length-written (c .before .loop .inv .1)) returns)
+    (omega arith, rw (shown-more _ _ (k .loop-test .taken)) w))
+    (λ c. length-written (c .before .loop .inv .1)) (λ c. rw (take-all _ _ (c .loop-test .left)) at (c .before .loop .inv .1)))

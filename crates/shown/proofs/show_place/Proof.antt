@@ -5,9 +5,12 @@ use Rattle.shown.proofs.Pieces.{written-counts}
 use Rattle.shown.proofs.show_place.Statement.{statement}
 use Rattle.shown.proofs.show_place.Tie as tie
 
-returns : tie.Need-returns
+pub show-place-spec : {M : Type 1} → statement M
 unfolding placeText
-returns c =
+show-place-spec = tie.close (tie.spec
+    (λ c. search needs) (λ c κs. search needs) (λ c κs. search needs) (λ c κs. search needs) (λ c κs. search needs) (λ c κs. search needs)
+    (λ c κs. search needs) (λ c κs. search needs)
+    (λ c.
     let size = c .before .before in
     let start-end = size .before .before in
     let start = start-end .before .before in
@@ -17,11 +20,4 @@ returns c =
     let to-which = then (then (key .write-key .ensures) (which .write-which .ensures)) (which-end .write-byte .ensures) in
     let to-start = then (then to-which (start .write-number .ensures)) (start-end .write-byte2 .ensures) in
     let all = then (then to-start (size .write-number2 .ensures)) (c .write-byte3 .ensures) in
-    (all, written-counts all)
-
-pub show-place-spec : {M : Type 1} → statement M
-show-place-spec =
-    tie.close
-    (tie.spec
-    (λ c. search needs) (λ c κs. search needs) (λ c κs. search needs) (λ c κs. search needs) (λ c κs. search needs) (λ c κs. search needs)
-    (λ c κs. search needs) (λ c κs. search needs) returns)
+    (all, written-counts all)))

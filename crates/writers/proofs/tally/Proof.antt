@@ -17,23 +17,15 @@ Inv-loop state n₀ i₀ n i = (i ≤ 32) × (n ≤ i) × (n ≡ tally i (λ k. 
 abbrev μ-loop : tie.MeasureT-loop
 μ-loop state n₀ i₀ n i = 32 - i
 
-loop-holds : tie.Need-loop-holds Inv-loop μ-loop
-loop-holds c = (omega arith, omega arith, sym (tally-start _))
-
-loop-again : tie.Need-loop-again Inv-loop μ-loop
-loop-again c =
+pub tally-spec : {M : Type 1} → statement M
+tally-spec = tie.close (tie.spec
+    Inv-loop μ-loop (λ c. (omega arith, omega arith, sym (tally-start _))) (λ c κs. search needs) (λ c. search needs) (λ c. search needs)
+    (λ c. omega arith)
+    (λ c.
     let l = c .before .before .before .loop in
     let here = sym (c .before .present .ensures) in
     ⊎-elim
     (λ w. (omega arith, omega (arith, w .1), w .1 ∙ rw (l .inv .2) (sym (tally-in _ _ (here ∙ w .0 .taken)))))
     (λ w. (omega arith, omega (arith, w .1), w .1 ∙ rw (l .inv .2) (sym (tally-out _ _ (here ∙ w .0 .left)))))
-    (c .if1 .came)
-
-returns : tie.Need-returns Inv-loop μ-loop
-returns c = let e : c .before .loop .i ≡ 32 = omega arith in rw e at (c .before .loop .inv .2)
-
-pub tally-spec : {M : Type 1} → statement M
-tally-spec =
-    tie.close
-    (tie.spec
-    Inv-loop μ-loop loop-holds (λ c κs. search needs) (λ c. search needs) (λ c. search needs) (λ c. omega arith) loop-again returns)
+    (c .if1 .came))
+    (λ c. let e : c .before .loop .i ≡ 32 = omega arith in rw e at (c .before .loop .inv .2)))

@@ -22,13 +22,8 @@ returns c =
     let from-useport = then (then (useport .write-number2 .ensures) (useport-end .write-byte2 .ensures)) from-provider in
     then (key .write-key .ensures) (then (then (user .write-number .ensures) (user-end .write-byte .ensures)) from-useport)
 
-same-length : tie.Need-same-length
-same-length c = length-written (returns c)
-
 pub write-connection-spec : {M : Type 1} → statement M
-write-connection-spec =
-    tie.close
-    (tie.spec
+write-connection-spec = tie.close (tie.spec
     (λ c. search needs) (λ c κs. search needs) (λ c. search needs) (λ c κs. search needs) (λ c κs. search needs) (λ c. search needs)
     (λ c κs. search needs) (λ c κs. search needs) (λ c κs. search needs) (λ c. search needs) (λ c κs. search needs) (λ c κs. search needs)
-    (λ c κs. search needs) (λ c. search needs) (λ c κs. search needs) (λ c κs. search needs) same-length returns)
+    (λ c κs. search needs) (λ c. search needs) (λ c κs. search needs) (λ c κs. search needs) (λ c. length-written (returns c)) returns)

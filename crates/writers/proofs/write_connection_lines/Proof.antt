@@ -15,33 +15,30 @@ use Rattle.rules.specs.Standing.{standing, inTable}
 use Rattle.rules.proofs.Connections.{count-is}
 use Rattle.report.specs.Report.{connectionText, connectionLine}
 use Rattle.report.proofs.Lines.{lineAt, lines-in-turn}
-use Rattle.inks.proofs.Laws.{length-written}
 use Rattle.words.specs.Words.{stateIn}
 use Rattle.words.proofs.InState.{servers-length}
-use Rattle.writers.proofs.Parts.{Turns, turns-none, turns-more, turns-empty, all-written}
+use Rattle.inks.proofs.Turns.{Turns, turns-none, turns-more, turns-empty}
+use Rattle.writers.proofs.Parts.{all-written}
 use borrow.Author.Needs.{needs}
 use Rattle.writers.proofs.write_connection_lines.Statement.{statement}
 use Rattle.writers.proofs.write_connection_lines.Tie as tie
 
 abbrev Inv-loop : tie.InvT-loop
 Inv-loop t₀ state n used₀ left₀ s₀ t used left s =
-    (s ≤ 512) × (left + tally s (isServed (stateIn state .servers)) ≡ n) × Turns (lineAt (stateIn state .servers)) s t₀ t used
+    (left + tally s (isServed (stateIn state .servers)) ≡ n) × Turns (lineAt (stateIn state .servers)) 512 s t₀ t used
 
 abbrev μ-loop : tie.MeasureT-loop
 μ-loop t₀ state n used₀ left₀ s₀ t used left s = 512 - s
 
-loop-holds : tie.Need-loop-holds Inv-loop μ-loop
-loop-holds c = (omega arith, omega (arith, tally-start (isServed (stateIn (c .before .args .state .now) .servers))), turns-none)
-
 -- where one is left, the table goes on
-last : (c : tie.Joined1 Inv-loop μ-loop) → c .before .before .before .loop .s + 1 ≤ 512
+last : (c : tie.Joined1 Inv-loop μ-loop) → c .before .before .before .loop .s < 512
 last c =
     let l = c .before .before .before in
     let ws = l .before .before .args .state .now in
-    by-cases (decLt (l .loop .s) 512) (λ h. omega arith)
+    by-cases (decLt (l .loop .s) 512) (λ h. h)
     (λ h.
-    let e : l .loop .s ≡ 512 = omega arith in
-    let all = rw e at (l .loop .inv .1) in
+    let e : l .loop .s ≡ 512 = omega (arith, l .loop .inv .1 .up) in
+    let all = rw e at (l .loop .inv .0) in
     absurd (omega (arith, all, l .before .before .pre, count-is (stateIn ws .servers) (servers-length ws))))
 
 -- a use port that is free has no line
@@ -49,9 +46,13 @@ silent : (x : List ℕ) (s : ℕ) → isServed x s ≡ false → lineAt x s ≡ 
 unfolding isServed connectionLine
 silent x s e = rw e refl
 
-loop-again : tie.Need-loop-again Inv-loop μ-loop
+pub write-connection-lines-spec : {M : Type 1} → statement M
 unfolding isServed connectionLine
-loop-again c =
+write-connection-lines-spec = tie.close (tie.spec
+    Inv-loop μ-loop (λ c. (omega (arith, tally-start (isServed (stateIn (c .before .args .state .now) .servers))), turns-none)) (λ c κs. search needs)
+    (λ c. search needs) (λ c. search needs) (λ c. search needs) (λ c κs. search needs) (λ c. search needs) (λ c. search needs) (λ c. search needs)
+    (λ c. omega (arith, last c))
+    (λ c.
     let l = c .before .before .before in
     let x = stateIn (l .before .before .args .state .now) .servers in
     let read = c .before .server .ensures in
@@ -59,27 +60,16 @@ loop-again c =
     (λ w.
     let on : not (eqb (server x (l .loop .s)) 0) ≡ true = rw (← read, ne-eqb _ _ (w .0 .taken)) refl in
     let line : lineAt x (l .loop .s) ≡ connectionText (connectionOf (l .loop .s) (c .before .server .result)) = rw (on, read) refl in
-    (last c, omega (arith, w .7, l .loop .inv .1, tally-in (isServed x) (l .loop .s) on), rw (w .5, w .6) (turns-more (l .loop .inv .2) (rw (sym line) at (w .2 .ensures)))))
+    (omega (arith, w .7, l .loop .inv .0, tally-in (isServed x) (l .loop .s) on), rw (w .5, w .6) (turns-more (l .loop .inv .1) (last c) (rw (sym line) at (w .2 .ensures)))))
     (λ w.
     let off : not (eqb (server x (l .loop .s)) 0) ≡ false = rw (← read, eq-eqb _ _ (w .0 .left)) refl in
-    (last c, omega (arith, w .3, l .loop .inv .1, tally-out (isServed x) (l .loop .s) off), rw (w .1, w .2) (turns-empty (l .loop .inv .2) (rw off refl))))
-    (c .if1 .came)
-
-returns : tie.Need-returns Inv-loop μ-loop
-returns c =
+    (omega (arith, w .3, l .loop .inv .0, tally-out (isServed x) (l .loop .s) off), rw (w .1, w .2) (turns-empty (l .loop .inv .1) (last c) (rw off refl))))
+    (c .if1 .came))
+    (λ c. c .before .loop .inv .1 .same-length)
+    (λ c.
     let l = c .before in
     let ws = l .before .before .args .state .now in
     let x = stateIn ws .servers in
-    let all : tally 512 (isServed x) ≡ tally (l .loop .s) (isServed x) = omega (arith, l .loop .inv .1, l .before .before .pre, count-is x (servers-length ws)) in
-    let same = all-written (isServed x) (lineAt x) (silent x) (l .loop .s) 512 (l .loop .inv .0) all in
-    rw (lines-in-turn (stateIn ws) (servers-length ws), same) (l .loop .inv .2 .written)
-
-same-length : tie.Need-same-length Inv-loop μ-loop
-same-length c = length-written (returns c)
-
-pub write-connection-lines-spec : {M : Type 1} → statement M
-write-connection-lines-spec =
-    tie.close
-    (tie.spec
-    Inv-loop μ-loop loop-holds (λ c κs. search needs) (λ c. search needs) (λ c. search needs) (λ c. search needs)
-    (λ c κs. search needs) (λ c. search needs) (λ c. search needs) (λ c. search needs) (λ c. omega (arith, last c)) loop-again same-length returns)
+    let all : tally 512 (isServed x) ≡ tally (l .loop .s) (isServed x) = omega (arith, l .loop .inv .0, l .before .before .pre, count-is x (servers-length ws)) in
+    let same = all-written (isServed x) (lineAt x) (silent x) (l .loop .s) 512 (l .loop .inv .1 .up) all in
+    rw (lines-in-turn (stateIn ws) (servers-length ws), same) (l .loop .inv .1 .written)))

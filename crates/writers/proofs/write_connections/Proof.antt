@@ -4,16 +4,12 @@ use borrow.Author.Needs.{needs}
 use Rattle.writers.proofs.write_connections.Statement.{statement}
 use Rattle.writers.proofs.write_connections.Tie as tie
 
-returns : tie.Need-returns
+pub write-connections-spec : {M : Type 1} → statement M
 unfolding connectionsPart
-returns c =
+write-connections-spec = tie.close (tie.spec
+    (λ c κs. search needs) (λ c. search needs) (λ c. search needs) (λ c κs. search needs) (λ c. search needs) (λ c. search needs) (λ c. search needs)
+    (λ c κs. c .before .before .before .before .before .before .entries .ensures .0) (λ c. search needs) (λ c. search needs)
+    (λ c.
     let lines = c .before .before in
     let count = lines .before .before .before .before in
-    next (rw (count .before .before .before .entries .ensures .0) at (count .write-count .ensures)) (lines .write-connection-lines .ensures)
-
-pub write-connections-spec : {M : Type 1} → statement M
-write-connections-spec =
-    tie.close
-    (tie.spec
-    (λ c κs. search needs) (λ c. search needs) (λ c. search needs) (λ c κs. search needs) (λ c. search needs) (λ c. search needs)
-    (λ c. search needs) (λ c κs. c .before .before .before .before .before .before .entries .ensures .0) (λ c. search needs) (λ c. search needs) returns)
+    next (rw (count .before .before .before .entries .ensures .0) at (count .write-count .ensures)) (lines .write-connection-lines .ensures)))

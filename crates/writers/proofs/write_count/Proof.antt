@@ -5,16 +5,12 @@ use Rattle.inks.proofs.Laws.{then}
 use Rattle.writers.proofs.write_count.Statement.{statement}
 use Rattle.writers.proofs.write_count.Tie as tie
 
-returns : tie.Need-returns
+pub write-count-spec : {M : Type 1} → statement M
 unfolding countText oneText
-returns c =
+write-count-spec = tie.close (tie.spec
+    (λ c κs. search needs) (λ c κs. search needs) (λ c κs. search needs) (λ c. search needs)
+    (λ c.
     let end = c .before .before in
     let number = end .before .before .before .before in
     let key = number .before .before .before .before in
-    then (key .write-key .ensures) (then (number .write-number .ensures) (end .write-byte .ensures))
-
-pub write-count-spec : {M : Type 1} → statement M
-write-count-spec =
-    tie.close
-    (tie.spec
-    (λ c κs. search needs) (λ c κs. search needs) (λ c κs. search needs) (λ c. search needs) returns)
+    then (key .write-key .ensures) (then (number .write-number .ensures) (end .write-byte .ensures))))

@@ -4,15 +4,9 @@ use borrow.Author.Needs.{needs}
 use Rattle.writers.proofs.write_ending.Statement.{statement}
 use Rattle.writers.proofs.write_ending.Tie as tie
 
-returns : tie.Need-returns
-unfolding endingPart
-returns c =
-    let port = c .before .before in
-    next (port .before .before .before .before .write-count .ensures) (port .write-port .ensures)
-
 pub write-ending-spec : {M : Type 1} → statement M
-write-ending-spec =
-    tie.close
-    (tie.spec
-    (λ c. search needs) (λ c κs. search needs) (λ c. search needs) (λ c. search needs) (λ c. search needs) (λ c κs. search needs)
-    (λ c. search needs) (λ c. search needs) returns)
+unfolding endingPart
+write-ending-spec = tie.close (tie.spec
+    (λ c. search needs) (λ c κs. search needs) (λ c. search needs) (λ c. search needs) (λ c. search needs) (λ c κs. search needs) (λ c. search needs)
+    (λ c. search needs)
+    (λ c. let port = c .before .before in next (port .before .before .before .before .write-count .ensures) (port .write-port .ensures)))

@@ -27,14 +27,9 @@ returns c =
     let to-ended = then (then to-running (rw (ended .before .ended .ensures) at (ended .write-mask3 .ensures))) (ended-end .write-byte5 .ensures) in
     then (then to-ended (queue .write-queue .ensures)) (end .write-byte6 .ensures)
 
-same-length : tie.Need-same-length
-same-length c = length-written (returns c)
-
 pub write-instance-spec : {M : Type 1} → statement M
-write-instance-spec =
-    tie.close
-    (tie.spec
+write-instance-spec = tie.close (tie.spec
     (λ c. search needs) (λ c κs. search needs) (λ c κs. search needs) (λ c κs. search needs) (λ c κs. search needs) (λ c. search needs)
-    (λ c κs. search needs) (λ c κs. search needs) (λ c κs. search needs) (λ c κs. search needs) (λ c κs. search needs)
-    (λ c κs. search needs) (λ c κs. search needs) (λ c κs. search needs) (λ c κs. search needs) (λ c κs. search needs)
-    (λ c κs. search needs) (λ c κs. search needs) (λ c κs. search needs) same-length returns)
+    (λ c κs. search needs) (λ c κs. search needs) (λ c κs. search needs) (λ c κs. search needs) (λ c κs. search needs) (λ c κs. search needs)
+    (λ c κs. search needs) (λ c κs. search needs) (λ c κs. search needs) (λ c κs. search needs) (λ c κs. search needs) (λ c κs. search needs)
+    (λ c κs. search needs) (λ c. length-written (returns c)) returns)

@@ -1,19 +1,16 @@
 use Rattle.inks.proofs.Laws.{next}
 use Rattle.writers.specs.Lines.{instancesPart}
+use Rattle.report.specs.Report.{instancesText}
 use borrow.Author.Needs.{needs}
 use Rattle.writers.proofs.write_instances.Statement.{statement}
 use Rattle.writers.proofs.write_instances.Tie as tie
 
-returns : tie.Need-returns
-unfolding instancesPart
-returns c =
+pub write-instances-spec : {M : Type 1} → statement M
+unfolding instancesPart instancesText
+write-instances-spec = tie.close (tie.spec
+    (λ c. search needs) (λ c κs. search needs) (λ c κs. search needs) (λ c. search needs) (λ c. search needs) (λ c. search needs)
+    (λ c κs. search needs) (λ c. search needs) (λ c. search needs)
+    (λ c.
     let lines = c .before .before in
     let count = lines .before .before .before .before in
-    next (rw (count .before .tally .ensures) at (count .write-count .ensures)) (lines .write-instance-lines .ensures)
-
-pub write-instances-spec : {M : Type 1} → statement M
-write-instances-spec =
-    tie.close
-    (tie.spec
-    (λ c. search needs) (λ c κs. search needs) (λ c κs. search needs) (λ c. search needs) (λ c. search needs) (λ c. search needs)
-    (λ c κs. search needs) (λ c. search needs) (λ c. search needs) returns)
+    next (rw (count .before .tally .ensures) at (count .write-count .ensures)) (lines .write-instance-lines .ensures)))

@@ -5,18 +5,11 @@ use borrow.Author.Needs.{needs}
 use Rattle.writers.proofs.write_present.Statement.{statement}
 use Rattle.writers.proofs.write_present.Tie as tie
 
-returns : tie.Need-returns
-unfolding instanceAt
-returns c =
-    let here = c .before .before .before .before in
-    line-there (sym (here .before .present .ensures) ∙ here .if1 .taken) (c .before .before .write-instance .ensures)
-
-returns-2 : tie.Need-returns-2
-unfolding instanceAt
-returns-2 c = line-absent _ (sym (c .before .present .ensures) ∙ c .if1 .left)
-
 pub write-present-spec : {M : Type 1} → statement M
-write-present-spec =
-    tie.close
-    (tie.spec
-    (λ c κs. search needs) (λ c κs. search needs) (λ c. search needs) returns returns-2)
+unfolding instanceAt
+write-present-spec = tie.close (tie.spec
+    (λ c κs. search needs) (λ c κs. search needs) (λ c. search needs)
+    (λ c.
+    let here = c .before .before .before .before in
+    line-there (sym (here .before .present .ensures) ∙ here .if1 .taken) (c .before .before .write-instance .ensures))
+    (λ c. line-absent _ (sym (c .before .present .ensures) ∙ c .if1 .left)))

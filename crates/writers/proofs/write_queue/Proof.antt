@@ -17,23 +17,6 @@ Inv-loop t₀ at state i n p₀ s₀ t p s = (1 ≤ s) × (s ≤ n) × Written t
 abbrev μ-loop : tie.MeasureT-loop
 μ-loop t₀ at state i n p₀ s₀ t p s = n - s
 
-returns : tie.Need-returns Inv-loop μ-loop
-unfolding queueOf
-returns c =
-    let empty = c .before .before .before .before in
-    rw (← empty .before .queued .ensures, list-none _ _ (empty .if1 .taken)) (c .before .before .write-byte .ensures)
-
-loop-holds : tie.Need-loop-holds Inv-loop μ-loop
-loop-holds c = (omega arith, omega arith, rw (further-none _) (none _ _))
-
-loop-again : tie.Need-loop-again Inv-loop μ-loop
-loop-again c =
-    let number = c .before .before in
-    let plus = number .before .before .before .before .before in
-    let l = plus .before .before .before .loop in
-    let w = then (l .inv .2) (then (plus .write-byte2 .ensures) (rw (number .before .slot2 .ensures) at (number .write-number2 .ensures))) in
-    (omega arith, omega arith, rw (further-turn _ _ (l .inv .0)) w)
-
 returns-2 : tie.Need-returns-2 Inv-loop μ-loop
 unfolding queueOf
 returns-2 c =
@@ -44,13 +27,19 @@ returns-2 c =
     rw (← some .before .queued .ensures, list-some _ _ (some .if1 .left))
     (then (rw (number .before .slot .ensures) at (number .write-number .ensures)) (rw e at (l .loop .inv .2)))
 
-same-length-2 : tie.Need-same-length-2 Inv-loop μ-loop
-same-length-2 c = length-written (returns-2 c)
-
 pub write-queue-spec : {M : Type 1} → statement M
-write-queue-spec =
-    tie.close
-    (tie.spec
-    Inv-loop μ-loop (λ c κs. search needs) (λ c κs. search needs) (λ c. search needs) returns (λ c κs. search needs) (λ c. search needs)
-    (λ c κs. search needs) loop-holds (λ c κs. search needs) (λ c κs. search needs) (λ c. search needs) (λ c κs. search needs)
-    (λ c. search needs) (λ c. omega arith) loop-again same-length-2 returns-2)
+unfolding queueOf
+write-queue-spec = tie.close (tie.spec
+    Inv-loop μ-loop (λ c κs. search needs) (λ c κs. search needs) (λ c. search needs)
+    (λ c.
+    let empty = c .before .before .before .before in
+    rw (← empty .before .queued .ensures, list-none _ _ (empty .if1 .taken)) (c .before .before .write-byte .ensures))
+    (λ c κs. search needs) (λ c. search needs) (λ c κs. search needs) (λ c. (omega arith, omega arith, rw (further-none _) (none _ _)))
+    (λ c κs. search needs) (λ c κs. search needs) (λ c. search needs) (λ c κs. search needs) (λ c. search needs) (λ c. omega arith)
+    (λ c.
+    let number = c .before .before in
+    let plus = number .before .before .before .before .before in
+    let l = plus .before .before .before .loop in
+    let w = then (l .inv .2) (then (plus .write-byte2 .ensures) (rw (number .before .slot2 .ensures) at (number .write-number2 .ensures))) in
+    (omega arith, omega arith, rw (further-turn _ _ (l .inv .0)) w))
+    (λ c. length-written (returns-2 c)) returns-2)

@@ -9,14 +9,10 @@ returns c =
     let connections = c .before .before in
     let instances = connections .before .before .before .before in
     let head = instances .before .before .before .before in
-    rw (← parts _) (next (next (head .write-head .ensures) (instances .write-instances .ensures)) (connections .write-connections .ensures))
-
-add-result : tie.Need-add-result
-add-result c = used-fits (returns c) (search needs)
+    rw (← parts _)
+    (next (next (rw (head .before .done .ensures) at (head .write-head .ensures)) (instances .write-instances .ensures)) (connections .write-connections .ensures))
 
 pub write-report-spec : {M : Type 1} → statement M
-write-report-spec =
-    tie.close
-    (tie.spec
-    (λ c κs. search needs) (λ c. search needs) (λ c. search needs) (λ c. search needs) (λ c κs. search needs) (λ c. search needs)
-    (λ c. search needs) (λ c. search needs) (λ c. search needs) (λ c κs. search needs) add-result (λ c. search needs) returns)
+write-report-spec = tie.close (tie.spec
+    (λ c κs. search needs) (λ c κs. search needs) (λ c. search needs) (λ c. search needs) (λ c. search needs) (λ c κs. search needs) (λ c. search needs)
+    (λ c. search needs) (λ c. search needs) (λ c. search needs) (λ c κs. search needs) (λ c. used-fits (returns c) (search needs)) (λ c. search needs) returns)

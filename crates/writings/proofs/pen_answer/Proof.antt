@@ -5,11 +5,7 @@ use borrow.Author.Needs.{needs}
 use Rattle.writings.proofs.pen_answer.Statement.{statement}
 use Rattle.writings.proofs.pen_answer.Tie as tie
 
-returns : tie.Need-returns
-returns c = let l = penned-within (c .before .before .write-answer .ensures) in (l, sym (length-take-le _ _ l))
-
 pub pen-answer-spec : {M : Type 1} → statement M
-pen-answer-spec =
-    tie.close
-    (tie.spec
-    (λ c κs. search needs) (λ c. search needs) returns)
+pen-answer-spec = tie.close (tie.spec
+    (λ c κs. search needs) (λ c. search needs)
+    (λ c. let l = penned-within (c .before .before .write-answer .ensures) in (l, sym (length-take-le _ _ l))))

@@ -5,11 +5,7 @@ use borrow.Author.Needs.{needs}
 use Rattle.writings.proofs.pen_sheet.Statement.{statement}
 use Rattle.writings.proofs.pen_sheet.Tie as tie
 
-returns : tie.Need-returns
-returns c = let l = penned-within (c .before .before .write-sheet .ensures) in (l, sym (length-take-le _ _ l))
-
 pub pen-sheet-spec : {M : Type 1} → statement M
-pen-sheet-spec =
-    tie.close
-    (tie.spec
-    (λ c κs. search needs) (λ c. search needs) returns)
+pen-sheet-spec = tie.close (tie.spec
+    (λ c κs. search needs) (λ c. search needs)
+    (λ c. let l = penned-within (c .before .before .write-sheet .ensures) in (l, sym (length-take-le _ _ l))))

@@ -5,11 +5,7 @@ use borrow.Author.Needs.{needs}
 use Rattle.writings.proofs.show_text.Statement.{statement}
 use Rattle.writings.proofs.show_text.Tie as tie
 
-slice-aggregate-write-all : tie.Need-slice-aggregate-write-all
-slice-aggregate-write-all c = sym (length-take-le (c .before .place-in .result) _ (omega (arith, c .before .place-in .ensures)))
-
 pub show-text-spec : {M : Type 1} → statement M
-show-text-spec =
-    tie.close
-    (tie.spec
-    (λ c κs. search needs) slice-aggregate-write-all (λ c κs. search needs) (λ c. search needs))
+show-text-spec = tie.close (tie.spec
+    (λ c κs. search needs) (λ c. sym (length-take-le (c .before .place-in .result) _ (omega (arith, c .before .place-in .ensures))))
+    (λ c κs. search needs) (λ c. search needs))

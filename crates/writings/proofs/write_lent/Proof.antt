@@ -5,16 +5,10 @@ use borrow.Author.Needs.{needs}
 use Rattle.writings.proofs.write_lent.Statement.{statement}
 use Rattle.writings.proofs.write_lent.Tie as tie
 
-slice-aggregate-write-sheet : tie.Need-slice-aggregate-write-sheet
-slice-aggregate-write-sheet c = sym (length-take-le (c .before .before .before .place-in .result) _ (omega (arith, c .before .before .before .place-in .ensures)))
-
-slice-aggregate-write-answer : tie.Need-slice-aggregate-write-answer
-slice-aggregate-write-answer c = sym (length-take-le (c .before .before .before .place-in .result) _ (omega (arith, c .before .before .before .place-in .ensures)))
-
 pub write-lent-spec : {M : Type 1} → statement M
-write-lent-spec =
-    tie.close
-    (tie.spec
-    (λ c κs. search needs) (λ c κs. search needs) (λ c. search needs) (λ c. search needs) slice-aggregate-write-sheet (λ c κs. search needs)
-    (λ c. search needs) slice-aggregate-write-answer (λ c κs. search needs) (λ c. search needs) (λ c. search needs) (λ c. search needs)
-    (λ c. search needs))
+write-lent-spec = tie.close (tie.spec
+    (λ c κs. search needs) (λ c κs. search needs) (λ c. search needs) (λ c. search needs)
+    (λ c. sym (length-take-le (c .before .before .before .place-in .result) _ (omega (arith, c .before .before .before .place-in .ensures))))
+    (λ c κs. search needs) (λ c. search needs)
+    (λ c. sym (length-take-le (c .before .before .before .place-in .result) _ (omega (arith, c .before .before .before .place-in .ensures))))
+    (λ c κs. search needs) (λ c. search needs) (λ c. search needs) (λ c. search needs) (λ c. search needs))

@@ -1,13 +1,14 @@
 use Rattle.inks.proofs.Laws.{next, used-fits}
+use Rattle.report.specs.Report.{countText}
 use Rattle.scribes.specs.Parts.{kindText}
 use borrow.Author.Needs.{needs}
 use Rattle.scribes.proofs.lines_of.put_kind.Statement.{statement}
 use Rattle.scribes.proofs.lines_of.put_kind.Tie as tie
 
 pub put-kind-spec : {M : Type 1} → statement M
-unfolding kindText
+unfolding kindText countText
 put-kind-spec = tie.close (tie.spec
     (λ c κs. search needs) (λ c κs. search needs) (λ c. search needs) (λ c. search needs) (λ c. search needs) (λ c κs. search needs)
-    (λ c. used-fits (next (c .before .before .before .before .before .before .put-count .ensures) (c .before .before .put-rows .ensures)) (search needs))
+    (λ c. used-fits (next (c .before .before .before .before .before .before .write-one .ensures) (c .before .before .put-rows .ensures)) (search needs))
     (λ c. search needs)
-    (λ c. rw (c .before .before .before .before .before .before .before .before .count-of .ensures) at (next (c .before .before .before .before .before .before .put-count .ensures) (c .before .before .put-rows .ensures))))
+    (λ c. rw (c .before .before .before .before .before .before .before .before .count-of .ensures) at (next (c .before .before .before .before .before .before .write-one .ensures) (c .before .before .put-rows .ensures))))

@@ -1,11 +1,12 @@
 use Rattle.inks.proofs.Laws.{next}
+use Rattle.report.specs.Report.{countText}
 use Rattle.scribes.specs.Layouts.{partText}
 use borrow.Author.Needs.{needs}
 use Rattle.scribes.proofs.lines_of.put_part.Statement.{statement}
 use Rattle.scribes.proofs.lines_of.put_part.Tie as tie
 
 pub put-part-spec : {M : Type 1} → statement M
-unfolding partText
+unfolding partText countText
 put-part-spec = tie.close (tie.spec
     (λ c κs. search needs) (λ c κs. search needs) (λ c. search needs) (λ c. search needs) (λ c. search needs) (λ c κs. search needs) (λ c. search needs) (λ c. search needs)
-    (λ c. rw (c .before .before .before .before .before .before .before .before .part-count .ensures) at (next (c .before .before .before .before .before .before .put-part-count .ensures) (c .before .before .put-lines .ensures))))
+    (λ c. rw (c .before .before .before .before .before .before .before .before .part-count .ensures) at (next (c .before .before .before .before .before .before .write-one .ensures) (c .before .before .put-lines .ensures))))

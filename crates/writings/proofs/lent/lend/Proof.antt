@@ -12,18 +12,9 @@ Inv-loop all start count words₀ i₀ words i = (i ≤ count) × (length words 
 abbrev μ-loop : tie.MeasureT-loop
 μ-loop all start count words₀ i₀ words i = count - i
 
-loop-holds : tie.Need-loop-holds Inv-loop μ-loop
-loop-holds c = (omega arith, refl)
-
-loop-again : tie.Need-loop-again Inv-loop μ-loop
-loop-again c = (omega arith, rw (c .before .before .put-word .ensures) (simp length-set (c .before .before .before .before .before .before .before .loop .inv .1)))
-
-same-length : tie.Need-same-length Inv-loop μ-loop
-same-length c = c .before .loop .inv .1
-
 pub lend-spec : {M : Type 1} → statement M
-lend-spec =
-    tie.close
-    (tie.spec
-    Inv-loop μ-loop loop-holds (λ c. search needs) (λ c κs. search needs) (λ c κs. search needs) (λ c. search needs) (λ c. search needs)
-    loop-again same-length (λ c. search needs))
+lend-spec = tie.close (tie.spec
+    Inv-loop μ-loop (λ c. (omega arith, refl)) (λ c. search needs) (λ c κs. search needs) (λ c κs. search needs) (λ c. search needs)
+    (λ c. search needs)
+    (λ c. (omega arith, rw (c .before .before .put-word .ensures) (simp length-set (c .before .before .before .before .before .before .before .loop .inv .1))))
+    (λ c. c .before .loop .inv .1) (λ c. search needs))
