@@ -14,8 +14,9 @@ abbrev μ-loop : tie.MeasureT-loop
 μ-loop t₀ universe deployed used₀ r₀ t used r = 256 - r
 
 pub write-binding-lines-spec : {M : Type 1} → statement M
-write-binding-lines-spec = tie.close (tie.spec
-    Inv-loop μ-loop (λ c. turns-none) (λ c. search needs) (λ c. search needs) (λ c. search needs) (λ c κs. search needs) (λ c. search needs)
+write-binding-lines-spec =
+    tie.close
+    (tie.spec Inv-loop μ-loop (λ c. turns-none) (λ c. search needs) (λ c. search needs) (λ c. search needs) (λ c κs. search needs) (λ c. search needs)
     (λ c. search needs) (λ c. search needs)
     (λ c. turns-more (c .before .before .before .before .before .loop .inv) (c .before .before .before .before .loop-test .taken) (c .before .before .write-requirers .ensures))
     (λ c. search needs) (λ c. turns-all (c .before .loop .inv) (c .loop-test .left)))

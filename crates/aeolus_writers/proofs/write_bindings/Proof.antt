@@ -6,7 +6,8 @@ use Rattle.aeolus_writers.proofs.write_bindings.Tie as tie
 
 pub write-bindings-spec : {M : Type 1} → statement M
 unfolding bindingsPart bindingsText
-write-bindings-spec = tie.close (tie.spec
-    (λ c κs. search needs) (λ c. search needs) (λ c. search needs) (λ c κs. search needs) (λ c. search needs) (λ c. search needs) (λ c. search needs)
-    (λ c κs. search needs) (λ c. search needs) (λ c. search needs)
+write-bindings-spec =
+    tie.close
+    (tie.spec (λ c κs. search needs) (λ c. search needs) (λ c. search needs) (λ c κs. search needs) (λ c. search needs) (λ c. search needs)
+    (λ c. search needs) (λ c κs. search needs) (λ c. search needs) (λ c. search needs)
     (λ c. next (rw (c .before .before .before .before .before .before .before .before .before .bindings .ensures) at (c .before .before .before .before .before .before .write-count .ensures)) (c .before .before .write-binding-lines .ensures)))

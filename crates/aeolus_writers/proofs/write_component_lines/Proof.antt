@@ -13,8 +13,9 @@ abbrev μ-loop : tie.MeasureT-loop
 μ-loop t₀ deployed used₀ z₀ t used z = 32 - z
 
 pub write-component-lines-spec : {M : Type 1} → statement M
-write-component-lines-spec = tie.close (tie.spec
-    Inv-loop μ-loop (λ c. turns-none) (λ c. search needs) (λ c. search needs) (λ c. search needs) (λ c κs. search needs) (λ c. search needs)
+write-component-lines-spec =
+    tie.close
+    (tie.spec Inv-loop μ-loop (λ c. turns-none) (λ c. search needs) (λ c. search needs) (λ c. search needs) (λ c κs. search needs) (λ c. search needs)
     (λ c. search needs) (λ c. search needs)
     (λ c. turns-more (c .before .before .before .before .before .loop .inv) (c .before .before .before .before .loop-test .taken) (c .before .before .write-component .ensures))
     (λ c. search needs) (λ c. turns-all (c .before .loop .inv) (c .loop-test .left)))

@@ -8,7 +8,8 @@ use Rattle.aeolus_writers.proofs.write_provider.Tie as tie
 
 pub write-provider-spec : {M : Type 1} → statement M
 unfolding bindingText
-write-provider-spec = tie.close (tie.spec
-    (λ c κs. search needs) (λ c. line-absent _ (sym (c .before .member .ensures) ∙ not-true (c .before .member .result) (c .if1 .taken)))
+write-provider-spec =
+    tie.close
+    (tie.spec (λ c κs. search needs) (λ c. line-absent _ (sym (c .before .member .ensures) ∙ not-true (c .before .member .result) (c .if1 .taken)))
     (λ c. search needs) (λ c κs. search needs) (λ c. search needs)
     (λ c. line-there (sym (c .before .before .before .before .before .before .member .ensures) ∙ not-false (c .before .before .before .before .before .before .member .result) (c .before .before .before .before .before .if1 .left)) (c .before .before .write-three .ensures)))

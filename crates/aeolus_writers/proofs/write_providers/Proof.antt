@@ -15,8 +15,9 @@ abbrev μ-loop : tie.MeasureT-loop
 
 pub write-providers-spec : {M : Type 1} → statement M
 unfolding providersText
-write-providers-spec = tie.close (tie.spec
-    Inv-loop μ-loop (λ c. turns-none) (λ c. search needs) (λ c. search needs) (λ c. search needs) (λ c κs. search needs) (λ c. search needs)
+write-providers-spec =
+    tie.close
+    (tie.spec Inv-loop μ-loop (λ c. turns-none) (λ c. search needs) (λ c. search needs) (λ c. search needs) (λ c κs. search needs) (λ c. search needs)
     (λ c. search needs) (λ c. search needs)
     (λ c. turns-more (c .before .before .before .before .before .loop .inv) (c .before .before .before .before .loop-test .taken) (c .before .before .write-provider .ensures))
     (λ c. search needs) (λ c. turns-all (c .before .loop .inv) (c .loop-test .left)))

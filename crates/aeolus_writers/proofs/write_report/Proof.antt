@@ -9,6 +9,8 @@ unfolding report
 returns c = next (next (c .before .before .before .before .before .before .before .before .before .before .write-head .ensures) (c .before .before .before .before .before .before .write-components .ensures)) (c .before .before .write-bindings .ensures)
 
 pub write-report-spec : {M : Type 1} → statement M
-write-report-spec = tie.close (tie.spec
-    (λ c κs. search needs) (λ c. search needs) (λ c. search needs) (λ c. search needs) (λ c κs. search needs) (λ c. search needs) (λ c. search needs)
-    (λ c. search needs) (λ c. search needs) (λ c κs. search needs) (λ c. used-fits (returns c) (search needs)) (λ c. search needs) returns)
+write-report-spec =
+    tie.close
+    (tie.spec (λ c κs. search needs) (λ c. search needs) (λ c. search needs) (λ c. search needs) (λ c κs. search needs) (λ c. search needs)
+    (λ c. search needs) (λ c. search needs) (λ c. search needs) (λ c κs. search needs) (λ c. used-fits (returns c) (search needs)) (λ c. search needs)
+    returns)

@@ -9,8 +9,9 @@ use Rattle.aeolus_writers.proofs.write_requirer.Tie as tie
 
 pub write-requirer-spec : {M : Type 1} → statement M
 unfolding bindingsAt
-write-requirer-spec = tie.close (tie.spec
-    (λ c κs. search needs)
+write-requirer-spec =
+    tie.close
+    (tie.spec (λ c κs. search needs)
     (λ c. line-absent _ (first-fails _ (sym (c .before .is-deployed .ensures) ∙ not-true (c .before .is-deployed .result) (c .if1 .taken))))
     (λ c κs. search needs) (λ c κs. search needs)
     (λ c. line-absent _ (second-fails (sym (c .before .before .before .before .is-deployed .ensures) ∙ not-false (c .before .before .before .before .is-deployed .result) (c .before .before .before .if1 .left)) (rw (c .before .before .kind-of .ensures) at (sym (c .before .lists .ensures) ∙ not-true (c .before .lists .result) (c .if2 .taken)))))

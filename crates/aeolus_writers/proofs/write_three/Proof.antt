@@ -9,6 +9,7 @@ unfolding threeText twoText oneText
 returns c = then (c .before .before .before .before .before .before .before .before .before .before .before .before .before .before .before .before .before .before .before .before .before .before .before .before .before .before .write-key .ensures) (then (then (c .before .before .before .before .before .before .before .before .before .before .before .before .before .before .before .before .before .before .before .before .before .before .write-number .ensures) (c .before .before .before .before .before .before .before .before .before .before .before .before .before .before .before .before .before .before .write-byte .ensures)) (then (then (c .before .before .before .before .before .before .before .before .before .before .before .before .before .before .write-number2 .ensures) (c .before .before .before .before .before .before .before .before .before .before .write-byte2 .ensures)) (then (c .before .before .before .before .before .before .write-number3 .ensures) (c .before .before .write-byte3 .ensures))))
 
 pub write-three-spec : {M : Type 1} → statement M
-write-three-spec = tie.close (tie.spec
-    (λ c κs. search needs) (λ c κs. search needs) (λ c κs. search needs) (λ c κs. search needs) (λ c κs. search needs) (λ c κs. search needs)
-    (λ c κs. search needs) (λ c. length-written (returns c)) returns)
+write-three-spec =
+    tie.close
+    (tie.spec (λ c κs. search needs) (λ c κs. search needs) (λ c κs. search needs) (λ c κs. search needs) (λ c κs. search needs)
+    (λ c κs. search needs) (λ c κs. search needs) (λ c. length-written (returns c)) returns)

@@ -14,8 +14,9 @@ abbrev μ-loop : tie.MeasureT-loop
 μ-loop text₀ count i₀ text i = count - i
 
 pub put-cells-spec : {M : Type 1} → statement M
-put-cells-spec = tie.close (tie.spec
-    Inv-loop μ-loop (λ c. (omega arith, cells-none _, refl)) (λ c. c .before .before .loop .inv .2)
+put-cells-spec =
+    tie.close
+    (tie.spec Inv-loop μ-loop (λ c. (omega arith, cells-none _, refl)) (λ c. c .before .before .loop .inv .2)
     (λ c. c .before .before .loop .inv .1 ∙ cells-past _ _ _ (c .before .before .loop .inv .0) (omega (arith, c .if1 .taken, c .before .before .loop .inv .2)))
     (λ c. search needs) (λ c κs. search needs) (λ c. search needs) (λ c. search needs) (λ c. search needs)
     (λ c. (omega arith, cells-turn _ _ (c .before .before .before .before .loop .i) _ (c .before .before .before .before .loop .inv .1) (omega (arith, c .before .before .if1 .left, c .before .before .before .before .loop .inv .2)) (c .cell-byte .ensures), simp length-set (c .before .before .before .before .loop .inv .2)))

@@ -9,8 +9,9 @@ use Rattle.cells.proofs.take_byte.Tie as tie
 
 pub take-byte-spec : {M : Type 1} → statement M
 unfolding stands firstAfter commasAfter
-take-byte-spec = tie.close (tie.spec
-    (λ c κs. search needs) (λ c. search needs)
+take-byte-spec =
+    tie.close
+    (tie.spec (λ c κs. search needs) (λ c. search needs)
     (λ c. let a = eq-eqb _ _ (c .before .before .before .before .if1 .taken) in (rw a (c .before .before .write-byte .ensures), (rw a, rw (c .before .before .before .before .if1 .taken))))
     (λ c. search needs)
     (λ c.

@@ -15,9 +15,10 @@ abbrev μ-loop : tie.MeasureT-loop
 μ-loop rows out₀ row₀ i₀ out row i = length rows - i
 
 pub write-lines-spec : {M : Type 1} → statement M
-write-lines-spec = tie.close (tie.spec
-    Inv-loop μ-loop (λ c κs. search needs) (λ c. evened-none _ _ _ (c .past-mark .ensures .0) (c .past-mark .ensures .1)) (λ c. search needs)
-    (λ c κs. omega (arith, c .before .before .before .loop .inv .few)) (λ c. search needs) (λ c. search needs)
+write-lines-spec =
+    tie.close
+    (tie.spec Inv-loop μ-loop (λ c κs. search needs) (λ c. evened-none _ _ _ (c .past-mark .ensures .0) (c .past-mark .ensures .1))
+    (λ c. search needs) (λ c κs. omega (arith, c .before .before .before .loop .inv .few)) (λ c. search needs) (λ c. search needs)
     (λ c. evened-more _ _ (c .before .before .before .before .before .before .loop .i) _ _ _ _ _ _ _ _ (c .before .before .before .before .before .before .loop .inv) (c .before .before .before .before .before .loop-test .taken) (c .before .before .take-byte .ensures .0) (c .before .before .take-byte .ensures .1 .0) (c .before .before .take-byte .ensures .1 .1))
     (λ c. length-written (c .before .loop .inv .written))
     (λ c.

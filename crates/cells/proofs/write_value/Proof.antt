@@ -4,6 +4,7 @@ use Rattle.cells.proofs.write_value.Statement.{statement}
 use Rattle.cells.proofs.write_value.Tie as tie
 
 pub write-value-spec : {M : Type 1} → statement M
-write-value-spec = tie.close (tie.spec
-    (λ c κs. search needs) (λ c κs. search needs) (λ c. search needs)
+write-value-spec =
+    tie.close
+    (tie.spec (λ c κs. search needs) (λ c κs. search needs) (λ c. search needs)
     (λ c. then (c .before .before .before .before .before .before .write-gap .ensures) (c .before .before .write-byte .ensures)))

@@ -6,7 +6,8 @@ use Rattle.drafts.proofs.write_draft.Statement.{statement}
 use Rattle.drafts.proofs.write_draft.Tie as tie
 
 pub write-draft-spec : {M : Type 1} → statement M
-write-draft-spec = tie.close (tie.spec
-    (λ c. search needs) (λ c κs. search needs) (λ c. search needs) (λ c κs. search needs) (λ c. search needs)
+write-draft-spec =
+    tie.close
+    (tie.spec (λ c. search needs) (λ c κs. search needs) (λ c. search needs) (λ c κs. search needs) (λ c. search needs)
     (λ c. let l = penned-within (c .before .before .write-sheet .ensures) in (l, sym (length-take-le _ _ l))) (λ c. search needs)
     (λ c. let l = penned-within (c .before .before .write-form .ensures) in (l, sym (length-take-le _ _ l))))

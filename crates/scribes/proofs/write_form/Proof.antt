@@ -6,6 +6,7 @@ use Rattle.scribes.proofs.write_form.Tie as tie
 
 pub write-form-spec : {M : Type 1} → statement M
 unfolding formText
-write-form-spec = tie.close (tie.spec
-    (λ c κs. search needs) (λ c κs. search needs) (λ c. search needs)
+write-form-spec =
+    tie.close
+    (tie.spec (λ c κs. search needs) (λ c κs. search needs) (λ c. search needs)
     (λ c. in-cells (c .before .before .before .before .before .before .write-text .ensures) (c .before .before .put-cells .ensures)))

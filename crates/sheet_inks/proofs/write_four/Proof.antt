@@ -6,6 +6,7 @@ use Rattle.sheet_inks.proofs.write_four.Tie as tie
 
 pub write-four-spec : {M : Type 1} → statement M
 unfolding fourText threeText
-write-four-spec = tie.close (tie.spec
-    (λ c κs. search needs) (λ c κs. search needs) (λ c κs. search needs) (λ c κs. search needs) (λ c κs. search needs) (λ c. search needs)
+write-four-spec =
+    tie.close
+    (tie.spec (λ c κs. search needs) (λ c κs. search needs) (λ c κs. search needs) (λ c κs. search needs) (λ c κs. search needs) (λ c. search needs)
     (λ c. then (then (c .before .before .before .before .before .before .before .before .before .before .before .before .before .before .before .before .before .before .write-number .ensures) (c .before .before .before .before .before .before .before .before .before .before .before .before .before .before .write-byte .ensures)) (then (then (c .before .before .before .before .before .before .before .before .before .before .write-number2 .ensures) (c .before .before .before .before .before .before .write-byte2 .ensures)) (c .before .before .write-pair .ensures))))

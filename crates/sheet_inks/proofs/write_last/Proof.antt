@@ -6,6 +6,7 @@ use Rattle.sheet_inks.proofs.write_last.Tie as tie
 
 pub write-last-spec : {M : Type 1} → statement M
 unfolding oneText
-write-last-spec = tie.close (tie.spec
-    (λ c κs. search needs) (λ c κs. search needs) (λ c. search needs)
+write-last-spec =
+    tie.close
+    (tie.spec (λ c κs. search needs) (λ c κs. search needs) (λ c. search needs)
     (λ c. then (c .before .before .before .before .before .before .write-number .ensures) (c .before .before .write-byte .ensures)))

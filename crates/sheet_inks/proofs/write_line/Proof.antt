@@ -7,8 +7,9 @@ use Rattle.sheet_inks.proofs.write_line.Tie as tie
 
 pub write-line-spec : {M : Type 1} → statement M
 unfolding numbersText
-write-line-spec = tie.close (tie.spec
-    (λ c κs. search needs) (λ c κs. search needs) (λ c κs. search needs) (λ c κs. search needs) (λ c. search needs)
+write-line-spec =
+    tie.close
+    (tie.spec (λ c κs. search needs) (λ c κs. search needs) (λ c κs. search needs) (λ c κs. search needs) (λ c. search needs)
     (λ c. rw (c .match .keys1) (then (c .before .before .before .write-key .ensures) (none _ _))) (λ c. search needs)
     (λ c. rw (c .before .before .before .before .match .keys2) (then (c .before .before .before .before .before .before .before .write-key .ensures) (c .before .before .write-last .ensures)))
     (λ c. search needs)

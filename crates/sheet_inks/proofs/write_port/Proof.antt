@@ -6,8 +6,9 @@ use Rattle.sheet_inks.proofs.write_port.Tie as tie
 
 pub write-port-spec : {M : Type 1} → statement M
 unfolding portLineText
-write-port-spec = tie.close (tie.spec
-    (λ c. search needs) (λ c κs. search needs) (λ c. search needs) (λ c κs. search needs) (λ c. search needs) (λ c κs. search needs)
+write-port-spec =
+    tie.close
+    (tie.spec (λ c. search needs) (λ c κs. search needs) (λ c. search needs) (λ c κs. search needs) (λ c. search needs) (λ c κs. search needs)
     (λ c. search needs) (λ c. rw (c .before .before .before .before .before .match .keys1) (c .before .before .write-sets .ensures))
     (λ c. search needs) (λ c. rw (c .before .before .before .before .before .match .keys2) (c .before .before .write-sets2 .ensures))
     (λ c. search needs)

@@ -19,8 +19,9 @@ abbrev μ-loop : tie.MeasureT-loop
 
 pub show-spec : {M : Type 1} → statement M
 unfolding shown
-show-spec = tie.close (tie.spec
-    Inv-loop μ-loop (λ c. (omega arith, none _ _)) (λ c. search needs) (λ c κs. search needs) (λ c. search needs) (λ c. omega arith)
+show-spec =
+    tie.close
+    (tie.spec Inv-loop μ-loop (λ c. (omega arith, none _ _)) (λ c. search needs) (λ c κs. search needs) (λ c. search needs) (λ c. omega arith)
     (λ c.
     let k = c .before .before .before .before .before in
     let w = then (k .before .loop .inv .1) (c .before .before .show-byte .ensures) in

@@ -18,8 +18,9 @@ returns-2 c =
 
 pub show-byte-spec : {M : Type 1} → statement M
 unfolding shownByte
-show-byte-spec = tie.close (tie.spec
-    (λ c κs. search needs) (λ c κs. search needs) (λ c. search needs)
+show-byte-spec =
+    tie.close
+    (tie.spec (λ c κs. search needs) (λ c κs. search needs) (λ c. search needs)
     (λ c.
     let d = c .before .before in
     let test = d .before .before in

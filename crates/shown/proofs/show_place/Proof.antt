@@ -7,8 +7,9 @@ use Rattle.shown.proofs.show_place.Tie as tie
 
 pub show-place-spec : {M : Type 1} → statement M
 unfolding placeText
-show-place-spec = tie.close (tie.spec
-    (λ c. search needs) (λ c κs. search needs) (λ c κs. search needs) (λ c κs. search needs) (λ c κs. search needs) (λ c κs. search needs)
+show-place-spec =
+    tie.close
+    (tie.spec (λ c. search needs) (λ c κs. search needs) (λ c κs. search needs) (λ c κs. search needs) (λ c κs. search needs) (λ c κs. search needs)
     (λ c κs. search needs) (λ c κs. search needs)
     (λ c.
     let size = c .before .before in

@@ -18,8 +18,9 @@ abbrev μ-loop : tie.MeasureT-loop
 μ-loop state n₀ i₀ n i = 32 - i
 
 pub tally-spec : {M : Type 1} → statement M
-tally-spec = tie.close (tie.spec
-    Inv-loop μ-loop (λ c. (omega arith, omega arith, sym (tally-start _))) (λ c κs. search needs) (λ c. search needs) (λ c. search needs)
+tally-spec =
+    tie.close
+    (tie.spec Inv-loop μ-loop (λ c. (omega arith, omega arith, sym (tally-start _))) (λ c κs. search needs) (λ c. search needs) (λ c. search needs)
     (λ c. omega arith)
     (λ c.
     let l = c .before .before .before .loop in

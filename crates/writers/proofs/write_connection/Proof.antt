@@ -23,7 +23,8 @@ returns c =
     then (key .write-key .ensures) (then (then (user .write-number .ensures) (user-end .write-byte .ensures)) from-useport)
 
 pub write-connection-spec : {M : Type 1} → statement M
-write-connection-spec = tie.close (tie.spec
-    (λ c. search needs) (λ c κs. search needs) (λ c. search needs) (λ c κs. search needs) (λ c κs. search needs) (λ c. search needs)
+write-connection-spec =
+    tie.close
+    (tie.spec (λ c. search needs) (λ c κs. search needs) (λ c. search needs) (λ c κs. search needs) (λ c κs. search needs) (λ c. search needs)
     (λ c κs. search needs) (λ c κs. search needs) (λ c κs. search needs) (λ c. search needs) (λ c κs. search needs) (λ c κs. search needs)
     (λ c κs. search needs) (λ c. search needs) (λ c κs. search needs) (λ c κs. search needs) (λ c. length-written (returns c)) returns)

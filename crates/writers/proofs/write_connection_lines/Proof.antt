@@ -48,10 +48,11 @@ silent x s e = rw e refl
 
 pub write-connection-lines-spec : {M : Type 1} → statement M
 unfolding isServed connectionLine
-write-connection-lines-spec = tie.close (tie.spec
-    Inv-loop μ-loop (λ c. (omega (arith, tally-start (isServed (stateIn (c .before .args .state .now) .servers))), turns-none)) (λ c κs. search needs)
-    (λ c. search needs) (λ c. search needs) (λ c. search needs) (λ c κs. search needs) (λ c. search needs) (λ c. search needs) (λ c. search needs)
-    (λ c. omega (arith, last c))
+write-connection-lines-spec =
+    tie.close
+    (tie.spec Inv-loop μ-loop (λ c. (omega (arith, tally-start (isServed (stateIn (c .before .args .state .now) .servers))), turns-none))
+    (λ c κs. search needs) (λ c. search needs) (λ c. search needs) (λ c. search needs) (λ c κs. search needs) (λ c. search needs) (λ c. search needs)
+    (λ c. search needs) (λ c. omega (arith, last c))
     (λ c.
     let l = c .before .before .before in
     let x = stateIn (l .before .before .args .state .now) .servers in

@@ -6,9 +6,10 @@ use Rattle.writers.proofs.write_connections.Tie as tie
 
 pub write-connections-spec : {M : Type 1} → statement M
 unfolding connectionsPart
-write-connections-spec = tie.close (tie.spec
-    (λ c κs. search needs) (λ c. search needs) (λ c. search needs) (λ c κs. search needs) (λ c. search needs) (λ c. search needs) (λ c. search needs)
-    (λ c κs. c .before .before .before .before .before .before .entries .ensures .0) (λ c. search needs) (λ c. search needs)
+write-connections-spec =
+    tie.close
+    (tie.spec (λ c κs. search needs) (λ c. search needs) (λ c. search needs) (λ c κs. search needs) (λ c. search needs) (λ c. search needs)
+    (λ c. search needs) (λ c κs. c .before .before .before .before .before .before .entries .ensures .0) (λ c. search needs) (λ c. search needs)
     (λ c.
     let lines = c .before .before in
     let count = lines .before .before .before .before in

@@ -7,8 +7,9 @@ use Rattle.writers.proofs.write_count.Tie as tie
 
 pub write-count-spec : {M : Type 1} → statement M
 unfolding countText oneText
-write-count-spec = tie.close (tie.spec
-    (λ c κs. search needs) (λ c κs. search needs) (λ c κs. search needs) (λ c. search needs)
+write-count-spec =
+    tie.close
+    (tie.spec (λ c κs. search needs) (λ c κs. search needs) (λ c κs. search needs) (λ c. search needs)
     (λ c.
     let end = c .before .before in
     let number = end .before .before .before .before in

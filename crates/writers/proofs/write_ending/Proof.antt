@@ -6,7 +6,8 @@ use Rattle.writers.proofs.write_ending.Tie as tie
 
 pub write-ending-spec : {M : Type 1} → statement M
 unfolding endingPart
-write-ending-spec = tie.close (tie.spec
-    (λ c. search needs) (λ c κs. search needs) (λ c. search needs) (λ c. search needs) (λ c. search needs) (λ c κs. search needs) (λ c. search needs)
-    (λ c. search needs)
+write-ending-spec =
+    tie.close
+    (tie.spec (λ c. search needs) (λ c κs. search needs) (λ c. search needs) (λ c. search needs) (λ c. search needs) (λ c κs. search needs)
+    (λ c. search needs) (λ c. search needs)
     (λ c. let port = c .before .before in next (port .before .before .before .before .write-count .ensures) (port .write-port .ensures)))

@@ -13,7 +13,8 @@ returns c =
     next (next (text .write-text .ensures) (line .write-count .ensures)) (refused .write-count2 .ensures)
 
 pub write-fault-spec : {M : Type 1} → statement M
-write-fault-spec = tie.close (tie.spec
-    (λ c κs. search needs) (λ c. search needs) (λ c. search needs) (λ c. search needs) (λ c. search needs) (λ c κs. search needs) (λ c. search needs)
-    (λ c. search needs) (λ c. search needs) (λ c. search needs) (λ c. search needs) (λ c κs. search needs) (λ c. used-fits (returns c) (search needs))
-    (λ c. search needs) returns)
+write-fault-spec =
+    tie.close
+    (tie.spec (λ c κs. search needs) (λ c. search needs) (λ c. search needs) (λ c. search needs) (λ c. search needs) (λ c κs. search needs)
+    (λ c. search needs) (λ c. search needs) (λ c. search needs) (λ c. search needs) (λ c. search needs) (λ c κs. search needs)
+    (λ c. used-fits (returns c) (search needs)) (λ c. search needs) returns)

@@ -12,6 +12,8 @@ returns c =
     next (next (ending .before .before .before .before .write-count .ensures) (ending .write-ending .ensures)) (next-line .write-count2 .ensures)
 
 pub write-head-spec : {M : Type 1} → statement M
-write-head-spec = tie.close (tie.spec
-    (λ c. search needs) (λ c κs. search needs) (λ c. search needs) (λ c. search needs) (λ c. search needs) (λ c κs. search needs) (λ c. search needs)
-    (λ c. search needs) (λ c. search needs) (λ c. search needs) (λ c. search needs) (λ c κs. search needs) (λ c. used-fits (returns c) (search needs)) (λ c. search needs) returns)
+write-head-spec =
+    tie.close
+    (tie.spec (λ c. search needs) (λ c κs. search needs) (λ c. search needs) (λ c. search needs) (λ c. search needs) (λ c κs. search needs)
+    (λ c. search needs) (λ c. search needs) (λ c. search needs) (λ c. search needs) (λ c. search needs) (λ c κs. search needs)
+    (λ c. used-fits (returns c) (search needs)) (λ c. search needs) returns)

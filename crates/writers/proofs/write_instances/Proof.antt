@@ -7,8 +7,9 @@ use Rattle.writers.proofs.write_instances.Tie as tie
 
 pub write-instances-spec : {M : Type 1} → statement M
 unfolding instancesPart instancesText
-write-instances-spec = tie.close (tie.spec
-    (λ c. search needs) (λ c κs. search needs) (λ c κs. search needs) (λ c. search needs) (λ c. search needs) (λ c. search needs)
+write-instances-spec =
+    tie.close
+    (tie.spec (λ c. search needs) (λ c κs. search needs) (λ c κs. search needs) (λ c. search needs) (λ c. search needs) (λ c. search needs)
     (λ c κs. search needs) (λ c. search needs) (λ c. search needs)
     (λ c.
     let lines = c .before .before in

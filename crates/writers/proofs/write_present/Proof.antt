@@ -7,8 +7,9 @@ use Rattle.writers.proofs.write_present.Tie as tie
 
 pub write-present-spec : {M : Type 1} → statement M
 unfolding instanceAt
-write-present-spec = tie.close (tie.spec
-    (λ c κs. search needs) (λ c κs. search needs) (λ c. search needs)
+write-present-spec =
+    tie.close
+    (tie.spec (λ c κs. search needs) (λ c κs. search needs) (λ c. search needs)
     (λ c.
     let here = c .before .before .before .before in
     line-there (sym (here .before .present .ensures) ∙ here .if1 .taken) (c .before .before .write-instance .ensures))

@@ -29,8 +29,9 @@ returns-2 c =
 
 pub write-queue-spec : {M : Type 1} → statement M
 unfolding queueOf
-write-queue-spec = tie.close (tie.spec
-    Inv-loop μ-loop (λ c κs. search needs) (λ c κs. search needs) (λ c. search needs)
+write-queue-spec =
+    tie.close
+    (tie.spec Inv-loop μ-loop (λ c κs. search needs) (λ c κs. search needs) (λ c. search needs)
     (λ c.
     let empty = c .before .before .before .before in
     rw (← empty .before .queued .ensures, list-none _ _ (empty .if1 .taken)) (c .before .before .write-byte .ensures))

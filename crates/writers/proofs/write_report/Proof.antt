@@ -13,6 +13,8 @@ returns c =
     (next (next (rw (head .before .done .ensures) at (head .write-head .ensures)) (instances .write-instances .ensures)) (connections .write-connections .ensures))
 
 pub write-report-spec : {M : Type 1} → statement M
-write-report-spec = tie.close (tie.spec
-    (λ c κs. search needs) (λ c κs. search needs) (λ c. search needs) (λ c. search needs) (λ c. search needs) (λ c κs. search needs) (λ c. search needs)
-    (λ c. search needs) (λ c. search needs) (λ c. search needs) (λ c κs. search needs) (λ c. used-fits (returns c) (search needs)) (λ c. search needs) returns)
+write-report-spec =
+    tie.close
+    (tie.spec (λ c κs. search needs) (λ c κs. search needs) (λ c. search needs) (λ c. search needs) (λ c. search needs) (λ c κs. search needs)
+    (λ c. search needs) (λ c. search needs) (λ c. search needs) (λ c. search needs) (λ c κs. search needs) (λ c. used-fits (returns c) (search needs))
+    (λ c. search needs) returns)

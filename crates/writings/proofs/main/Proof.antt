@@ -11,6 +11,7 @@ abbrev μ-loop : tie.MeasureT-loop
 μ-loop n i₀ i = n - i
 
 pub main-spec : {M : Type 1} → statement M
-main-spec = tie.close (tie.spec
-    Inv-loop μ-loop (λ c κs. search needs) (λ c. omega arith) (λ c κs. search needs) (λ c. omega arith) (λ c. omega arith) (λ c. omega arith)
-    (λ c. search needs))
+main-spec =
+    tie.close
+    (tie.spec Inv-loop μ-loop (λ c κs. search needs) (λ c. omega arith) (λ c κs. search needs) (λ c. omega arith) (λ c. omega arith)
+    (λ c. omega arith) (λ c. search needs))

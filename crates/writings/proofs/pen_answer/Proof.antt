@@ -6,6 +6,7 @@ use Rattle.writings.proofs.pen_answer.Statement.{statement}
 use Rattle.writings.proofs.pen_answer.Tie as tie
 
 pub pen-answer-spec : {M : Type 1} → statement M
-pen-answer-spec = tie.close (tie.spec
-    (λ c κs. search needs) (λ c. search needs)
+pen-answer-spec =
+    tie.close
+    (tie.spec (λ c κs. search needs) (λ c. search needs)
     (λ c. let l = penned-within (c .before .before .write-answer .ensures) in (l, sym (length-take-le _ _ l))))

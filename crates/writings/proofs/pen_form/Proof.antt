@@ -6,6 +6,7 @@ use Rattle.writings.proofs.pen_form.Statement.{statement}
 use Rattle.writings.proofs.pen_form.Tie as tie
 
 pub pen-form-spec : {M : Type 1} → statement M
-pen-form-spec = tie.close (tie.spec
-    (λ c κs. search needs) (λ c. search needs)
+pen-form-spec =
+    tie.close
+    (tie.spec (λ c κs. search needs) (λ c. search needs)
     (λ c. let l = penned-within (c .before .before .write-form .ensures) in (l, sym (length-take-le _ _ l))))

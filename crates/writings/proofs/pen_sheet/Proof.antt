@@ -6,6 +6,7 @@ use Rattle.writings.proofs.pen_sheet.Statement.{statement}
 use Rattle.writings.proofs.pen_sheet.Tie as tie
 
 pub pen-sheet-spec : {M : Type 1} → statement M
-pen-sheet-spec = tie.close (tie.spec
-    (λ c κs. search needs) (λ c. search needs)
+pen-sheet-spec =
+    tie.close
+    (tie.spec (λ c κs. search needs) (λ c. search needs)
     (λ c. let l = penned-within (c .before .before .write-sheet .ensures) in (l, sym (length-take-le _ _ l))))

@@ -6,8 +6,9 @@ use Rattle.writings.proofs.write_lent.Statement.{statement}
 use Rattle.writings.proofs.write_lent.Tie as tie
 
 pub write-lent-spec : {M : Type 1} → statement M
-write-lent-spec = tie.close (tie.spec
-    (λ c κs. search needs) (λ c κs. search needs) (λ c. search needs) (λ c. search needs)
+write-lent-spec =
+    tie.close
+    (tie.spec (λ c κs. search needs) (λ c κs. search needs) (λ c. search needs) (λ c. search needs)
     (λ c. sym (length-take-le (c .before .before .before .place-in .result) _ (omega (arith, c .before .before .before .place-in .ensures))))
     (λ c κs. search needs) (λ c. search needs)
     (λ c. sym (length-take-le (c .before .before .before .place-in .result) _ (omega (arith, c .before .before .before .place-in .ensures))))

@@ -18,8 +18,10 @@ abbrev μ-loop : tie.MeasureT-loop
 
 pub answer-fault-spec : {M : Type 1} → statement M
 unfolding answerFault
-answer-fault-spec = tie.close (tie.spec
-    Inv-loop μ-loop (λ c κs. search needs) (λ c κs. search needs) (λ c. found-none _ _ _ _ (c .limit-fault .ensures)) (λ c κs. search needs) (λ c κs. search needs)
+answer-fault-spec =
+    tie.close
+    (tie.spec Inv-loop μ-loop (λ c κs. search needs) (λ c κs. search needs) (λ c. found-none _ _ _ _ (c .limit-fault .ensures)) (λ c κs. search needs)
+    (λ c κs. search needs)
     (λ c. let l = going (c .before .before .before .before .before .steps .result) (c .before .before .before .loop .j) (c .before .before .before .loop .n) (c .before .before .loop-test .taken) in search needs)
     (λ c. omega (arith, going (c .before .before .before .before .before .steps .result) (c .before .before .before .loop .j) (c .before .before .before .loop .n) (c .before .before .loop-test .taken)))
     (λ c. found-more _ _ _ _ _ _ (c .before .before .before .loop .inv) (c .before .before .loop-test .taken) (c .step-fault .ensures ∙ rw (c .before .step-at .ensures)))

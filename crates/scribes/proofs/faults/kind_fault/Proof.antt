@@ -18,8 +18,9 @@ abbrev μ-loop : tie.MeasureT-loop
 
 pub kind-fault-spec : {M : Type 1} → statement M
 unfolding kindFault
-kind-fault-spec = tie.close (tie.spec
-    Inv-loop μ-loop (λ c κs. search needs) (λ c κs. search needs) (λ c κs. search needs) (λ c κs. search needs)
+kind-fault-spec =
+    tie.close
+    (tie.spec Inv-loop μ-loop (λ c κs. search needs) (λ c κs. search needs) (λ c κs. search needs) (λ c κs. search needs)
     (λ c. found-none _ _ _ _ (rw (c .before .count-ok .ensures) at (c .limit-fault .ensures))) (λ c κs. search needs) (λ c κs. search needs)
     (λ c. let l = going (c .before .before .before .before .before .before .before .count-of .result) (c .before .before .before .loop .x) (c .before .before .before .loop .n) (c .before .before .loop-test .taken) in search needs)
     (λ c. omega (arith, going (c .before .before .before .before .before .before .before .count-of .result) (c .before .before .before .loop .x) (c .before .before .before .loop .n) (c .before .before .loop-test .taken)))

@@ -16,8 +16,10 @@ abbrev μ-loop : tie.MeasureT-loop
 
 pub part-fault-spec : {M : Type 1} → statement M
 unfolding partFault
-part-fault-spec = tie.close (tie.spec
-    Inv-loop μ-loop (λ c κs. search needs) (λ c κs. search needs) (λ c κs. search needs) (λ c. found-none _ _ _ _ (rw (c .before .part-ok .ensures) at (c .limit-fault .ensures))) (λ c κs. search needs)
+part-fault-spec =
+    tie.close
+    (tie.spec Inv-loop μ-loop (λ c κs. search needs) (λ c κs. search needs) (λ c κs. search needs)
+    (λ c. found-none _ _ _ _ (rw (c .before .part-ok .ensures) at (c .limit-fault .ensures))) (λ c κs. search needs)
     (λ c. let l = going (c .before .before .before .before .before .part-count .result) (c .before .before .loop .i) (c .before .before .loop .n) (c .before .loop-test .taken) in search needs)
     (λ c. omega (arith, going (c .before .before .before .before .before .part-count .result) (c .before .before .loop .i) (c .before .before .loop .n) (c .before .loop-test .taken)))
     (λ c. found-more _ _ _ _ _ _ (c .before .before .loop .inv) (c .before .loop-test .taken) (c .line-fault .ensures))

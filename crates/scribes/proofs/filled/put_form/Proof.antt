@@ -7,8 +7,9 @@ use Rattle.scribes.proofs.filled.put_form.Tie as tie
 
 pub put-form-spec : {M : Type 1} → statement M
 unfolding formLines countText
-put-form-spec = tie.close (tie.spec
-    (λ c κs. search needs) (λ c κs. search needs) (λ c κs. search needs) (λ c. search needs) (λ c κs. search needs) (λ c. search needs)
+put-form-spec =
+    tie.close
+    (tie.spec (λ c κs. search needs) (λ c κs. search needs) (λ c κs. search needs) (λ c. search needs) (λ c κs. search needs) (λ c. search needs)
     (λ c. search needs) (λ c. search needs) (λ c κs. search needs) (λ c. search needs) (λ c. search needs) (λ c. search needs) (λ c. search needs)
     (λ c κs. search needs)
     (λ c. used-fits (next (next (c .before .before .before .before .before .before .before .before .before .before .write-one .ensures) (c .before .before .before .before .before .before .put-lines .ensures)) (c .before .before .put-lines2 .ensures)) (search needs))

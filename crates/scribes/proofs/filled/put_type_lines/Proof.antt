@@ -7,7 +7,8 @@ use Rattle.scribes.proofs.filled.put_type_lines.Tie as tie
 
 pub put-type-lines-spec : {M : Type 1} → statement M
 unfolding typeLinesText countText
-put-type-lines-spec = tie.close (tie.spec
-    (λ c κs. search needs) (λ c κs. search needs) (λ c. search needs) (λ c κs. search needs) (λ c. search needs) (λ c. search needs)
+put-type-lines-spec =
+    tie.close
+    (tie.spec (λ c κs. search needs) (λ c κs. search needs) (λ c. search needs) (λ c κs. search needs) (λ c. search needs) (λ c. search needs)
     (λ c. search needs) (λ c κs. search needs) (λ c. search needs) (λ c. search needs)
     (λ c. rw (c .before .before .before .before .before .before .before .before .before .before .places-of .ensures, c .before .before .before .before .before .before .before .before .before .initial-of .ensures) at (next (c .before .before .before .before .before .before .write-one .ensures) (c .before .before .write-initial .ensures))))

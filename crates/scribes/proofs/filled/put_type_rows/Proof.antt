@@ -6,8 +6,9 @@ use Rattle.scribes.proofs.filled.put_type_rows.Tie as tie
 
 pub put-type-rows-spec : {M : Type 1} → statement M
 unfolding typeRowsText
-put-type-rows-spec = tie.close (tie.spec
-    (λ c κs. search needs) (λ c κs. search needs) (λ c κs. search needs) (λ c κs. search needs) (λ c. search needs) (λ c. search needs)
+put-type-rows-spec =
+    tie.close
+    (tie.spec (λ c κs. search needs) (λ c κs. search needs) (λ c κs. search needs) (λ c κs. search needs) (λ c. search needs) (λ c. search needs)
     (λ c. search needs) (λ c κs. search needs) (λ c. search needs) (λ c. search needs) (λ c. search needs) (λ c. search needs) (λ c κs. search needs)
     (λ c. used-fits (next (next (c .before .before .before .before .before .before .before .before .before .before .put-rows .ensures) (c .before .before .before .before .before .before .put-rows2 .ensures)) (c .before .before .put-rows3 .ensures)) (search needs))
     (λ c. search needs)

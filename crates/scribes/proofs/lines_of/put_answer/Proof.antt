@@ -8,9 +8,10 @@ use Rattle.scribes.proofs.lines_of.put_answer.Tie as tie
 
 pub put-answer-spec : {M : Type 1} → statement M
 unfolding answerText countText
-put-answer-spec = tie.close (tie.spec
-    (λ c κs. search needs) (λ c. search needs) (λ c κs. search needs) (λ c. search needs) (λ c. search needs) (λ c. search needs) (λ c. search needs)
-    (λ c κs. search needs) (λ c. search needs) (λ c. search needs) (λ c. search needs) (λ c. search needs) (λ c κs. search needs)
+put-answer-spec =
+    tie.close
+    (tie.spec (λ c κs. search needs) (λ c. search needs) (λ c κs. search needs) (λ c. search needs) (λ c. search needs) (λ c. search needs)
+    (λ c. search needs) (λ c κs. search needs) (λ c. search needs) (λ c. search needs) (λ c. search needs) (λ c. search needs) (λ c κs. search needs)
     (λ c. used-fits (next (next (c .before .before .before .before .before .before .before .before .before .before .before .write-one .ensures) (c .before .before .before .before .before .before .write-one2 .ensures)) (c .before .before .put-steps .ensures)) (search needs))
     (λ c. search needs)
     (λ c. rw (c .before .before .before .before .before .before .before .before .before .before .before .before .before .before .steps .ensures) at (simp append-assoc at (next (next (c .before .before .before .before .before .before .before .before .before .before .before .write-one .ensures) (c .before .before .before .before .before .before .write-one2 .ensures)) (c .before .before .put-steps .ensures)))))

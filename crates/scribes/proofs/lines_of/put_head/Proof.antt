@@ -7,8 +7,9 @@ use Rattle.scribes.proofs.lines_of.put_head.Tie as tie
 
 pub put-head-spec : {M : Type 1} → statement M
 unfolding headText countText
-put-head-spec = tie.close (tie.spec
-    (λ c κs. search needs) (λ c κs. search needs) (λ c. search needs) (λ c κs. search needs) (λ c. search needs) (λ c. search needs)
+put-head-spec =
+    tie.close
+    (tie.spec (λ c κs. search needs) (λ c κs. search needs) (λ c. search needs) (λ c κs. search needs) (λ c. search needs) (λ c. search needs)
     (λ c. search needs) (λ c. search needs) (λ c κs. search needs) (λ c. search needs) (λ c. search needs) (λ c. search needs) (λ c. search needs)
     (λ c κs. search needs)
     (λ c. used-fits (next (next (c .before .before .before .before .before .before .before .before .before .before .before .write-one .ensures) (c .before .before .before .before .before .before .write-one2 .ensures)) (c .before .before .write-initial .ensures)) (search needs))

@@ -6,7 +6,10 @@ use Rattle.scribes.proofs.lines_of.put_kinds.Tie as tie
 
 pub put-kinds-spec : {M : Type 1} → statement M
 unfolding kindsText
-put-kinds-spec = tie.close (tie.spec
-    (λ c. search needs) (λ c κs. search needs) (λ c. search needs) (λ c. search needs) (λ c. search needs) (λ c. search needs) (λ c κs. search needs) (λ c. search needs) (λ c. search needs) (λ c. search needs) (λ c. search needs) (λ c. search needs) (λ c κs. search needs)
-    (λ c. used-fits (next (next (c .before .before .before .before .before .before .before .before .before .before .before .before .put-kind .ensures) (c .before .before .before .before .before .before .before .put-kind2 .ensures)) (c .before .before .put-kind3 .ensures)) (search needs)) (λ c. search needs)
+put-kinds-spec =
+    tie.close
+    (tie.spec (λ c. search needs) (λ c κs. search needs) (λ c. search needs) (λ c. search needs) (λ c. search needs) (λ c. search needs)
+    (λ c κs. search needs) (λ c. search needs) (λ c. search needs) (λ c. search needs) (λ c. search needs) (λ c. search needs) (λ c κs. search needs)
+    (λ c. used-fits (next (next (c .before .before .before .before .before .before .before .before .before .before .before .before .put-kind .ensures) (c .before .before .before .before .before .before .before .put-kind2 .ensures)) (c .before .before .put-kind3 .ensures)) (search needs))
+    (λ c. search needs)
     (λ c. next (next (c .before .before .before .before .before .before .before .before .before .before .before .before .put-kind .ensures) (c .before .before .before .before .before .before .before .put-kind2 .ensures)) (c .before .before .put-kind3 .ensures)))

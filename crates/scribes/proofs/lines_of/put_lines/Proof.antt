@@ -13,8 +13,9 @@ abbrev μ-loop : tie.MeasureT-loop
 μ-loop t₀ layout part tables program count used₀ i₀ t used i = count - i
 
 pub put-lines-spec : {M : Type 1} → statement M
-put-lines-spec = tie.close (tie.spec
-    Inv-loop μ-loop (λ c. turns-none) (λ c. search needs) (λ c. search needs) (λ c. search needs) (λ c κs. search needs) (λ c. search needs)
+put-lines-spec =
+    tie.close
+    (tie.spec Inv-loop μ-loop (λ c. turns-none) (λ c. search needs) (λ c. search needs) (λ c. search needs) (λ c κs. search needs) (λ c. search needs)
     (λ c. search needs) (λ c. search needs)
     (λ c. turns-more (c .before .before .before .before .before .loop .inv) (c .before .before .before .before .loop-test .taken) (c .before .before .put-line .ensures))
     (λ c. search needs) (λ c. turns-all (c .before .loop .inv) (c .loop-test .left)))

@@ -7,6 +7,8 @@ use Rattle.scribes.proofs.lines_of.put_part.Tie as tie
 
 pub put-part-spec : {M : Type 1} → statement M
 unfolding partText countText
-put-part-spec = tie.close (tie.spec
-    (λ c κs. search needs) (λ c κs. search needs) (λ c. search needs) (λ c. search needs) (λ c. search needs) (λ c κs. search needs) (λ c. search needs) (λ c. search needs)
+put-part-spec =
+    tie.close
+    (tie.spec (λ c κs. search needs) (λ c κs. search needs) (λ c. search needs) (λ c. search needs) (λ c. search needs) (λ c κs. search needs)
+    (λ c. search needs) (λ c. search needs)
     (λ c. rw (c .before .before .before .before .before .before .before .before .part-count .ensures) at (next (c .before .before .before .before .before .before .write-one .ensures) (c .before .before .put-lines .ensures))))

@@ -14,8 +14,9 @@ abbrev μ-loop : tie.MeasureT-loop
 μ-loop t₀ tables rows i count used₀ x₀ t used x = count - x
 
 pub put-rows-spec : {M : Type 1} → statement M
-put-rows-spec = tie.close (tie.spec
-    Inv-loop μ-loop (λ c. turns-none) (λ c κs. search needs) (λ c. search needs) (λ c. search needs) (λ c. search needs) (λ c κs. search needs)
-    (λ c. search needs) (λ c. search needs) (λ c. search needs)
+put-rows-spec =
+    tie.close
+    (tie.spec Inv-loop μ-loop (λ c. turns-none) (λ c κs. search needs) (λ c. search needs) (λ c. search needs) (λ c. search needs)
+    (λ c κs. search needs) (λ c. search needs) (λ c. search needs) (λ c. search needs)
     (λ c. turns-more (c .before .before .before .before .before .before .loop .inv) (c .before .before .before .before .before .loop-test .taken) (rw (c .before .before .before .before .row-at .ensures) at (c .before .before .write-row .ensures)))
     (λ c. search needs) (λ c. turns-all (c .before .loop .inv) (c .loop-test .left)))

@@ -14,7 +14,9 @@ abbrev μ-loop : tie.MeasureT-loop
 μ-loop t₀ answer count used₀ j₀ t used j = count - j
 
 pub put-steps-spec : {M : Type 1} → statement M
-put-steps-spec = tie.close (tie.spec
-    Inv-loop μ-loop (λ c. turns-none) (λ c. search needs) (λ c. search needs) (λ c. search needs) (λ c κs. search needs) (λ c κs. search needs) (λ c. search needs) (λ c. search needs) (λ c. search needs)
+put-steps-spec =
+    tie.close
+    (tie.spec Inv-loop μ-loop (λ c. turns-none) (λ c. search needs) (λ c. search needs) (λ c. search needs) (λ c κs. search needs)
+    (λ c κs. search needs) (λ c. search needs) (λ c. search needs) (λ c. search needs)
     (λ c. turns-more (c .before .before .before .before .before .before .loop .inv) (c .before .before .before .before .before .loop-test .taken) (rw (c .before .before .before .step-at .ensures) at (c .before .before .write-step .ensures)))
     (λ c. search needs) (λ c. turns-all (c .before .loop .inv) (c .loop-test .left)))

@@ -8,6 +8,7 @@ use Rattle.sheet_inks.proofs.faults.initial_fault.Tie as tie
 
 pub initial-fault-spec : {M : Type 1} → statement M
 unfolding initialFault
-initial-fault-spec = tie.close (tie.spec
-    (λ c κs. search needs) (λ c κs. search needs) (λ c κs. search needs)
+initial-fault-spec =
+    tie.close
+    (tie.spec (λ c κs. search needs) (λ c κs. search needs) (λ c κs. search needs)
     (λ c. c .refuse-if2 .ensures ∙ rw (c .before .mask-ok .ensures, c .before .before .refuse-if .ensures, Bool·not-not (eqb (c .before .before .before .args .initial) 0))))

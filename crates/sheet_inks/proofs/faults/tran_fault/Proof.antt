@@ -8,6 +8,7 @@ use Rattle.sheet_inks.proofs.faults.tran_fault.Tie as tie
 
 pub tran-fault-spec : {M : Type 1} → statement M
 unfolding tranFault
-tran-fault-spec = tie.close (tie.spec
-    (λ c κs. search needs) (λ c κs. search needs)
+tran-fault-spec =
+    tie.close
+    (tie.spec (λ c κs. search needs) (λ c κs. search needs)
     (λ c. c .refuse-if2 .ensures ∙ rw (c .before .before .before .before .before .refuse-if .ensures, Bool·not-not (eqb _ _))))

@@ -10,7 +10,9 @@ use Rattle.sheet_inks.proofs.verbs.do_verb.Tie as tie
 
 pub do-verb-spec : {M : Type 1} → statement M
 unfolding doText doFault numbersText numbersOk
-do-verb-spec = tie.close (tie.spec
+do-verb-spec =
+    tie.close
+    (tie.spec
     (λ c. rw (c .before .before .match .keys1) (record { short = omega arith; text-is = λ a b c d. refl; fault-is = λ a b c d. rw (below a 31) }))
     (λ c. rw (c .before .before .match .keys2) (record { short = omega arith; text-is = λ a b c d. refl; fault-is = λ a b c d. rw (below a 31) }))
     (λ c. rw (c .before .before .match .keys3) (record { short = omega arith; text-is = λ a b c d. refl; fault-is = λ a b c d. rw (below a 31, below b 7) }))

@@ -10,8 +10,9 @@ use Rattle.sheet_inks.proofs.verbs.step_verb.Tie as tie
 
 pub step-verb-spec : {M : Type 1} → statement M
 unfolding stepText stepFault numbersText numbersOk
-step-verb-spec = tie.close (tie.spec
-    (λ c. rw (c .before .before .match .keys1) (record { short = omega arith; text-is = λ a b c d. refl; fault-is = λ a b c d. refl }))
+step-verb-spec =
+    tie.close
+    (tie.spec (λ c. rw (c .before .before .match .keys1) (record { short = omega arith; text-is = λ a b c d. refl; fault-is = λ a b c d. refl }))
     (λ c. rw (c .before .before .match .keys2) (record { short = omega arith; text-is = λ a b c d. refl; fault-is = λ a b c d. rw (below a 31, below b 15) }))
     (λ c. rw (c .before .before .match .keys3) (record { short = omega arith; text-is = λ a b c d. refl; fault-is = λ a b c d. rw (below a 31, below b 31) }))
     (λ c. rw (c .before .before .match .keys4) (record { short = omega arith; text-is = λ a b c d. refl; fault-is = λ a b c d. rw (below a 31, below b 15) }))

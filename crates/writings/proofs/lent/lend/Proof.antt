@@ -13,8 +13,9 @@ abbrev μ-loop : tie.MeasureT-loop
 μ-loop all start count words₀ i₀ words i = count - i
 
 pub lend-spec : {M : Type 1} → statement M
-lend-spec = tie.close (tie.spec
-    Inv-loop μ-loop (λ c. (omega arith, refl)) (λ c. search needs) (λ c κs. search needs) (λ c κs. search needs) (λ c. search needs)
+lend-spec =
+    tie.close
+    (tie.spec Inv-loop μ-loop (λ c. (omega arith, refl)) (λ c. search needs) (λ c κs. search needs) (λ c κs. search needs) (λ c. search needs)
     (λ c. search needs)
     (λ c. (omega arith, rw (c .before .before .put-word .ensures) (simp length-set (c .before .before .before .before .before .before .before .loop .inv .1))))
     (λ c. c .before .loop .inv .1) (λ c. search needs))
