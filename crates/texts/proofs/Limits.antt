@@ -15,6 +15,9 @@ module _ {A B : Type 0} (m : Reply A) (f : A → Reader B) {s : List ℕ} where
   pub form-fault : {k : ℕ} → Reads s (fault k) m → Reads s (fault k) (readOn m f)
   form-fault h = record { within = h .within; same = ap (λ (x : Reply A). readOn x f) (h .same) }
 
+  pub form-then : {a : A} {i : ℕ} {o : Outcome B} → Reads s (past a i) m → Reads s o (f a (drop i s)) → Reads s o (readOn m f)
+  form-then h l = record { within = l .within; same = l .same ∙ ap (λ (x : Reply A). readOn x f) (h .same) }
+
   pub limit-fault : {a : A} {i k : ℕ} → Reads s (past a i) m → f a (drop i s) ≡ refused k → Reads s (fault k) (readOn m f)
   limit-fault h e = record { within = zero-le; same = sym e ∙ ap (λ (x : Reply A). readOn x f) (h .same) }
 

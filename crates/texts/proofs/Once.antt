@@ -8,6 +8,8 @@ use lib.ListN.{length, drop, length-drop}
 use Rattle.forms.specs.Reader.{Reply, refused}
 use Rattle.forms.proofs.Laws.{not-got, got-value, got-rest}
 use Rattle.texts.specs.Reads.{Outcome, past, fault, Reads, NoOther}
+use Rattle.texts.specs.Within.{numbersSays}
+use Rattle.texts.specs.declared.numbers.Numbers.the-variants as numbers
 use Rattle.texts.specs.Says.{dueSays, numberSays, twoSays, threeSays, fourSays, listSays, listsSays}
 use Rattle.texts.specs.declared.Due.the-variants as due
 use Rattle.texts.specs.declared.Number.the-variants as number
@@ -72,3 +74,6 @@ lists-once =
     no-other listsSays
     (elim [ past a n ↦ lists.Got (a .0 .mask) (a .0 .top) (a .1 .mask) (a .1 .top) n | fault k ↦ lists.Fault ])
     (elim [ lists.Got m t o u n ↦ refl | lists.Fault ↦ refl ])
+
+pub numbers-once : NoOther numbersSays
+numbers-once = no-other numbersSays (elim [ past a n ↦ numbers.Got a n | fault k ↦ numbers.Refused k ]) (elim [ numbers.Got a n ↦ refl | numbers.Refused k ↦ refl ])

@@ -1,0 +1,63 @@
+-- Lines of one to four numbers, each below its limit: the form whole (2), then the limits (3).
+use Prim.Native.Nat.{ℕ}
+use mathlib.Core.Bool.{_&&_, cond}
+use lib.Dec.{ltb, eqb}
+use Rattle.forms.specs.Refusal.{beyondLimit}
+use Rattle.forms.specs.Reader.{Reader, byte, _>>=_, _>>_, give, check}
+use Rattle.forms.specs.Read.{number, oneForm, twoForm, threeForm, fourForm}
+use Rattle.texts.specs.Reads.{Outcome, past, fault}
+use Rattle.texts.specs.declared.numbers.Four.{Four}
+use Rattle.texts.specs.declared.numbers.Limits.{Limits}
+use Rattle.texts.specs.declared.numbers.Limits.the-variants as limits
+use Rattle.texts.specs.declared.numbers.Held.{Held}
+use Rattle.texts.specs.declared.numbers.Numbers.{Numbers}
+use Rattle.texts.specs.declared.numbers.Numbers.the-variants as numbers
+
+abbrev pub four : ℕ → ℕ → ℕ → ℕ → Four
+four a b c e = record { first = a; second = b; third = c; fourth = e }
+
+abbrev pub numbersSays : Numbers → Outcome Four
+numbersSays (numbers.Got x n) = past x n
+numbersSays (numbers.Refused k) = fault k
+
+-- the numbers of at most d digits, and 0 for those that the line has not
+unfoldable pub numbersWithin : ℕ → Limits → Reader Four
+numbersWithin d (limits.One j) = do
+  a ← oneForm d
+  check (ltb a j) beyondLimit
+  give (four a 0 0 0)
+numbersWithin d (limits.Two j k) = do
+  (a, b) ← twoForm d
+  check (ltb a j && ltb b k) beyondLimit
+  give (four a b 0 0)
+numbersWithin d (limits.Three j k l) = do
+  (a, b, c) ← threeForm d
+  check (ltb a j && (ltb b k && ltb c l)) beyondLimit
+  give (four a b c 0)
+numbersWithin d (limits.Four j k l m) = do
+  (a, b, c, e) ← fourForm d
+  check (ltb a j && (ltb b k && (ltb c l && ltb e m))) beyondLimit
+  give (four a b c e)
+
+-- the same in one row
+abbrev pub heldBy : Limits → Held
+heldBy (limits.One j) = record { count = 1; first = j; second = 1; third = 1; fourth = 1 }
+heldBy (limits.Two j k) = record { count = 2; first = j; second = k; third = 1; fourth = 1 }
+heldBy (limits.Three j k l) = record { count = 3; first = j; second = k; third = l; fourth = 1 }
+heldBy (limits.Four j k l m) = record { count = 4; first = j; second = k; third = l; fourth = m }
+
+-- number k of n, and the byte that ends it
+abbrev pub endOf : ℕ → ℕ → ℕ
+endOf k n = cond (eqb k n) (byte "\n") (byte ",")
+
+abbrev pub numberOf : ℕ → ℕ → ℕ → Reader ℕ
+numberOf d k n = cond (ltb n k) (give 0) (number d (endOf k n))
+
+unfoldable pub numbersHeld : ℕ → Held → Reader Four
+numbersHeld d h = do
+  a ← numberOf d 1 (h .count)
+  b ← numberOf d 2 (h .count)
+  c ← numberOf d 3 (h .count)
+  e ← numberOf d 4 (h .count)
+  check (ltb a (h .first) && (ltb b (h .second) && (ltb c (h .third) && ltb e (h .fourth)))) beyondLimit
+  give (four a b c e)
