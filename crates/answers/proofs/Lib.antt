@@ -1,2 +1,3 @@
--- That no other answer fits the promises (Once).
+-- What follows a verb (Numbers); that no other answer fits the promises (Once).
+pub mod Numbers
 pub mod Once

@@ -1,9 +1,12 @@
 -- What each case of a step line's enum says: the step and the bytes used, or 01's number.
 use Prim.Native.Nat.{ℕ}
-use mathlib.Core.Bool.{Bool}
-use lib.Dec.{leb}
+use Rattle.forms.specs.Reader.{Reader, _>>=_, give}
 use Rattle.model.specs.declared.Step.{Step}
+use Rattle.reading.specs.Limits.{fiveDigits}
+use Rattle.reading.specs.Kinds.{aStep}
 use Rattle.texts.specs.Reads.{Outcome, past, fault}
+use Rattle.texts.specs.declared.numbers.Limits.{Limits}
+use Rattle.texts.specs.Within.{numbersWithin}
 use Rattle.answers.specs.declared.StepLine.{StepLine}
 use Rattle.answers.specs.declared.StepLine.the-variants.{Got, Refused}
 
@@ -11,6 +14,8 @@ abbrev pub stepSays : StepLine → Outcome Step
 stepSays (Got v a b n) = past (record { verb = v; id = a; number = b }) n
 stepSays (Refused k) = fault k
 
--- "places .. run to 15, transitions to 31": the limit of a number that runs to n
-abbrev pub runsTo : ℕ → ℕ → Bool
-runsTo n x = leb x n
+-- what follows a verb: so many numbers
+unfoldable pub stepNumbers : ℕ → Limits → Reader Step
+stepNumbers v l = do
+  n ← numbersWithin fiveDigits l
+  give (aStep v (n .first) (n .second))

@@ -2,7 +2,6 @@
 // Promised: for every text `fill_answer` answers the one number and place that `answerRead` gives of it, and the words say the answer that it
 // gives, whatever they held before.
 use forms::BAD_FORM;
-use forms::BEYOND_LIMIT;
 use lines::Limit;
 use lines::Went;
 use runs::LinesRead;
@@ -10,21 +9,21 @@ use runs::NumberRead;
 use runs::Place;
 use texts::Digits;
 use texts::Due;
-use texts::Number;
-use texts::TwoNumbers;
+use texts::numbers::Limits;
+use texts::numbers::Numbers;
 use words::AnswerWords;
 ghost use mathlib.Core.Path.{_≡_};
 ghost use lib.ListN.{drop};
 ghost use Rattle.texts.specs.Reads.{Reads, refusal};
 ghost use Rattle.model.specs.Empty.{noAnswer};
 ghost use Rattle.reading.specs.Lines.{each};
-ghost use Rattle.reading.specs.Kinds.{stepId, stepNumber, stepLine};
+ghost use Rattle.reading.specs.Kinds.{stepLine};
 ghost use Rattle.reading.specs.Texts.{stepAt};
 ghost use Rattle.lines.specs.Runs.{RunsTo};
 ghost use Rattle.runs.specs.Chain.{After};
 ghost use Rattle.runs.specs.Whole.{beside};
 ghost use Rattle.words.specs.Words.{answerIn};
-ghost use Rattle.answers.specs.Says.{runsTo, stepSays};
+ghost use Rattle.answers.specs.Says.{stepSays, stepNumbers};
 ghost use Rattle.answers.specs.Answer.{answerLines, answerRead};
 
 // The codes of the verbs, as in model::Step.
@@ -44,33 +43,15 @@ pub enum StepLine {
     Refused(u8),
 }
 
-// What follows `step=finish,`.
-fn step_id(s: &[u8], at: usize, verb: u32) -> StepLine
-    ensures { λ r. ⌜ Reads (now (s .entry)) (stepSays r) (stepId verb (drop at (now (s .entry)))) ⌝ }
+// What follows the verb of a `step` line: one number or two.
+fn step_numbers(s: &[u8], at: usize, verb: u32, limits: Limits) -> StepLine
+    ensures { λ r. ⌜ Reads (now (s .entry)) (stepSays r) (stepNumbers verb limits (drop at (now (s .entry)))) ⌝ }
 {
-    let Number::Got(a, used) = texts::one_number(s, at, Digits::Five) else {
-        return StepLine::Refused(BAD_FORM);
-    };
-    if 31 < a {
-        return StepLine::Refused(BEYOND_LIMIT);
+    let line = texts::numbers::numbers_within(s, at, Digits::Five, limits);
+    match line {
+        Numbers::Got(n, used) => StepLine::Got(verb, n.first, n.second, used),
+        Numbers::Refused(k) => StepLine::Refused(k),
     }
-    StepLine::Got(verb, a, 0, used)
-}
-
-// What follows `step=fire,`, `step=end,` and `step=enter,`: an id, and a number that runs to the greatest.
-fn step_number(s: &[u8], at: usize, verb: u32, greatest: u32) -> StepLine
-    ensures { λ r. ⌜ Reads (now (s .entry)) (stepSays r) (stepNumber verb (runsTo greatest) (drop at (now (s .entry)))) ⌝ }
-{
-    let TwoNumbers::Got(a, b, used) = texts::two_numbers(s, at, Digits::Five) else {
-        return StepLine::Refused(BAD_FORM);
-    };
-    if 31 < a {
-        return StepLine::Refused(BEYOND_LIMIT);
-    }
-    if greatest < b {
-        return StepLine::Refused(BEYOND_LIMIT);
-    }
-    StepLine::Got(verb, a, b, used)
 }
 
 // `step=`
@@ -81,16 +62,16 @@ pub fn step_line(s: &[u8]) -> StepLine
         return StepLine::Got(NEXT, 0, 0, used);
     }
     if let Due::Past(i) = texts::past_key(s, 0, b"step=fire,") {
-        return step_number(s, i, FIRE, 15);
+        return step_numbers(s, i, FIRE, Limits::Two(32, 16));
     }
     if let Due::Past(i) = texts::past_key(s, 0, b"step=end,") {
-        return step_number(s, i, END, 31);
+        return step_numbers(s, i, END, Limits::Two(32, 32));
     }
     if let Due::Past(i) = texts::past_key(s, 0, b"step=enter,") {
-        return step_number(s, i, ENTER, 15);
+        return step_numbers(s, i, ENTER, Limits::Two(32, 16));
     }
     if let Due::Past(i) = texts::past_key(s, 0, b"step=finish,") {
-        return step_id(s, i, FINISH);
+        return step_numbers(s, i, FINISH, Limits::One(32));
     }
     StepLine::Refused(BAD_FORM)
 }

@@ -1,31 +1,79 @@
--- A port's group, a line's row, and the limits of `do=pushb,`.
+-- What follows the verb of a `do` line, a transition's row, a port's group and row.
 -- Assumes nothing.
 use Prim.Native.Nat.{ℕ, zero-le}
 use mathlib.Core.List.{List}
-use mathlib.Core.Bool.{Bool, true, false, true≢false}
-use mathlib.Core.Path.{_≡_, sym, ap, fun-ext, _∙_}
+use mathlib.Core.Bool.{true, false, _&&_, true≢false}
+use mathlib.Core.Path.{_≡_, refl, sym, _∙_}
 use lib.Dec.{leb·suc-suc, lit<}
 use lib.ListN.{drop}
 use Rattle.sets.specs.Mask.{overlaps}
 use Rattle.sets.proofs.Laws.{none-overlaps, member-past}
-use Rattle.forms.specs.Reader.{Reply, Reader, readOn, give, check, _>>=_, _>>_}
-use Rattle.forms.specs.Read.{key, upon, Set, listsForm}
+use Rattle.forms.specs.Refusal.{badClause}
+use Rattle.forms.specs.Reader.{Reply, Reader, readOn, bytes, give, check, _>>=_, _>>_}
+use Rattle.forms.specs.Read.{key, upon, Set, twoForm, listsForm}
 use Rattle.texts.specs.Reads.{Outcome, past, fault, Reads}
+use Rattle.texts.specs.declared.numbers.Four.{Four as Numbers}
+use Rattle.texts.specs.declared.numbers.Limits.the-variants.{One, Two, Four}
+use Rattle.texts.specs.Within.{numbersWithin}
 use Rattle.texts.proofs.Shapes.{bind-same, bind-bind}
 use Rattle.texts.proofs.Limits.{limit-kept}
-use Rattle.reading.specs.Limits.{fiveDigits, listOk, useOk, typeOk, behaviorOk}
-use Rattle.reading.specs.Kinds.{group, doNumber}
-use Rattle.sheet_lines.specs.Rows.{portRow, portAfter}
+use Rattle.texts.proofs.Within.{in-turn, one-within, two-within, four-within}
+use Rattle.model.specs.declared.Instruction.{Instruction}
+use Rattle.reading.specs.Limits.{fiveDigits, listOk, useOk, endOk, endsOk, idOk, portOk, typeOk, behaviorOk}
+use Rattle.reading.specs.Kinds.{tranLine, group, anInstruction, doId, doNumber, doEnds}
+use Rattle.sheet_lines.specs.Says.{doNumbers}
+use Rattle.sheet_lines.specs.declared.Known.{Known}
+use Rattle.sheet_lines.specs.declared.Row.{Row}
+use Rattle.sheet_lines.specs.declared.Rows.the-variants.{Transitions}
+use Rattle.sheet_lines.specs.Rows.{transitionRow, portRow, rowLine, portAfter}
+
+-- what follows a verb, by the limits of its numbers
+module _ (v : ℕ) (t : List ℕ) where
+  abbrev numbered : Numbers → Reader Instruction
+  numbered n = give (anInstruction v (n .first) (n .second) (n .third) (n .fourth))
+
+  pub id-is : doNumbers v (One 32) t ≡ doId v t
+  unfolding doNumbers doId
+  id-is = sym (one-within fiveDigits numbered t 32 idOk (λ a. leb·suc-suc a 31))
+
+  pub number-is : (n : ℕ) → doNumbers v (Two 32 n) t ≡ doNumber v (typeOk n) t
+  unfolding doNumbers doNumber
+  number-is n = sym (two-within fiveDigits numbered t 32 n idOk (typeOk n) (λ a. leb·suc-suc a 31) (λ b. refl))
+
+  -- behaviors run to 7: they are below 8
+  pub pushb-is : doNumbers v (Two 32 8) t ≡ doNumber v behaviorOk t
+  unfolding doNumbers doNumber
+  pushb-is = sym (two-within fiveDigits numbered t 32 8 idOk behaviorOk (λ a. leb·suc-suc a 31) (λ b. leb·suc-suc b 7))
+
+  pub ends-is : doNumbers v (Four 32 16 32 16) t ≡ doEnds v t
+  unfolding doNumbers doEnds
+  ends-is =
+      sym (four-within fiveDigits numbered t 32 16 32 16 idOk portOk idOk portOk
+      (λ a. leb·suc-suc a 31) (λ b. leb·suc-suc b 15) (λ c. leb·suc-suc c 31) (λ e. leb·suc-suc e 15))
+
+-- a transition's row
+abbrev pub transitionOf : Numbers → Reader Row
+transitionOf n = do
+  check (endsOk (n .first) (n .second)) badClause
+  give (transitionRow (n .first) (n .second))
+
+pub tran-reads : (c : Known) {s : List ℕ} {o : Outcome Row}
+    → Reads s o (readOn (key (bytes "tran=") s) (λ _ r. readOn (numbersWithin fiveDigits (Two (c .places) (c .places)) r) transitionOf)) → Reads s o (rowLine Transitions c s)
+unfolding rowLine tranLine
+tran-reads c {s} h =
+    record {
+      within = h .within;
+      same = h .same ∙ in-turn (key (bytes "tran=") s) _ _ _ (λ _ r.
+          sym (two-within fiveDigits transitionOf r (c .places) (c .places) (endOk (c .places)) (endOk (c .places)) (λ a. refl) (λ b. refl))
+          ∙ in-turn (twoForm fiveDigits r) _ _ _ (λ (a, b) q.
+          in-turn (check (endOk (c .places) a && endOk (c .places) b) 3 q) _ _ _ (λ _ o. in-turn (check (endsOk a b) 4 o) _ _ _ (λ _ l. refl))));
+    }
 
 -- a port's group that keeps to its limits
-pub group-kept : (n k : ℕ) {i : ℕ} {a b : Set} (s t : List ℕ) → Reads s (past (a, b) i) (listsForm fiveDigits t) → listOk n (a .top) ≡ true → listOk k (b .top) ≡ true
+pub group-kept : (n k : ℕ) {i : ℕ} {a b : Set} (s t : List ℕ) → Reads s (past (a, b) i) (listsForm fiveDigits t) → listOk n (a .top) && listOk k (b .top) ≡ true
     → Reads s (past (a .mask, b .mask) i) (group n k t)
 unfolding group
-group-kept n k s t h p q = limit-kept (listsForm fiveDigits t) _ h (rw (p, q))
-
--- behaviors run to 7: they are below 8
-pub pushb-below : (v : ℕ) (s : List ℕ) → doNumber v (typeOk 8) s ≡ doNumber v behaviorOk s
-pushb-below v s = ap (λ (l : ℕ → Bool). doNumber v l s) (fun-ext (λ b. leb·suc-suc b 7))
+group-kept n k s t h p = limit-kept (listsForm fiveDigits t) _ h (rw p)
 
 -- no port's places overlap the empty set
 none-initial : (a : ℕ) → overlaps 0 a ≡ false

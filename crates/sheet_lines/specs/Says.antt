@@ -1,6 +1,12 @@
 -- What each case of each enum says: the values of the line and the bytes used, or 01's number.
+use Prim.Native.Nat.{ℕ}
+use Rattle.forms.specs.Reader.{Reader, _>>=_, give}
 use Rattle.model.specs.declared.Instruction.{Instruction}
+use Rattle.reading.specs.Limits.{fiveDigits}
+use Rattle.reading.specs.Kinds.{anInstruction}
 use Rattle.texts.specs.Reads.{Outcome, past, fault}
+use Rattle.texts.specs.declared.numbers.Limits.{Limits}
+use Rattle.texts.specs.Within.{numbersWithin}
 use Rattle.sheet_lines.specs.declared.Row.{Row}
 use Rattle.sheet_lines.specs.declared.RowLine.{RowLine}
 use Rattle.sheet_lines.specs.declared.RowLine.the-variants as row
@@ -14,3 +20,9 @@ rowSays (row.Refused k) = fault k
 abbrev pub instructionSays : Do → Outcome Instruction
 instructionSays (instruction.Got v a b c d n) = past (record { verb = v; id = a; number = b; provider = c; provideport = d }) n
 instructionSays (instruction.Refused k) = fault k
+
+-- what follows the verb of a `do` line: so many numbers
+unfoldable pub doNumbers : ℕ → Limits → Reader Instruction
+doNumbers v l = do
+  n ← numbersWithin fiveDigits l
+  give (anInstruction v (n .first) (n .second) (n .third) (n .fourth))

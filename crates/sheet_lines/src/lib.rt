@@ -6,19 +6,17 @@ use forms::BEYOND_LIMIT;
 use lines::Line;
 use texts::Digits;
 use texts::Due;
-use texts::FourNumbers;
-use texts::Number;
 use texts::OneList;
 use texts::TwoLists;
-use texts::TwoNumbers;
+use texts::numbers::Limits;
+use texts::numbers::Numbers;
 ghost use mathlib.Core.Path.{_≡_};
 ghost use lib.ListN.{drop};
 ghost use Rattle.texts.specs.Reads.{Reads, refusal};
 ghost use Rattle.lines.specs.Counts.{lineSays};
-ghost use Rattle.reading.specs.Limits.{typeOk};
-ghost use Rattle.reading.specs.Kinds.{initialLine, doId, doNumber, doEnds, doLine};
+ghost use Rattle.reading.specs.Kinds.{initialLine, doLine};
 ghost use Rattle.sheet_lines.specs.declared.Rows.the-variants.{Transitions, Behaviors, Ports};
-ghost use Rattle.sheet_lines.specs.Says.{rowSays, instructionSays};
+ghost use Rattle.sheet_lines.specs.Says.{rowSays, instructionSays, doNumbers};
 ghost use Rattle.sheet_lines.specs.Rows.{portAfter, rowLine};
 
 // The rows that a type has.
@@ -76,26 +74,27 @@ pub fn initial_line(s: &[u8], places: u32) -> Line
 fn tran_line(s: &[u8], known: Known) -> RowLine
     ensures { λ r. ⌜ Reads (now (s .entry)) (rowSays r) (rowLine Transitions known (now (s .entry))) ⌝ }
 {
-    let TwoNumbers::Got(a, b, used) = texts::two_numbers_line(s, b"tran=", Digits::Five) else {
+    let Due::Past(i) = texts::past_key(s, 0, b"tran=") else {
         return RowLine::Refused(BAD_FORM);
     };
-    if known.places <= a {
-        return RowLine::Refused(BEYOND_LIMIT);
+    let limits = Limits::Two(known.places, known.places);
+    let line = texts::numbers::numbers_within(s, i, Digits::Five, limits);
+    match line {
+        Numbers::Got(n, used) => {
+            if n.first == n.second {
+                return RowLine::Refused(BAD_CLAUSE);
+            }
+            let row = Row {
+                source: n.first,
+                destination: n.second,
+                uses: 0,
+                places: 0,
+                transitions: 0,
+            };
+            RowLine::Got(row, used)
+        }
+        Numbers::Refused(k) => RowLine::Refused(k),
     }
-    if known.places <= b {
-        return RowLine::Refused(BEYOND_LIMIT);
-    }
-    if a == b {
-        return RowLine::Refused(BAD_CLAUSE);
-    }
-    let row = Row {
-        source: a,
-        destination: b,
-        uses: 0,
-        places: 0,
-        transitions: 0,
-    };
-    RowLine::Got(row, used)
 }
 
 // `behavior=` list of transitions.
@@ -126,23 +125,20 @@ fn port_after(s: &[u8], at: usize, uses: u32, known: Known, initial: u32) -> Row
     else {
         return RowLine::Refused(BAD_FORM);
     };
-    if known.places < m {
-        return RowLine::Refused(BEYOND_LIMIT);
+    if (m <= known.places) & (n <= known.transitions) {
+        if sets::overlaps(initial, places) {
+            return RowLine::Refused(BAD_CLAUSE);
+        }
+        let row = Row {
+            source: 0,
+            destination: 0,
+            uses,
+            places,
+            transitions,
+        };
+        return RowLine::Got(row, used);
     }
-    if known.transitions < n {
-        return RowLine::Refused(BEYOND_LIMIT);
-    }
-    if sets::overlaps(initial, places) {
-        return RowLine::Refused(BAD_CLAUSE);
-    }
-    let row = Row {
-        source: 0,
-        destination: 0,
-        uses,
-        places,
-        transitions,
-    };
-    RowLine::Got(row, used)
+    RowLine::Refused(BEYOND_LIMIT)
 }
 
 // `port=`
@@ -169,55 +165,15 @@ pub fn row_line(s: &[u8], rows: Rows, known: Known) -> RowLine
     }
 }
 
-// What follows `do=del,` and `do=wait,`.
-fn do_id(s: &[u8], at: usize, verb: u32) -> Do
-    ensures { λ r. ⌜ Reads (now (s .entry)) (instructionSays r) (doId verb (drop at (now (s .entry)))) ⌝ }
+// What follows the verb of a `do` line.
+fn do_numbers(s: &[u8], at: usize, verb: u32, limits: Limits) -> Do
+    ensures { λ r. ⌜ Reads (now (s .entry)) (instructionSays r) (doNumbers verb limits (drop at (now (s .entry)))) ⌝ }
 {
-    let Number::Got(a, used) = texts::one_number(s, at, Digits::Five) else {
-        return Do::Refused(BAD_FORM);
-    };
-    if 31 < a {
-        return Do::Refused(BEYOND_LIMIT);
+    let line = texts::numbers::numbers_within(s, at, Digits::Five, limits);
+    match line {
+        Numbers::Got(n, used) => Do::Got(verb, n.first, n.second, n.third, n.fourth, used),
+        Numbers::Refused(k) => Do::Refused(k),
     }
-    Do::Got(verb, a, 0, 0, 0, used)
-}
-
-// What follows `do=add,` and `do=pushb,`: the number is below so many.
-fn do_number(s: &[u8], at: usize, verb: u32, below: u32) -> Do
-    ensures { λ r. ⌜ Reads (now (s .entry)) (instructionSays r) (doNumber verb (typeOk below) (drop at (now (s .entry)))) ⌝ }
-{
-    let TwoNumbers::Got(a, b, used) = texts::two_numbers(s, at, Digits::Five) else {
-        return Do::Refused(BAD_FORM);
-    };
-    if 31 < a {
-        return Do::Refused(BEYOND_LIMIT);
-    }
-    if below <= b {
-        return Do::Refused(BEYOND_LIMIT);
-    }
-    Do::Got(verb, a, b, 0, 0, used)
-}
-
-// What follows `do=con,` and `do=dcon,`.
-fn do_ends(s: &[u8], at: usize, verb: u32) -> Do
-    ensures { λ r. ⌜ Reads (now (s .entry)) (instructionSays r) (doEnds verb (drop at (now (s .entry)))) ⌝ }
-{
-    let FourNumbers::Got(a, b, c, d, used) = texts::four_numbers(s, at, Digits::Five) else {
-        return Do::Refused(BAD_FORM);
-    };
-    if 31 < a {
-        return Do::Refused(BEYOND_LIMIT);
-    }
-    if 15 < b {
-        return Do::Refused(BEYOND_LIMIT);
-    }
-    if 31 < c {
-        return Do::Refused(BEYOND_LIMIT);
-    }
-    if 15 < d {
-        return Do::Refused(BEYOND_LIMIT);
-    }
-    Do::Got(verb, a, b, c, d, used)
 }
 
 // `do=`, in a sheet of so many types.
@@ -225,22 +181,22 @@ pub fn do_line(s: &[u8], types: u32) -> Do
     ensures { λ r. ⌜ Reads (now (s .entry)) (instructionSays r) (doLine types (now (s .entry))) ⌝ }
 {
     if let Due::Past(i) = texts::past_key(s, 0, b"do=add,") {
-        return do_number(s, i, 0, types);
+        return do_numbers(s, i, 0, Limits::Two(32, types));
     }
     if let Due::Past(i) = texts::past_key(s, 0, b"do=del,") {
-        return do_id(s, i, 1);
+        return do_numbers(s, i, 1, Limits::One(32));
     }
     if let Due::Past(i) = texts::past_key(s, 0, b"do=pushb,") {
-        return do_number(s, i, 2, 8);
+        return do_numbers(s, i, 2, Limits::Two(32, 8));
     }
     if let Due::Past(i) = texts::past_key(s, 0, b"do=con,") {
-        return do_ends(s, i, 3);
+        return do_numbers(s, i, 3, Limits::Four(32, 16, 32, 16));
     }
     if let Due::Past(i) = texts::past_key(s, 0, b"do=dcon,") {
-        return do_ends(s, i, 4);
+        return do_numbers(s, i, 4, Limits::Four(32, 16, 32, 16));
     }
     if let Due::Past(i) = texts::past_key(s, 0, b"do=wait,") {
-        return do_id(s, i, 5);
+        return do_numbers(s, i, 5, Limits::One(32));
     }
     Do::Refused(BAD_FORM)
 }

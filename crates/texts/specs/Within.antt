@@ -1,7 +1,9 @@
 -- Lines of one to four numbers, each below its limit: the form whole (2), then the limits (3).
-use Prim.Native.Nat.{ℕ}
-use mathlib.Core.Bool.{_&&_, cond}
+use Prim.Native.Nat.{ℕ, zero, suc}
+use mathlib.Core.List.{List}
+use mathlib.Core.Bool.{Bool, _&&_, cond}
 use lib.Dec.{ltb, eqb}
+use lib.ListN.{getD, set, replicate}
 use Rattle.forms.specs.Refusal.{beyondLimit}
 use Rattle.forms.specs.Reader.{Reader, byte, _>>=_, _>>_, give, check}
 use Rattle.forms.specs.Read.{number, oneForm, twoForm, threeForm, fourForm}
@@ -46,18 +48,24 @@ heldBy (limits.Two j k) = record { count = 2; first = j; second = k; third = 1; 
 heldBy (limits.Three j k l) = record { count = 3; first = j; second = k; third = l; fourth = 1 }
 heldBy (limits.Four j k l m) = record { count = 4; first = j; second = k; third = l; fourth = m }
 
--- number k of n, and the byte that ends it
-abbrev pub endOf : ℕ → ℕ → ℕ
-endOf k n = cond (eqb k n) (byte "\n") (byte ",")
+abbrev pub within : Four → Held → Bool
+within n h = ltb (n .first) (h .first) && (ltb (n .second) (h .second) && (ltb (n .third) (h .third) && ltb (n .fourth) (h .fourth)))
 
-abbrev pub numberOf : ℕ → ℕ → ℕ → Reader ℕ
-numberOf d k n = cond (ltb n k) (give 0) (number d (endOf k n))
+-- the byte that ends a number where so many are left, and these numbers, written from place k on into what was read so far
+abbrev pub endOf : ℕ → ℕ
+endOf left = cond (eqb left 1) (byte "\n") (byte ",")
+
+unfoldable pub numbersFrom : ℕ → ℕ → ℕ → List ℕ → Reader (List ℕ)
+numbersFrom d zero k l = give l
+numbersFrom d (suc n) k l = do
+  a ← number d (endOf (suc n))
+  numbersFrom d n (suc k) (set l k a)
+
+abbrev pub fourOf : List ℕ → Four
+fourOf l = four (getD l 0 0) (getD l 1 0) (getD l 2 0) (getD l 3 0)
 
 unfoldable pub numbersHeld : ℕ → Held → Reader Four
 numbersHeld d h = do
-  a ← numberOf d 1 (h .count)
-  b ← numberOf d 2 (h .count)
-  c ← numberOf d 3 (h .count)
-  e ← numberOf d 4 (h .count)
-  check (ltb a (h .first) && (ltb b (h .second) && (ltb c (h .third) && ltb e (h .fourth)))) beyondLimit
-  give (four a b c e)
+  l ← numbersFrom d (h .count) 0 (replicate 4 0)
+  check (within (fourOf l) h) beyondLimit
+  give (fourOf l)

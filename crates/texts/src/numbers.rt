@@ -2,14 +2,13 @@
 use crate::Digits;
 use crate::Number;
 use crate::number_then;
-use crate::place_in;
 use forms::BAD_FORM;
 use forms::BEYOND_LIMIT;
 ghost use mathlib.Core.Path.{_≡_};
 ghost use lib.ListN.{drop};
 ghost use Rattle.texts.specs.Reads.{Reads};
-ghost use Rattle.texts.specs.Says.{most, numberSays};
-ghost use Rattle.texts.specs.Within.{numbersSays, numbersWithin, heldBy, endOf, numberOf};
+ghost use Rattle.texts.specs.Says.{most};
+ghost use Rattle.texts.specs.Within.{numbersSays, numbersWithin, heldBy, endOf, within};
 
 // How many numbers a line has, and what each lies below.
 pub enum Limits {
@@ -34,14 +33,14 @@ pub enum Numbers {
 
 // The same limits in one row: a number that the line has not is 0, and so below 1.
 struct Held {
-    count: u32,
+    count: usize,
     first: u32,
     second: u32,
     third: u32,
     fourth: u32,
 }
 
-fn held_row(count: u32, first: u32, second: u32, third: u32, fourth: u32) -> Held
+fn held_row(count: usize, first: u32, second: u32, third: u32, fourth: u32) -> Held
     ensures { λ r. ⌜ r ≡ record { count = count; first = first; second = second; third = third; fourth = fourth } ⌝ }
 {
     Held {
@@ -64,22 +63,11 @@ fn held_by(limits: Limits) -> Held
     }
 }
 
-// The byte that ends number k of so many.
-fn end_of(k: u32, count: u32) -> u8
-    ensures { λ r. ⌜ r ≡ endOf k count ⌝ }
+// The byte that ends a number where so many are left.
+fn end_of(left: usize) -> u8
+    ensures { λ r. ⌜ r ≡ endOf left ⌝ }
 {
-    if k == count { b'\n' } else { b',' }
-}
-
-// Number k of so many: 0 where the line has no such number.
-fn number_of(s: &[u8], at: usize, k: u32, count: u32, digits: Digits) -> Number
-    ensures { λ r. ⌜ Reads (now (s .entry)) (numberSays r) (numberOf (most digits) k count (drop at (now (s .entry)))) ⌝ }
-{
-    if count < k {
-        let here = place_in(s, at);
-        return Number::Got(0, here);
-    }
-    number_then(s, at, end_of(k, count), digits)
+    if left == 1 { b'\n' } else { b',' }
 }
 
 // The numbers of a line from a place on, up to the line's end.
@@ -87,28 +75,34 @@ pub fn numbers_within(s: &[u8], at: usize, digits: Digits, limits: Limits) -> Nu
     ensures { λ r. ⌜ Reads (now (s .entry)) (numbersSays r) (numbersWithin (most digits) limits (drop at (now (s .entry)))) ⌝ }
 {
     let held = held_by(limits);
-    let count = held.count;
-    let Number::Got(first, i) = number_of(s, at, 1, count, digits) else {
-        return Numbers::Refused(BAD_FORM);
-    };
-    let Number::Got(second, j) = number_of(s, i, 2, count, digits) else {
-        return Numbers::Refused(BAD_FORM);
-    };
-    let Number::Got(third, k) = number_of(s, j, 3, count, digits) else {
-        return Numbers::Refused(BAD_FORM);
-    };
-    let Number::Got(fourth, next) = number_of(s, k, 4, count, digits) else {
-        return Numbers::Refused(BAD_FORM);
-    };
-    let ends = (third < held.third) & (fourth < held.fourth);
-    if (first < held.first) & ((second < held.second) & ends) {
-        let four = Four {
-            first,
-            second,
-            third,
-            fourth,
+    let mut got = [0u32; 4];
+    let mut next = at;
+    let mut k: usize = 0;
+    let mut left = held.count;
+    while 0 < left {
+        let Number::Got(a, i) = number_then(s, next, end_of(left), digits) else {
+            return Numbers::Refused(BAD_FORM);
         };
+        got[k] = a;
+        next = i;
+        k = k + 1;
+        left = left - 1;
+    }
+    let four = Four {
+        first: got[0],
+        second: got[1],
+        third: got[2],
+        fourth: got[3],
+    };
+    if within(four, held) {
         return Numbers::Got(four, next);
     }
     Numbers::Refused(BEYOND_LIMIT)
+}
+
+fn within(four: Four, held: Held) -> bool
+    ensures { λ r. ⌜ r ≡ within four held ⌝ }
+{
+    let ends = (four.third < held.third) & (four.fourth < held.fourth);
+    (four.first < held.first) & ((four.second < held.second) & ends)
 }

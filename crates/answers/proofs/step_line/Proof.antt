@@ -6,6 +6,7 @@ use Rattle.texts.specs.Says.{dueSays}
 use Rattle.texts.proofs.Laws.{told}
 use Rattle.reading.specs.Kinds.{stepLine}
 use borrow.Author.Needs.{needs}
+use Rattle.answers.proofs.Numbers.{id-is, number-is}
 use Rattle.answers.proofs.step_line.Statement.{statement}
 use Rattle.answers.proofs.step_line.Tie as tie
 
@@ -34,25 +35,25 @@ returns-2 : tie.Need-returns-2
 unfolding stepLine
 returns-2 c =
     let h = told dueSays _ (c .before .before .before .before .past-key2 .ensures) (c .before .before .i .given .1) in
-    rw (no-next (c .before .before .before .before .before .before), sym (h .same), upon) (c .step-number .ensures)
+    rw (no-next (c .before .before .before .before .before .before), sym (h .same), upon) (rw (number-is _ _ 15) at (c .step-numbers .ensures))
 
 returns-3 : tie.Need-returns-3
 unfolding stepLine
 returns-3 c =
     let h = told dueSays _ (c .before .before .before .before .past-key3 .ensures) (c .before .before .i2 .given .1) in
-    rw (no-next (c .before .before .before .before .before .before .before .before .before .before), no-fire (c .before .before .before .before .before .before), sym (h .same), upon) (c .step-number2 .ensures)
+    rw (no-next (c .before .before .before .before .before .before .before .before .before .before), no-fire (c .before .before .before .before .before .before), sym (h .same), upon) (rw (number-is _ _ 31) at (c .step-numbers2 .ensures))
 
 returns-4 : tie.Need-returns-4
 unfolding stepLine
 returns-4 c =
     let h = told dueSays _ (c .before .before .before .before .past-key4 .ensures) (c .before .before .i3 .given .1) in
-    rw (no-next (c .before .before .before .before .before .before .before .before .before .before .before .before .before .before), no-fire (c .before .before .before .before .before .before .before .before .before .before), no-end (c .before .before .before .before .before .before), sym (h .same), upon) (c .step-number3 .ensures)
+    rw (no-next (c .before .before .before .before .before .before .before .before .before .before .before .before .before .before), no-fire (c .before .before .before .before .before .before .before .before .before .before), no-end (c .before .before .before .before .before .before), sym (h .same), upon) (rw (number-is _ _ 15) at (c .step-numbers3 .ensures))
 
 returns-5 : tie.Need-returns-5
 unfolding stepLine
 returns-5 c =
     let h = told dueSays _ (c .before .before .before .before .past-key5 .ensures) (c .before .before .i4 .given .1) in
-    rw (no-next (c .before .before .before .before .before .before .before .before .before .before .before .before .before .before .before .before .before .before), no-fire (c .before .before .before .before .before .before .before .before .before .before .before .before .before .before), no-end (c .before .before .before .before .before .before .before .before .before .before), no-enter (c .before .before .before .before .before .before), sym (h .same), upon) (c .step-id .ensures)
+    rw (no-next (c .before .before .before .before .before .before .before .before .before .before .before .before .before .before .before .before .before .before), no-fire (c .before .before .before .before .before .before .before .before .before .before .before .before .before .before), no-end (c .before .before .before .before .before .before .before .before .before .before), no-enter (c .before .before .before .before .before .before), sym (h .same), upon) (rw id-is at (c .step-numbers4 .ensures))
 
 returns-6 : tie.Need-returns-6
 unfolding stepLine

@@ -1,6 +1,5 @@
 use borrow.Author.Needs.{needs}
 use mathlib.Core.Path.{sym, _∙_}
-use borrow.Author.Tests.{lt-leb, le-leb}
 use Rattle.texts.specs.Says.{listsSays}
 use Rattle.texts.proofs.Laws.{told}
 use Rattle.reading.specs.Kinds.{group}
@@ -15,35 +14,25 @@ unfolding portAfter group
 returns c = form-fault _ _ (form-fault _ _ (told listsSays _ (c .before .before .two-lists .ensures) (c .enum-told .given .1)))
 
 returns-2 : tie.Need-returns-2
-unfolding portAfter group
+unfolding portAfter
 returns-2 c =
-    let h = told listsSays _ (c .before .before .before .before .before .two-lists .ensures) (c .before .before .before .places .given .1) in
-    form-fault _ _ (limit-fault _ _ h (rw (lt-leb _ _ (c .if1 .taken))))
+    let h = told listsSays _ (c .before .before .before .before .before .before .before .before .two-lists .ensures) (c .before .before .before .before .before .before .places .given .1) in
+    limit-fault _ _ (group-kept _ _ _ _ h (c .before .before .if1 .taken)) (rw (sym (c .before .overlaps .ensures) ∙ c .if2 .taken))
 
 returns-3 : tie.Need-returns-3
-unfolding portAfter group
+unfolding portAfter
 returns-3 c =
-    let h = told listsSays _ (c .before .before .before .before .before .before .before .two-lists .ensures) (c .before .before .before .before .before .places .given .1) in
-    let a = le-leb _ _ (c .before .before .if1 .left) in
-    let b = lt-leb _ _ (c .if2 .taken) in
-    form-fault _ _ (limit-fault _ _ h (rw (a, b)))
+    let h = told listsSays _ (c .before .before .before .before .before .before .before .before .two-lists .ensures) (c .before .before .before .before .before .before .places .given .1) in
+    limit-kept _ _ (group-kept _ _ _ _ h (c .before .before .if1 .taken)) (rw (sym (c .before .overlaps .ensures) ∙ c .if2 .left))
 
 returns-4 : tie.Need-returns-4
-unfolding portAfter
+unfolding portAfter group
 returns-4 c =
-    let h = told listsSays _ (c .before .before .before .before .before .before .before .before .before .two-lists .ensures) (c .before .before .before .before .before .before .before .places .given .1) in
-    let a = le-leb _ _ (c .before .before .before .before .if1 .left) in
-    let b = le-leb _ _ (c .before .before .if2 .left) in
-    limit-fault _ _ (group-kept _ _ _ _ h a b) (rw (sym (c .before .overlaps .ensures) ∙ c .if3 .taken))
-
-returns-5 : tie.Need-returns-5
-unfolding portAfter
-returns-5 c =
-    let h = told listsSays _ (c .before .before .before .before .before .before .before .before .before .two-lists .ensures) (c .before .before .before .before .before .before .before .places .given .1) in
-    let a = le-leb _ _ (c .before .before .before .before .if1 .left) in
-    let b = le-leb _ _ (c .before .before .if2 .left) in
-    limit-kept _ _ (group-kept _ _ _ _ h a b) (rw (sym (c .before .overlaps .ensures) ∙ c .if3 .left))
+    let h = told listsSays _ (c .before .before .before .before .before .before .two-lists .ensures) (c .before .before .before .before .places .given .1) in
+    form-fault _ _ (limit-fault _ _ h (rw (c .if1 .left)))
 
 pub port-after-spec : {M : Type 1} → statement M
 port-after-spec =
-    tie.close (tie.spec (λ c κs. search needs) (λ c. search needs) (λ c. search needs) returns returns-2 returns-3 (λ c κs. search needs) returns-4 returns-5)
+    tie.close
+    (tie.spec
+    (λ c κs. search needs) (λ c. search needs) (λ c. search needs) returns (λ c κs. search needs) returns-2 returns-3 returns-4)
