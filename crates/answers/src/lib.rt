@@ -109,25 +109,14 @@ fn then_steps(text: &[u8], count: NumberRead, answer: &mut AnswerWords) -> Lines
     ensures { λ r. ⌜ After (now (text .entry)) (count .read) (each stepAt (count .number) 0 (answerIn (now (answer .entry)))) r
         (answerIn (now (answer .exit))) ⌝ }
 {
-    let read = count.read;
-    let went = read.went;
-    let Went::On = went else {
-        return read;
-    };
     let most = count.number;
-    let mut at = texts::place_in(text, read.at);
+    let mut read = runs::then_here(text, count.read);
     let mut i: u32 = 0;
-    while i < most {
-        let read = read_step(text, at, i, answer);
-        let went = read.went;
-        let Went::On = went else {
-            return read;
-        };
-        at = read.at;
+    while (i < most) & runs::goes_on(read) {
+        read = read_step(text, read.at, i, answer);
         i = i + 1;
     }
-    let went = Went::On;
-    LinesRead { went, at }
+    read
 }
 
 // The lines of an answer, up to the text's end, into words that say none.

@@ -1,11 +1,12 @@
 -- Lines after what was read so far, and a line of one number or one list.
 use Prim.Native.Nat.{ℕ, _≤_}
 use mathlib.Core.List.{List}
-use mathlib.Core.Bool.{true, false}
+use mathlib.Core.Bool.{Bool, true, false}
 use mathlib.Core.Path.{_≡_}
 use lib.ListN.{length, drop}
 use Rattle.reading.specs.Limits.{lengthOk}
 use Rattle.reading.specs.Lines.{Run, Lines, on, stop, runOn}
+use Rattle.lines.specs.declared.Went.{Went}
 use Rattle.lines.specs.declared.Went.the-variants.{On, Stop}
 use Rattle.lines.specs.declared.Line.{Line}
 use Rattle.lines.specs.declared.Line.the-variants as line
@@ -18,6 +19,14 @@ use Rattle.runs.specs.declared.NumberRead.{NumberRead}
 pub record After {A : Type 0} (s : List ℕ) (a : LinesRead) (f : Lines A) (r : LinesRead) (b : A) : Type 0 where
   pub went : a .went ≡ On → RunsTo s (r .went) (r .at) b (f (drop (a .at) s))
   pub stopped : (k : ℕ) → a .went ≡ Stop k → r ≡ a
+
+-- no line
+abbrev pub here : Lines (Unit {0})
+here s = on tt s
+
+abbrev pub goesOn : Went → Bool
+goesOn On = true
+goesOn (Stop k) = false
 
 -- a number that was read is no greater than n, and it is 0 where the reading stopped
 pub record Held (n : ℕ) (r : NumberRead) : Type 0 where

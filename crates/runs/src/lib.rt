@@ -15,7 +15,7 @@ ghost use Rattle.reading.specs.Kinds.{dueLine, countLine};
 ghost use Rattle.reading.specs.Lines.{line, atEnd};
 ghost use Rattle.lines.specs.Counts.{limitOk, greatest};
 ghost use Rattle.lines.specs.Runs.{RunsTo, refusalOf};
-ghost use Rattle.runs.specs.Chain.{After, Held, short, numberRun};
+ghost use Rattle.runs.specs.Chain.{After, Held, goesOn, here, short, numberRun};
 
 // Whether a run of lines went on, and the place of the next line or of the line at fault.
 pub struct LinesRead {
@@ -85,7 +85,30 @@ pub fn number_run(text: &[u8], start: usize, line: Line) -> NumberRead
     NumberRead { read, number }
 }
 
-// After what was read so far: the line of a key and the number due.
+// Whether the lines so far were read.
+pub fn goes_on(read: LinesRead) -> bool
+    ensures { λ r. ⌜ r ≡ goesOn (read .went) ⌝ }
+{
+    let went = read.went;
+    match went {
+        Went::On => true,
+        Went::Stop(_) => false,
+    }
+}
+
+// After what was read so far: no line, at a place within the text.
+pub fn then_here(text: &[u8], read: LinesRead) -> LinesRead
+    ensures { λ r. ⌜ After (now (text .entry)) read here r tt ⌝ }
+{
+    let went = read.went;
+    let Went::On = went else {
+        return read;
+    };
+    let at = texts::place_in(text, read.at);
+    LinesRead { went, at }
+}
+
+// The line of a key and the number due.
 pub fn then_due(text: &[u8], read: LinesRead, key: &[u8], number: u32) -> LinesRead
     ensures { λ r. ⌜ After (now (text .entry)) read (line (dueLine (now (key .entry)) number)) r tt ⌝ }
 {

@@ -136,25 +136,14 @@ fn then_type_forms(text: &[u8], count: NumberRead, tables: &mut TableWords) -> L
     ensures { λ r. ⌜ After (now (text .entry)) (count .read) (each typeForm (count .number) 0 (tablesIn (now (tables .entry)))) r
         (tablesIn (now (tables .exit))) ⌝ }
 {
-    let read = count.read;
-    let went = read.went;
-    let Went::On = went else {
-        return read;
-    };
     let most = count.number;
-    let mut at = texts::place_in(text, read.at);
+    let mut read = runs::then_here(text, count.read);
     let mut i: u32 = 0;
-    while i < most {
-        let read = read_type_form(text, at, i, tables);
-        let went = read.went;
-        let Went::On = went else {
-            return read;
-        };
-        at = read.at;
+    while (i < most) & runs::goes_on(read) {
+        read = read_type_form(text, read.at, i, tables);
         i = i + 1;
     }
-    let went = Went::On;
-    LinesRead { went, at }
+    read
 }
 
 // The rows of a form, up to the text's end.

@@ -45,23 +45,12 @@ pub(crate) fn then_instructions(
     ensures { λ r. ⌜ After (now (text .entry)) (count .read) (each (instructionAt types) (count .number) 0 (programIn (now (program .entry)))) r
         (programIn (now (program .exit))) ⌝ }
 {
-    let read = count.read;
-    let went = read.went;
-    let Went::On = went else {
-        return read;
-    };
     let most = count.number;
-    let mut at = texts::place_in(text, read.at);
+    let mut read = runs::then_here(text, count.read);
     let mut i: u32 = 0;
-    while i < most {
-        let read = read_instruction(text, at, types, i, program);
-        let went = read.went;
-        let Went::On = went else {
-            return read;
-        };
-        at = read.at;
+    while (i < most) & runs::goes_on(read) {
+        read = read_instruction(text, read.at, types, i, program);
         i = i + 1;
     }
-    let went = Went::On;
-    LinesRead { went, at }
+    read
 }

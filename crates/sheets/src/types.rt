@@ -89,27 +89,15 @@ pub(crate) fn then_rows(
     ensures { λ r. ⌜ After (now (text .entry)) (count .read)
         (each (row rows known) (count .number) (kind * perType rows) (tablesIn (now (tables .entry)))) r (tablesIn (now (tables .exit))) ⌝ }
 {
-    let read = count.read;
-    let went = read.went;
-    let Went::On = went else {
-        return read;
-    };
     let most = count.number;
     let first = kind * per_type(rows);
-    let mut at = texts::place_in(text, read.at);
+    let mut read = runs::then_here(text, count.read);
     let mut i: u32 = 0;
-    while i < most {
-        let slot = first + i;
-        let read = read_row(text, at, rows, slot, known, tables);
-        let went = read.went;
-        let Went::On = went else {
-            return read;
-        };
-        at = read.at;
+    while (i < most) & runs::goes_on(read) {
+        read = read_row(text, read.at, rows, first + i, known, tables);
         i = i + 1;
     }
-    let went = Went::On;
-    LinesRead { went, at }
+    read
 }
 
 // The `initial=` line at a place of the text: the part from there on, and the next line's place.
@@ -177,23 +165,12 @@ pub(crate) fn then_types(text: &[u8], count: NumberRead, tables: &mut TableWords
     ensures { λ r. ⌜ After (now (text .entry)) (count .read) (each typeLines (count .number) 0 (tablesIn (now (tables .entry)))) r
         (tablesIn (now (tables .exit))) ⌝ }
 {
-    let read = count.read;
-    let went = read.went;
-    let Went::On = went else {
-        return read;
-    };
     let most = count.number;
-    let mut at = texts::place_in(text, read.at);
+    let mut read = runs::then_here(text, count.read);
     let mut i: u32 = 0;
-    while i < most {
-        let read = read_type(text, at, i, tables);
-        let went = read.went;
-        let Went::On = went else {
-            return read;
-        };
-        at = read.at;
+    while (i < most) & runs::goes_on(read) {
+        read = read_type(text, read.at, i, tables);
         i = i + 1;
     }
-    let went = Went::On;
-    LinesRead { went, at }
+    read
 }
