@@ -1,2 +1,3 @@
--- That no other outcome fits (Once).
+-- What follows each verb (Steps), and that no other answer fits the promises (Once).
+pub mod Steps
 pub mod Once

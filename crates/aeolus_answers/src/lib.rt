@@ -5,30 +5,26 @@ use aeolus_model::Plan;
 use aeolus_model::Step;
 use forms::BAD_CLAUSE;
 use forms::BAD_FORM;
-use forms::BEYOND_LIMIT;
-use forms::TOO_LONG;
-use lines::LONGEST;
-use lines::Line;
 use lines::Went;
 use runs::LinesRead;
+use runs::NumberRead;
 use runs::Place;
 use texts::Digits;
 use texts::Due;
-use texts::Number;
-use texts::ThreeNumbers;
-use texts::TwoNumbers;
+use texts::numbers::Limits;
+use texts::numbers::Numbers;
 ghost use mathlib.Core.Path.{_≡_};
 ghost use lib.ListN.{drop};
 ghost use Rattle.texts.specs.Reads.{Reads, refusal};
 ghost use Rattle.reading.specs.Lines.{each};
-ghost use Rattle.lines.specs.Runs.{refusalOf, RunsTo};
-ghost use Rattle.runs.specs.Fills.{Fills};
-ghost use Rattle.runs.specs.Whole.{whole, beside};
+ghost use Rattle.lines.specs.Runs.{RunsTo};
+ghost use Rattle.runs.specs.Chain.{After, shortly};
+ghost use Rattle.runs.specs.Whole.{whole, beside, kept};
 ghost use Rattle.aeolus_model.specs.Action.{noPlan};
 ghost use Rattle.aeolus_model.specs.Words.{planIn};
-ghost use Rattle.aeolus_reading.specs.Kinds.{newStep, delStep, changeStep, endsStep, stepLine};
-ghost use Rattle.aeolus_reading.specs.Texts.{stepAt, stepsAt, plan};
-ghost use Rattle.aeolus_answers.specs.Says.{stepSays};
+ghost use Rattle.aeolus_reading.specs.Kinds.{stepLine};
+ghost use Rattle.aeolus_reading.specs.Texts.{stepAt, plan};
+ghost use Rattle.aeolus_answers.specs.Says.{stepSays, stepNumbers};
 
 // The codes of the verbs, as in aeolus_model::Step.
 const NEW: u32 = 0;
@@ -47,100 +43,26 @@ pub enum StepLine {
     Refused(u8),
 }
 
-// What follows `step=new,`, in a sheet of so many types.
-fn new_step(s: &[u8], at: usize, types: u32) -> StepLine
-    ensures { λ r. ⌜ Reads (now (s .entry)) (stepSays r) (newStep types (drop at (now (s .entry)))) ⌝ }
+// What follows a verb: so many numbers; a binding's two ends differ.
+fn step_numbers(s: &[u8], at: usize, verb: u32, limits: Limits) -> StepLine
+    ensures { λ r. ⌜ Reads (now (s .entry)) (stepSays r) (stepNumbers verb limits (drop at (now (s .entry)))) ⌝ }
 {
-    let TwoNumbers::Got(first, second, used) = texts::two_numbers(s, at, Digits::Five) else {
-        return StepLine::Refused(BAD_FORM);
-    };
-    if 31 < first {
-        return StepLine::Refused(BEYOND_LIMIT);
+    let line = texts::numbers::numbers_within(s, at, Digits::Five, limits);
+    match line {
+        Numbers::Got(n, used) => {
+            if (BIND <= verb) & (n.second == n.third) {
+                return StepLine::Refused(BAD_CLAUSE);
+            }
+            let step = Step {
+                verb,
+                first: n.first,
+                second: n.second,
+                third: n.third,
+            };
+            StepLine::Got(step, used)
+        }
+        Numbers::Refused(k) => StepLine::Refused(k),
     }
-    if types <= second {
-        return StepLine::Refused(BEYOND_LIMIT);
-    }
-    let step = Step {
-        verb: NEW,
-        first,
-        second,
-        third: 0,
-    };
-    StepLine::Got(step, used)
-}
-
-// What follows `step=del,`.
-fn del_step(s: &[u8], at: usize) -> StepLine
-    ensures { λ r. ⌜ Reads (now (s .entry)) (stepSays r) (delStep (drop at (now (s .entry)))) ⌝ }
-{
-    let Number::Got(first, used) = texts::one_number(s, at, Digits::Five) else {
-        return StepLine::Refused(BAD_FORM);
-    };
-    if 31 < first {
-        return StepLine::Refused(BEYOND_LIMIT);
-    }
-    let step = Step {
-        verb: DEL,
-        first,
-        second: 0,
-        third: 0,
-    };
-    StepLine::Got(step, used)
-}
-
-// What follows `step=change,`.
-fn change_step(s: &[u8], at: usize) -> StepLine
-    ensures { λ r. ⌜ Reads (now (s .entry)) (stepSays r) (changeStep (drop at (now (s .entry)))) ⌝ }
-{
-    let ThreeNumbers::Got(first, second, third, used) = texts::three_numbers(s, at, Digits::Five)
-    else {
-        return StepLine::Refused(BAD_FORM);
-    };
-    if 31 < first {
-        return StepLine::Refused(BEYOND_LIMIT);
-    }
-    if 15 < second {
-        return StepLine::Refused(BEYOND_LIMIT);
-    }
-    if 15 < third {
-        return StepLine::Refused(BEYOND_LIMIT);
-    }
-    let step = Step {
-        verb: CHANGE,
-        first,
-        second,
-        third,
-    };
-    StepLine::Got(step, used)
-}
-
-// What follows `step=bind,` and `step=unbind,`: an interface and its two ends, which differ.
-fn ends_step(s: &[u8], at: usize, verb: u32) -> StepLine
-    ensures { λ r. ⌜ Reads (now (s .entry)) (stepSays r) (endsStep verb (drop at (now (s .entry)))) ⌝ }
-{
-    let ThreeNumbers::Got(first, second, third, used) = texts::three_numbers(s, at, Digits::Five)
-    else {
-        return StepLine::Refused(BAD_FORM);
-    };
-    if 255 < first {
-        return StepLine::Refused(BEYOND_LIMIT);
-    }
-    if 31 < second {
-        return StepLine::Refused(BEYOND_LIMIT);
-    }
-    if 31 < third {
-        return StepLine::Refused(BEYOND_LIMIT);
-    }
-    if second == third {
-        return StepLine::Refused(BAD_CLAUSE);
-    }
-    let step = Step {
-        verb,
-        first,
-        second,
-        third,
-    };
-    StepLine::Got(step, used)
 }
 
 // `step=`, in a sheet of so many types.
@@ -148,19 +70,19 @@ pub fn step_line(s: &[u8], types: u32) -> StepLine
     ensures { λ r. ⌜ Reads (now (s .entry)) (stepSays r) (stepLine types (now (s .entry))) ⌝ }
 {
     if let Due::Past(i) = texts::past_key(s, 0, b"step=new,") {
-        return new_step(s, i, types);
+        return step_numbers(s, i, NEW, Limits::Two(32, types));
     }
     if let Due::Past(i) = texts::past_key(s, 0, b"step=del,") {
-        return del_step(s, i);
+        return step_numbers(s, i, DEL, Limits::One(32));
     }
     if let Due::Past(i) = texts::past_key(s, 0, b"step=change,") {
-        return change_step(s, i);
+        return step_numbers(s, i, CHANGE, Limits::Three(32, 16, 16));
     }
     if let Due::Past(i) = texts::past_key(s, 0, b"step=bind,") {
-        return ends_step(s, i, BIND);
+        return step_numbers(s, i, BIND, Limits::Three(256, 32, 32));
     }
     if let Due::Past(i) = texts::past_key(s, 0, b"step=unbind,") {
-        return ends_step(s, i, UNBIND);
+        return step_numbers(s, i, UNBIND, Limits::Three(256, 32, 32));
     }
     StepLine::Refused(BAD_FORM)
 }
@@ -175,107 +97,71 @@ pub fn step_refusal(line: StepLine) -> u8
     }
 }
 
-// Step n of a plan, from the part of the text that starts with its line.
-fn read_step(text: &[u8], start: usize, types: u32, n: usize, words: &mut Plan) -> LinesRead
-    ensures { λ r. ⌜ Fills planIn (stepAt types n) (now (text .entry)) start r (now (words .entry)) (now (words .exit)) ⌝ }
+// The step of the next line, as step n of the plan.
+fn then_step(text: &[u8], read: LinesRead, types: u32, n: u32, words: &mut Plan) -> LinesRead
+    ensures { λ r. ⌜ After (now (text .entry)) read (stepAt types n (planIn (now (words .entry)))) r (planIn (now (words .exit))) ⌝ }
 {
-    let at = texts::place_in(text, start);
+    let went = read.went;
+    let Went::On = went else {
+        return read;
+    };
+    let at = texts::place_in(text, read.at);
     let line = step_line(&text[at..], types);
     let StepLine::Got(step, used) = line else {
         let refused = step_refusal(line);
         let went = Went::Stop(refused);
         return LinesRead { went, at };
     };
-    aeolus_model::put_step(words, n, step);
+    aeolus_model::put_step(words, n as usize, step);
     let next = at + used;
     let went = Went::On;
     LinesRead { went, at: next }
 }
 
-// So many steps, from the place start on.
-fn read_steps(text: &[u8], start: usize, count: u32, types: u32, words: &mut Plan) -> LinesRead
-    ensures { λ r. ⌜ Fills planIn (each (stepAt types) count 0) (now (text .entry)) start r (now (words .entry)) (now (words .exit)) ⌝ }
+// As many steps as the last line said.
+fn then_steps(text: &[u8], count: NumberRead, types: u32, words: &mut Plan) -> LinesRead
+    ensures { λ r. ⌜ After (now (text .entry)) (count .read) (each (stepAt types) (count .number) 0 (planIn (now (words .entry)))) r
+        (planIn (now (words .exit))) ⌝ }
 {
-    let mut at = texts::place_in(text, start);
-    let most = count as usize;
-    let mut i: usize = 0;
+    let most = count.number;
+    let mut read = runs::then_here(text, count.read);
+    let mut i: u32 = 0;
     while i < most {
-        let read = read_step(text, at, types, i, words);
-        let went = read.went;
-        let Went::On = went else {
-            return read;
-        };
-        at = read.at;
+        read = then_step(text, read, types, i, words);
         i = i + 1;
     }
-    let went = Went::On;
-    LinesRead { went, at }
-}
-
-// How many steps there are.
-fn read_count(text: &[u8], start: usize, words: &mut Plan) -> LinesRead
-    ensures { λ r. ⌜ Fills planIn stepsAt (now (text .entry)) start r (now (words .entry)) (now (words .exit)) ⌝ }
-{
-    let line = lines::within_at(text, start, b"steps=", Digits::Five, 0, 1024);
-    let Line::Got(n, at) = line else {
-        let refused = lines::line_refusal(line);
-        let at = texts::place_in(text, start);
-        let went = Went::Stop(refused);
-        return LinesRead { went, at };
-    };
-    aeolus_model::put_steps(words, n);
-    let went = Went::On;
-    LinesRead { went, at }
+    read
 }
 
 // The lines of a plan, up to the text's end.
 fn read_plan(text: &[u8], types: u32, words: &mut Plan) -> LinesRead
-    ensures { λ r. ⌜ RunsTo (now (text .entry)) (r .went) (r .at) (planIn (now (words .exit))) (plan types (now (text .entry))) ⌝ }
+    ensures { λ r. ⌜ RunsTo (now (text .entry)) (r .went) (r .at) (planIn (now (words .exit))) (shortly (plan types) (now (text .entry))) ⌝ }
 {
     aeolus_model::clear_plan(words);
-    let first = runs::due_run(text, 0, b"plan=", 1);
-    let went = first.went;
-    let Went::On = went else {
-        return first;
-    };
-    let head = read_count(text, first.at, words);
-    let went = head.went;
-    let Went::On = went else {
-        return head;
-    };
-    let count = aeolus_model::steps(words);
-    let read = read_steps(text, head.at, count, types, words);
-    let went = read.went;
-    let Went::On = went else {
-        return read;
-    };
-    runs::end_run(text, read.at)
+    let length = runs::length_run(text);
+    let first = runs::then_due(text, length, b"plan=", 1);
+    let count = runs::then_within(text, first, b"steps=", 0, 1024);
+    aeolus_model::put_steps(words, count.number);
+    let steps = then_steps(text, count, types, words);
+    runs::then_end(text, steps)
 }
 
 // Beside a refusal nothing of what was read is handed out.
-fn refused_plan(went: Went, place: usize, words: &mut Plan) -> Place
-    ensures { λ r. ⌜ beside r (planIn (now (words .exit))) ≡ record { refused = refusalOf went; place = place; value = noPlan } ⌝ }
+fn keep_plan(went: Went, words: &mut Plan)
+    ensures { λ r. ⌜ planIn (now (words .exit)) ≡ kept noPlan went (planIn (now (words .entry))) ⌝ }
 {
-    aeolus_model::clear_plan(words);
-    let refused = lines::refusal(went);
-    Place { refused, place }
+    let Went::On = went else {
+        aeolus_model::clear_plan(words);
+        return;
+    };
 }
 
 // The plan of a text of any length, in a sheet of so many types, whatever the lent words held before; beside a refusal they are all 0.
 pub fn fill_plan(text: &[u8], types: u32, words: &mut Plan) -> Place
     ensures { λ r. ⌜ beside r (planIn (now (words .exit))) ≡ whole noPlan (plan types) (now (text .entry)) ⌝ }
 {
-    if LONGEST < text.len() {
-        let long = Went::Stop(TOO_LONG);
-        return refused_plan(long, 0, words);
-    }
     let read = read_plan(text, types, words);
     let went = read.went;
-    let Went::On = went else {
-        return refused_plan(went, read.at, words);
-    };
-    Place {
-        refused: 0,
-        place: read.at,
-    }
+    keep_plan(went, words);
+    runs::came_to(read)
 }

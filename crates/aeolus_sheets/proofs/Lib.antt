@@ -1,2 +1,3 @@
--- That no other outcome fits (Once).
+-- A line by its key and its numbers (Keys), and that no other outcome fits (Once).
+pub mod Keys
 pub mod Once

@@ -1,4 +1,3 @@
--- What each case of a line's enum says (Says), the lines of one number by their names (Counts), and that no other outcome fits (Once).
-pub mod Says
-pub mod Counts
+-- The kinds of line that are held to what was read so far (Kinds), and that no other outcome fits (Once).
+pub mod Kinds
 pub mod Once

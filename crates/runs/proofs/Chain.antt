@@ -11,19 +11,19 @@ use Rattle.forms.specs.Reader.{Reader}
 use Rattle.forms.proofs.Tests.{by-test}
 use Rattle.texts.specs.Reads.{Reads}
 use Rattle.reading.specs.Limits.{lengthOk}
-use Rattle.reading.specs.Lines.{Run, Lines, on, stop, runOn, handOn, line}
+use Rattle.reading.specs.Lines.{Run, Lines, on, stop, runOn, handOn, _>>=_, _>>_, line, each, atEnd}
 use Rattle.lines.specs.declared.Went.{Went}
 use Rattle.lines.specs.declared.Went.the-variants.{On, Stop}
 use Rattle.lines.specs.declared.Line.{Line}
 use Rattle.lines.specs.declared.Line.the-variants as line
-use Rattle.lines.specs.Counts.{lineSays, Lies}
+use Rattle.lines.specs.Counts.{lineSays, Lies, CountsIn}
 use Rattle.lines.specs.Runs.{refusalOf, RunsTo}
 use Rattle.lines.proofs.Lines.{same-rest}
 use Rattle.lines.proofs.Runs.{stopped, went-on, run-refused, run-then, run-seen, place-is}
 use Rattle.runs.specs.declared.LinesRead.{LinesRead}
 use Rattle.runs.specs.declared.NumberRead.{NumberRead}
-use Rattle.runs.specs.Whole.{outcome, whole}
-use Rattle.runs.specs.Chain.{After, Held, short, shortly, numberRun}
+use Rattle.runs.specs.Whole.{outcome, whole, kept}
+use Rattle.runs.specs.Chain.{After, Held, short, shortly, numberRun, numberAfter}
 
 -- a reading either went on or stopped
 pub not-both : {k : ℕ} → On ≡ Stop k → ⊥
@@ -75,6 +75,21 @@ pub number-held : (a b : ℕ) (s : List ℕ) (start : ℕ) (x : Line) {r : Numbe
 number-held a b s start (line.Got n to) l e = rw e (record { few = l .1; none = λ k g. absurd (not-both g) })
 number-held a b s start (line.Refused k) l e = rw e (record { few = zero-le; none = λ j g. refl })
 
+-- the same after what was read so far
+module _ (s : List ℕ) (a : LinesRead) (x : Line) {r : NumberRead} (e : r ≡ numberAfter (a .went) a (numberRun (min (a .at) (length s)) x)) where
+  by-went : (P : NumberRead → Type 0) → (a .went ≡ On → P (numberRun (min (a .at) (length s)) x)) → ((k : ℕ) → a .went ≡ Stop k → P (record { read = a; number = 0 })) → P r
+  by-went P f g = by (one-of (a .went))
+    where
+      by : (a .went ≡ On) ⊎ ((k : ℕ) × (a .went ≡ Stop k)) → P r
+      by (inl w) = rw (e ∙ ap (λ (v : Went). numberAfter v a (numberRun (min (a .at) (length s)) x)) w) (f w)
+      by (inr (k, w)) = rw (e ∙ ap (λ (v : Went). numberAfter v a (numberRun (min (a .at) (length s)) x)) w) (g k w)
+
+  pub number-follows : (m : Reader ℕ) {l g : ℕ} → CountsIn s l g x (m (drop (a .at) s)) → After s a (line m) (r .read) (r .number) × Held g r
+  number-follows m {l} {g} h =
+      by-went (λ (y : NumberRead). After s a (line m) (y .read) (y .number) × Held g y)
+      (λ w. (after-went w (number-read m s (a .at) x (h .reads) refl), number-held l g s (a .at) x (h .limited) refl))
+      (λ k w. (after-stopped w, record { few = zero-le; none = λ j _. refl }))
+
 -- ---- a whole text
 module _ (s : List ℕ) where
   pub short-long : 32768 < length s → RunsTo s (Stop 1) 0 tt (short s)
@@ -99,6 +114,17 @@ module _ {A : Type 0} (none : A) (m : Lines A) (s : List ℕ) where
 
     pub came-read : w ≡ On → record { refused = refusalOf w; place = at; value = a } ≡ whole none m s
     came-read e = let g = rw e at h in rw (e, whole-shortly, sym (g .same), place-is s at (g .within))
+
+  pub came-kept : (w : Went) {at : ℕ} {a : A} → RunsTo s w at a (shortly m s) → record { refused = refusalOf w; place = at; value = kept none w a } ≡ whole none m s
+  came-kept On h = came-read h refl
+  came-kept (Stop k) h = came-refused h refl
+
+-- a text of its first line, a count that is put, as many as it says, and the end
+module _ {A : Type 0} (first : Lines (Unit {0})) (count : Lines ℕ) (put : ℕ → A) (f : ℕ → A → Lines A) (size : A → ℕ) {s : List ℕ} {l d r e : LinesRead} {n : NumberRead} {a : A} where
+  pub counted-text : RunsTo s (l .went) (l .at) tt (short s) → After s l first d tt → After s d count (n .read) (n .number)
+      → After s (n .read) (each f (size (put (n .number))) 0 (put (n .number))) r a → After s r atEnd e tt → RunsTo s (e .went) (e .at) a (shortly (do first; p ← (do x ← count; handOn (put x)); q ← each f (size p) 0 p; atEnd; handOn q) s)
+  unfolding shortly
+  counted-text h i g x z = run-after _ _ h (after-then _ _ i (after-then _ _ (after-give _ put g) (after-then _ _ x (after-give _ _ z))))
 
 -- beside a refusal nothing is handed out
 module _ {A : Type 0} (none : A) (m : Lines A) (s : List ℕ) where

@@ -38,6 +38,10 @@ run-whole : {A : Type 0} (x : Run A) → runOn x (λ b. handOn b) ≡ x
 run-whole (on a s) = refl
 run-whole (stop n s) = refl
 
+each-last : {A : Type 0} (f : ℕ → A → Lines A) (i base : ℕ) (a : A) (t : List ℕ) → runOn (each f i base a t) (f (base + i)) ≡ each f (i + 1) base a t
+unfolding each
+each-last f i base a t = next-same (each f i base a t) _ _ (λ b r. sym (run-whole (f (base + i) b r))) ∙ each-split f 1 i base a t
+
 -- the test of the loop
 on-of : (w : Went) → goesOn w ≡ true → w ≡ On
 on-of On e = refl
@@ -84,15 +88,22 @@ module _ {A : Type 0} (f : ℕ → A → Lines A) (n base : ℕ) (old : A) (s : 
 
 module _ {A : Type 0} (f : ℕ → A → Lines A) (n base : ℕ) (old : A) (s : List ℕ) {b : LinesRead} {i : ℕ} {r : LinesRead} {v : A} (h : Many f n base old s b i r v)
     (c : Bool) (p : c ≡ goesOn (r .went)) where
-  last : (t : List ℕ) → runOn (each f i base old t) (f (base + i)) ≡ each f (i + 1) base old t
-  unfolding each
-  last t = next-same (each f i base old t) _ _ (λ b r. sym (run-whole (f (base + i) b r))) ∙ each-split f 1 i base old t
-
   pub many-more : (j : ℕ) {q : LinesRead} {w : A} → ltb i n && c ≡ true → j ≡ base + i → RunsTo s (q .went) (q .at) w (f j v (drop (r .at) s)) → Many f n base old s b (i + 1) q w
   many-more j {q} {w} t e x =
       let l = below i n c t in
       let g = on-of (r .went) (sym p ∙ and-right (ltb i n) c t) in
       record {
         few = omega arith;
-        after = subst (λ (m : Lines A). After s b m q w) (fun-ext last) (after-then (each f i base old) (f (base + i)) (h .after) (after-went g (rw e at x)));
+        after = subst (λ (m : Lines A). After s b m q w) (fun-ext (each-last f i base old)) (after-then (each f i base old) (f (base + i)) (h .after) (after-went g (rw e at x)));
       }
+
+-- the same by a loop of which each turn does nothing where the reading stopped
+module _ {A : Type 0} (f : ℕ → A → Lines A) (n base : ℕ) (old : A) (s : List ℕ) {b : LinesRead} {i : ℕ} {r : LinesRead} {v : A} (h : Many f n base old s b i r v) where
+  pub many-turn : i < n → (j : ℕ) → j ≡ base + i → {q : LinesRead} {w : A} → After s r (f j v) q w → Many f n base old s b (i + 1) q w
+  many-turn l j e {q} {w} x = record {
+    few = omega arith;
+    after = subst (λ (m : Lines A). After s b m q w) (fun-ext (each-last f i base old)) (after-then (each f i base old) (f (base + i)) (h .after) (rw e at x));
+  }
+
+  pub many-all : {a : LinesRead} → After s a here b tt → n ≤ i → After s a (each f n base old) r v
+  many-all o l = let z : i ≡ n = omega (arith, h .few) in after-then here (λ _. each f n base old) o (rw z at (h .after))

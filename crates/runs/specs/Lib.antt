@@ -1,4 +1,3 @@
--- What a reader into words promises (Fills), what reading a whole text answers (Whole), and lines after what was read so far (Chain).
-pub mod Fills
+-- What reading a whole text answers (Whole), and lines after what was read so far (Chain).
 pub mod Whole
 pub mod Chain

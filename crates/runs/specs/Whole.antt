@@ -5,6 +5,8 @@ use mathlib.Core.Bool.{true, false}
 use lib.ListN.{length}
 use Rattle.reading.specs.Limits.{lengthOk}
 use Rattle.reading.specs.Lines.{Run, Lines, on, stop}
+use Rattle.lines.specs.declared.Went.{Went}
+use Rattle.lines.specs.declared.Went.the-variants.{On, Stop}
 use Rattle.runs.specs.declared.Place.{Place}
 
 pub record Whole (A : Type 0) : Type 0 where
@@ -24,3 +26,8 @@ whole none m s = elim (lengthOk (length s)) [ true ↦ outcome none s (m s) | fa
 -- what r says beside a value
 abbrev pub beside : {A : Type 0} → Place → A → Whole A
 beside r a = record { refused = r .refused; place = r .place; value = a }
+
+-- the value a of a reading that went w: nothing of it beside a refusal
+abbrev pub kept : {A : Type 0} → A → Went → A → A
+kept none On a = a
+kept none (Stop k) a = none

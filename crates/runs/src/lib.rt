@@ -7,15 +7,16 @@ use lines::LONGEST;
 use lines::Limit;
 use lines::Line;
 use lines::Went;
+use texts::Digits;
 use texts::Due;
 ghost use mathlib.Core.Path.{_≡_};
 ghost use Prim.Native.Nat.{min};
 ghost use lib.ListN.{length, drop};
 ghost use Rattle.reading.specs.Kinds.{dueLine, countLine};
 ghost use Rattle.reading.specs.Lines.{line, atEnd};
-ghost use Rattle.lines.specs.Counts.{limitOk, greatest};
+ghost use Rattle.lines.specs.Counts.{limitOk, greatest, inRange};
 ghost use Rattle.lines.specs.Runs.{RunsTo, refusalOf};
-ghost use Rattle.runs.specs.Chain.{After, Held, goesOn, here, short, numberRun};
+ghost use Rattle.runs.specs.Chain.{After, Held, goesOn, here, short, numberRun, numberAfter};
 
 // Whether a run of lines went on, and the place of the next line or of the line at fault.
 pub struct LinesRead {
@@ -119,18 +120,39 @@ pub fn then_due(text: &[u8], read: LinesRead, key: &[u8], number: u32) -> LinesR
     due_run(text, read.at, key, number)
 }
 
-// The line of a key and a number within its limit.
-pub fn then_number(text: &[u8], read: LinesRead, key: &[u8], limit: Limit) -> NumberRead
-    ensures reads { λ r. ⌜ After (now (text .entry)) read (line (countLine (now (key .entry)) (limitOk limit))) (r .read) (r .number) ⌝ }
-    ensures held { λ r. ⌜ Held (greatest limit) r ⌝ }
+// What the line comes to that was read where the next line is due.
+pub fn number_after(text: &[u8], read: LinesRead, line: Line) -> NumberRead
+    ensures { λ r. ⌜ r ≡ numberAfter (read .went) read (numberRun (min (read .at) (length (now (text .entry)))) line) ⌝ }
 {
     let went = read.went;
     let Went::On = went else {
         return NumberRead { read, number: 0 };
     };
-    let at = read.at;
-    let line = lines::count_at(text, at, key, limit);
-    number_run(text, at, line)
+    number_run(text, read.at, line)
+}
+
+// The line of a key and a number within its limit.
+pub fn then_number(text: &[u8], read: LinesRead, key: &[u8], limit: Limit) -> NumberRead
+    ensures reads { λ r. ⌜ After (now (text .entry)) read (line (countLine (now (key .entry)) (limitOk limit))) (r .read) (r .number) ⌝ }
+    ensures held { λ r. ⌜ Held (greatest limit) r ⌝ }
+{
+    let line = lines::count_at(text, read.at, key, limit);
+    number_after(text, read, line)
+}
+
+// The line of a key and a number from the least to the greatest.
+pub fn then_within(
+    text: &[u8],
+    read: LinesRead,
+    key: &[u8],
+    least: u32,
+    greatest: u32,
+) -> NumberRead
+    ensures reads { λ r. ⌜ After (now (text .entry)) read (line (countLine (now (key .entry)) (inRange least greatest))) (r .read) (r .number) ⌝ }
+    ensures held { λ r. ⌜ Held greatest r ⌝ }
+{
+    let line = lines::within_at(text, read.at, key, Digits::Five, least, greatest);
+    number_after(text, read, line)
 }
 
 // The end of the text.

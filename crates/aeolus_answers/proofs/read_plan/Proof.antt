@@ -1,39 +1,14 @@
-use Rattle.lines.proofs.Runs.{run-refused, run-then}
-use Rattle.runs.proofs.Laws.{end-then}
-use Rattle.aeolus_reading.specs.Texts.{plan}
+use Rattle.runs.proofs.Chain.{counted-text}
+use Rattle.aeolus_model.specs.Action.{Plan, noPlan, withSteps}
+use Rattle.aeolus_reading.specs.Texts.{stepAt, stepsAt, plan}
 use borrow.Author.Needs.{needs}
 use Rattle.aeolus_answers.proofs.read_plan.Statement.{statement}
 use Rattle.aeolus_answers.proofs.read_plan.Tie as tie
 
-returns : tie.Need-returns
-unfolding plan
-returns c = run-refused _ _ (c .before .before .due-run .ensures) (c .enum-told2 .given .1)
-
-returns-2 : tie.Need-returns-2
-unfolding plan
-returns-2 c =
-    run-then _ _ (c .before .before .before .before .before .before .due-run .ensures) (c .before .before .before .before .enum-told .given .1)
-    (run-refused _ _ (rw (c .before .before .before .before .before .before .before .before .clear-plan .ensures) at (c .before .before .read-count .ensures)) (c .enum-told4 .given .1))
-
-returns-3 : tie.Need-returns-3
-unfolding plan
-returns-3 c =
-    run-then _ _ (c .before .before .before .before .before .before .before .before .before .before .before .before .due-run .ensures) (c .before .before .before .before .before .before .before .before .before .before .enum-told .given .1)
-    (run-then _ _ (rw (c .before .before .before .before .before .before .before .before .before .before .before .before .before .before .clear-plan .ensures) at (c .before .before .before .before .before .before .before .before .read-count .ensures)) (c .before .before .before .before .before .before .enum-told3 .given .1)
-    (run-refused _ _ (rw (c .before .before .before .before .steps .ensures) at (c .before .before .read-steps .ensures)) (c .enum-told6 .given .1)))
-
-returns-4 : tie.Need-returns-4
-unfolding plan
-returns-4 c =
-    run-then _ _ (c .before .before .before .before .before .before .before .before .before .before .before .before .before .due-run .ensures) (c .before .before .before .before .before .before .before .before .before .before .before .enum-told .given .1)
-    (run-then _ _ (rw (c .before .before .before .before .before .before .before .before .before .before .before .before .before .before .before .clear-plan .ensures) at (c .before .before .before .before .before .before .before .before .before .read-count .ensures)) (c .before .before .before .before .before .before .before .enum-told3 .given .1)
-    (run-then _ _ (rw (c .before .before .before .before .before .steps .ensures) at (c .before .before .before .read-steps .ensures)) (c .before .enum-told5 .given .1)
-    (end-then _ (c .end-run .ensures))))
-
 pub read-plan-spec : {M : Type 1} → statement M
+unfolding plan stepsAt withSteps
 read-plan-spec =
     tie.close
-    (tie.spec
-    (λ c κs. search needs) (λ c. search needs) (λ c κs. search needs) (λ c. search needs) (λ c. search needs) returns (λ c κs. search needs)
-    (λ c. search needs) (λ c. search needs) returns-2 (λ c κs. search needs) (λ c κs. search needs) (λ c. search needs) (λ c. search needs) returns-3
-    (λ c κs. search needs) returns-4)
+    (tie.spec (λ c κs. search needs) (λ c κs. search needs) (λ c. search needs) (λ c κs. search needs) (λ c. search needs) (λ c κs. search needs) (λ c κs. search needs) (λ c κs. search needs) (λ c κs. search needs)
+    (λ c. counted-text _ _ (withSteps noPlan) (stepAt (c .before .before .before .before .before .before .before .before .before .before .before .before .before .args .types)) (λ (p : Plan). p .count) (c .before .before .before .before .before .before .before .before .before .length-run .ensures) (c .before .before .before .before .before .before .before .then-due .ensures) (c .before .before .before .before .before .then-within .ensures .0)
+    (rw (c .before .before .before .put-steps .ensures, c .before .before .before .before .before .before .before .before .before .before .clear-plan .ensures) at (c .before .then-steps .ensures)) (c .then-end .ensures)))

@@ -4,6 +4,7 @@ use Rattle.texts.specs.Says.{dueSays}
 use Rattle.texts.proofs.Laws.{told}
 use Rattle.texts.proofs.Limits.{verb-here, verb-other}
 use Rattle.aeolus_reading.specs.Kinds.{stepLine}
+use Rattle.aeolus_answers.proofs.Steps.{new-numbers, del-numbers, change-numbers, ends-numbers}
 use borrow.Author.Needs.{needs}
 use Rattle.aeolus_answers.proofs.step_line.Statement.{statement}
 use Rattle.aeolus_answers.proofs.step_line.Tie as tie
@@ -11,20 +12,20 @@ use Rattle.aeolus_answers.proofs.step_line.Tie as tie
 returns : tie.Need-returns
 unfolding stepLine
 returns c =
-    verb-here _ _ _ (told dueSays _ (c .before .before .before .before .past-key .ensures) (c .before .before .i .given .1)) (c .new-step .ensures)
+    verb-here _ _ _ (told dueSays _ (c .before .before .before .before .past-key .ensures) (c .before .before .i .given .1)) (rw (new-numbers _ _) (c .step-numbers .ensures))
 
 returns-2 : tie.Need-returns-2
 unfolding stepLine
 returns-2 c =
     verb-other _ _ _ (told dueSays _ (c .before .before .before .before .before .before .before .before .past-key .ensures) (c .before .before .before .before .before .before .enum-told .given .1))
-    (verb-here _ _ _ (told dueSays _ (c .before .before .before .before .past-key2 .ensures) (c .before .before .i2 .given .1)) (c .del-step .ensures))
+    (verb-here _ _ _ (told dueSays _ (c .before .before .before .before .past-key2 .ensures) (c .before .before .i2 .given .1)) (rw (del-numbers _) (c .step-numbers2 .ensures)))
 
 returns-3 : tie.Need-returns-3
 unfolding stepLine
 returns-3 c =
     verb-other _ _ _ (told dueSays _ (c .before .before .before .before .before .before .before .before .before .before .before .before .past-key .ensures) (c .before .before .before .before .before .before .before .before .before .before .enum-told .given .1))
     (verb-other _ _ _ (told dueSays _ (c .before .before .before .before .before .before .before .before .past-key2 .ensures) (c .before .before .before .before .before .before .enum-told2 .given .1))
-    (verb-here _ _ _ (told dueSays _ (c .before .before .before .before .past-key3 .ensures) (c .before .before .i3 .given .1)) (c .change-step .ensures)))
+    (verb-here _ _ _ (told dueSays _ (c .before .before .before .before .past-key3 .ensures) (c .before .before .i3 .given .1)) (rw (change-numbers _) (c .step-numbers3 .ensures))))
 
 returns-4 : tie.Need-returns-4
 unfolding stepLine
@@ -32,7 +33,7 @@ returns-4 c =
     verb-other _ _ _ (told dueSays _ (c .before .before .before .before .before .before .before .before .before .before .before .before .before .before .before .before .past-key .ensures) (c .before .before .before .before .before .before .before .before .before .before .before .before .before .before .enum-told .given .1))
     (verb-other _ _ _ (told dueSays _ (c .before .before .before .before .before .before .before .before .before .before .before .before .past-key2 .ensures) (c .before .before .before .before .before .before .before .before .before .before .enum-told2 .given .1))
     (verb-other _ _ _ (told dueSays _ (c .before .before .before .before .before .before .before .before .past-key3 .ensures) (c .before .before .before .before .before .before .enum-told3 .given .1))
-    (verb-here _ _ _ (told dueSays _ (c .before .before .before .before .past-key4 .ensures) (c .before .before .i4 .given .1)) (c .ends-step .ensures))))
+    (verb-here _ _ _ (told dueSays _ (c .before .before .before .before .past-key4 .ensures) (c .before .before .i4 .given .1)) (rw (ends-numbers _ 3 refl) (c .step-numbers4 .ensures)))))
 
 returns-5 : tie.Need-returns-5
 unfolding stepLine
@@ -41,7 +42,7 @@ returns-5 c =
     (verb-other _ _ _ (told dueSays _ (c .before .before .before .before .before .before .before .before .before .before .before .before .before .before .before .before .past-key2 .ensures) (c .before .before .before .before .before .before .before .before .before .before .before .before .before .before .enum-told2 .given .1))
     (verb-other _ _ _ (told dueSays _ (c .before .before .before .before .before .before .before .before .before .before .before .before .past-key3 .ensures) (c .before .before .before .before .before .before .before .before .before .before .enum-told3 .given .1))
     (verb-other _ _ _ (told dueSays _ (c .before .before .before .before .before .before .before .before .past-key4 .ensures) (c .before .before .before .before .before .before .enum-told4 .given .1))
-    (verb-here _ _ _ (told dueSays _ (c .before .before .before .before .past-key5 .ensures) (c .before .before .i5 .given .1)) (c .ends-step2 .ensures)))))
+    (verb-here _ _ _ (told dueSays _ (c .before .before .before .before .past-key5 .ensures) (c .before .before .i5 .given .1)) (rw (ends-numbers _ 4 refl) (c .step-numbers5 .ensures))))))
 
 returns-6 : tie.Need-returns-6
 unfolding stepLine
