@@ -124,7 +124,7 @@ fn then_steps(text: &[u8], count: NumberRead, types: u32, words: &mut Plan) -> L
         (planIn (now (words .exit))) ⌝ }
 {
     let most = count.number;
-    let mut read = runs::then_here(text, count.read);
+    let mut read = runs::then_nothing(text, count.read);
     let mut i: u32 = 0;
     while i < most {
         read = then_step(text, read, types, i, words);

@@ -115,7 +115,7 @@ fn then_lines(
         (universeIn (now (universe .exit))) ⌝ }
 {
     let most = count.number;
-    let mut read = runs::then_here(text, count.read);
+    let mut read = runs::then_nothing(text, count.read);
     let mut i: u32 = 0;
     while i < most {
         read = then_line(text, read, kind, k, i, universe);
@@ -140,7 +140,7 @@ fn then_states(text: &[u8], count: NumberRead, k: u32, universe: &mut Universe) 
         (universeIn (now (universe .exit))) ⌝ }
 {
     let most = count.number;
-    let mut read = runs::then_here(text, count.read);
+    let mut read = runs::then_nothing(text, count.read);
     let mut q: u32 = 0;
     while q < most {
         read = then_state(text, read, k, q, universe);
@@ -174,7 +174,7 @@ pub(crate) fn then_types(text: &[u8], count: NumberRead, universe: &mut Universe
         (universeIn (now (universe .exit))) ⌝ }
 {
     let most = count.number;
-    let mut read = runs::then_here(text, count.read);
+    let mut read = runs::then_nothing(text, count.read);
     let mut k: u32 = 0;
     while k < most {
         read = then_type(text, read, k, universe);

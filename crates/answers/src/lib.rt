@@ -110,7 +110,7 @@ fn then_steps(text: &[u8], count: NumberRead, answer: &mut AnswerWords) -> Lines
         (answerIn (now (answer .exit))) ⌝ }
 {
     let most = count.number;
-    let mut read = runs::then_here(text, count.read);
+    let mut read = runs::then_nothing(text, count.read);
     let mut i: u32 = 0;
     while (i < most) & runs::goes_on(read) {
         read = read_step(text, read.at, i, answer);

@@ -21,8 +21,8 @@ pub record After {A : Type 0} (s : List ℕ) (a : LinesRead) (f : Lines A) (r : 
   pub stopped : (k : ℕ) → a .went ≡ Stop k → r ≡ a
 
 -- no line
-abbrev pub here : Lines (Unit {0})
-here s = on tt s
+abbrev pub nothing : Lines (Unit {0})
+nothing s = on tt s
 
 abbrev pub goesOn : Went → Bool
 goesOn On = true

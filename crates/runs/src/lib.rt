@@ -16,7 +16,7 @@ ghost use Rattle.reading.specs.Kinds.{dueLine, countLine};
 ghost use Rattle.reading.specs.Lines.{line, atEnd};
 ghost use Rattle.lines.specs.Counts.{limitOk, greatest, inRange};
 ghost use Rattle.lines.specs.Runs.{RunsTo, refusalOf};
-ghost use Rattle.runs.specs.Chain.{After, Held, goesOn, here, short, numberRun, numberAfter};
+ghost use Rattle.runs.specs.Chain.{After, Held, goesOn, nothing, short, numberRun, numberAfter};
 
 // Whether a run of lines went on, and the place of the next line or of the line at fault.
 pub struct LinesRead {
@@ -97,19 +97,7 @@ pub fn goes_on(read: LinesRead) -> bool
     }
 }
 
-// After what was read so far: no line, at a place within the text.
-pub fn then_here(text: &[u8], read: LinesRead) -> LinesRead
-    ensures { λ r. ⌜ After (now (text .entry)) read here r tt ⌝ }
-{
-    let went = read.went;
-    let Went::On = went else {
-        return read;
-    };
-    let at = texts::place_in(text, read.at);
-    LinesRead { went, at }
-}
-
-// The line of a key and the number due.
+// After what was read so far: the line of a key and the number due.
 pub fn then_due(text: &[u8], read: LinesRead, key: &[u8], number: u32) -> LinesRead
     ensures { λ r. ⌜ After (now (text .entry)) read (line (dueLine (now (key .entry)) number)) r tt ⌝ }
 {
@@ -153,6 +141,18 @@ pub fn then_within(
 {
     let line = lines::within_at(text, read.at, key, Digits::Five, least, greatest);
     number_after(text, read, line)
+}
+
+// No line yet: from there on a loop reads.
+pub fn then_nothing(text: &[u8], read: LinesRead) -> LinesRead
+    ensures { λ r. ⌜ After (now (text .entry)) read nothing r tt ⌝ }
+{
+    let went = read.went;
+    let Went::On = went else {
+        return read;
+    };
+    let at = texts::place_in(text, read.at);
+    LinesRead { went, at }
 }
 
 // The end of the text.

@@ -13,7 +13,7 @@ use Rattle.reading.specs.Limits.{depthOk, typesOk, placesOk, transitionsOk, beh
 use Rattle.reading.specs.Lines.{Lines, on, stop, _>>=_, _>>_, handOn, line, each, atEnd}
 use Rattle.reading.specs.Kinds.{countLine, initialLine}
 use Rattle.reading.specs.Fill.{headed, programOf}
-use Rattle.reading.specs.Texts.{instructionAt}
+use Rattle.reading.specs.Texts.{typeLines, instructionAt}
 use Rattle.runs.specs.Whole.{Whole, whole}
 use Rattle.words.specs.Parts.{withKind, typeOfWords}
 use Rattle.sheet_lines.specs.declared.Known.{Known}
@@ -52,6 +52,11 @@ typeForm i t = do
   p ← counted false (bytes "port=") portsOk
   w ← each (row rows.Ports (knownAs n m k)) p (i * 16) v
   handOn (withKind w i (typeOfWords n m k b p))
+
+-- a type as a form has it, or a sheet
+abbrev pub typeBy : Bool → ℕ → Tables → Lines Tables
+typeBy true = typeForm
+typeBy false = typeLines
 
 unfoldable pub form : Lines (Tables × Program)
 form = do

@@ -8,13 +8,19 @@ use Rattle.model.specs.declared.Program.{Program}
 use Rattle.model.specs.Empty.{noTables, noProgram}
 use Rattle.reading.specs.Lines.{Lines}
 use Rattle.reading.specs.Texts.{sheet}
+use Rattle.lines.specs.Runs.{refusalOf}
+use Rattle.runs.specs.declared.LinesRead.{LinesRead}
 use Rattle.runs.specs.declared.Place.{Place}
-use Rattle.runs.specs.Whole.{Whole, whole, beside}
+use Rattle.runs.specs.Whole.{Whole, whole, beside, kept}
 use Rattle.words.specs.Words.{tablesIn, programIn}
 
 -- the number of the refusal, or 0, the place, the tables and the program: none beside a refusal
 abbrev pub sheetRead : List ℕ → Whole (Tables × Program)
 sheetRead s = whole (noTables, noProgram) sheet s
+
+-- what a reading comes to whose words say v: none beside a refusal
+abbrev pub handedOut : LinesRead → Tables × Program → Whole (Tables × Program)
+handedOut x v = record { refused = refusalOf (x .went); place = x .at; value = kept (noTables, noProgram) (x .went) v }
 
 -- what r and the words of tables and program say together is what reading the text s by m answers
 abbrev pub ReadsBy : Lines (Tables × Program) → List ℕ → Place → List ℕ → List ℕ → Type 0

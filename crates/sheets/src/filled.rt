@@ -1,5 +1,6 @@
 // The form that a setter fills in, as lines: those of a sheet without the counts, which are counted here.
 use crate::programs::then_instructions;
+use crate::types::read_type;
 use crate::types::then_initial;
 use crate::types::then_rows;
 use forms::BEYOND_LIMIT;
@@ -21,7 +22,7 @@ ghost use Rattle.lines.specs.Runs.{RunsTo};
 ghost use Rattle.lines.specs.Counts.{inRange};
 ghost use Rattle.runs.specs.Chain.{After, shortly};
 ghost use Rattle.words.specs.Words.{tablesIn, programIn};
-ghost use Rattle.sheets.specs.Form.{begins, linesWith, counted, typeForm, form};
+ghost use Rattle.sheets.specs.Form.{begins, linesWith, counted, typeForm, typeBy, form};
 ghost use Rattle.sheets.specs.Counted.{countedRun};
 
 fn begins(text: &[u8], at: usize, key: &[u8]) -> bool
@@ -130,17 +131,40 @@ fn read_type_form(text: &[u8], start: usize, kind: u32, tables: &mut TableWords)
     groups
 }
 
-// As many types as were counted.
-fn then_type_forms(text: &[u8], count: NumberRead, tables: &mut TableWords) -> LinesRead
+// One type, as a form has it or as a sheet.
+fn read_either(
+    text: &[u8],
+    start: usize,
+    form: bool,
+    kind: u32,
+    tables: &mut TableWords,
+) -> LinesRead
+    requires { ⌜ kind < 16 ⌝ }
+    ensures { λ r. ⌜ RunsTo (now (text .entry)) (r .went) (r .at) (tablesIn (now (tables .exit)))
+        (typeBy form kind (tablesIn (now (tables .entry))) (drop start (now (text .entry)))) ⌝ }
+{
+    if form {
+        return read_type_form(text, start, kind, tables);
+    }
+    read_type(text, start, kind, tables)
+}
+
+// As many types as were counted, or as the last line said.
+pub(crate) fn then_types(
+    text: &[u8],
+    count: NumberRead,
+    form: bool,
+    tables: &mut TableWords,
+) -> LinesRead
     requires { ⌜ count .number ≤ 16 ⌝ }
-    ensures { λ r. ⌜ After (now (text .entry)) (count .read) (each typeForm (count .number) 0 (tablesIn (now (tables .entry)))) r
+    ensures { λ r. ⌜ After (now (text .entry)) (count .read) (each (typeBy form) (count .number) 0 (tablesIn (now (tables .entry)))) r
         (tablesIn (now (tables .exit))) ⌝ }
 {
     let most = count.number;
-    let mut read = runs::then_here(text, count.read);
+    let mut read = runs::then_nothing(text, count.read);
     let mut i: u32 = 0;
     while (i < most) & runs::goes_on(read) {
-        read = read_type_form(text, read.at, i, tables);
+        read = read_either(text, read.at, form, i, tables);
         i = i + 1;
     }
     read
@@ -159,7 +183,7 @@ pub(crate) fn read_rows(
     let depth = runs::then_number(text, length, b"depth=", Limit::Depth);
     let types = then_counted(text, depth.read, b"type=", true, 1, 16);
     words::tables::start_tables(tables, depth.number, types.number);
-    let filled = then_type_forms(text, types, tables);
+    let filled = then_types(text, types, true, tables);
     let count = then_counted(text, filled, b"do=", false, 0, 256);
     words::program::start_program(program, count.number);
     let instructions = then_instructions(text, count, types.number, program);

@@ -6,12 +6,12 @@ mod programs;
 mod types;
 
 use filled::read_rows;
+use filled::then_types;
 use lines::Limit;
 use lines::Went;
 use programs::then_instructions;
 use runs::LinesRead;
 use runs::Place;
-use types::then_types;
 use words::ProgramWords;
 use words::TableWords;
 ghost use mathlib.Core.Path.{_≡_};
@@ -21,7 +21,7 @@ ghost use Rattle.lines.specs.Runs.{RunsTo};
 ghost use Rattle.runs.specs.Chain.{shortly};
 ghost use Rattle.runs.specs.Whole.{beside};
 ghost use Rattle.words.specs.Words.{tablesIn, programIn};
-ghost use Rattle.sheets.specs.Sheet.{sheetRead};
+ghost use Rattle.sheets.specs.Sheet.{sheetRead, handedOut};
 ghost use Rattle.sheets.specs.Form.{formRead};
 
 // The lines of a sheet, up to the text's end, into words that say none.
@@ -36,11 +36,25 @@ fn read_lines(text: &[u8], tables: &mut TableWords, program: &mut ProgramWords) 
     let depth = runs::then_number(text, first, b"depth=", Limit::Depth);
     let types = runs::then_number(text, depth.read, b"types=", Limit::Types);
     words::tables::put_head(tables, depth.number, types.number);
-    let filled = then_types(text, types, tables);
+    let filled = then_types(text, types, false, tables);
     let count = runs::then_number(text, filled, b"program=", Limit::Program);
     words::program::put_instructions(program, count.number);
     let instructions = then_instructions(text, count, types.number, program);
     runs::then_end(text, instructions)
+}
+
+// What a reading comes to; beside a refusal nothing of it is handed out.
+fn handed_out(read: LinesRead, tables: &mut TableWords, program: &mut ProgramWords) -> Place
+    ensures { λ r. ⌜ beside r (tablesIn (now (tables .exit)), programIn (now (program .exit)))
+        ≡ handedOut read (tablesIn (now (tables .entry)), programIn (now (program .entry))) ⌝ }
+{
+    let went = read.went;
+    let Went::On = went else {
+        words::tables::clear_tables(tables);
+        words::program::clear_program(program);
+        return runs::came_to(read);
+    };
+    runs::came_to(read)
 }
 
 // The sheet of a text of any length, in the lent words, whatever these held before; beside a refusal they are all 0.
@@ -50,13 +64,7 @@ pub fn fill_sheet(text: &[u8], tables: &mut TableWords, program: &mut ProgramWor
     words::tables::clear_tables(tables);
     words::program::clear_program(program);
     let read = read_lines(text, tables, program);
-    let went = read.went;
-    let Went::On = went else {
-        words::tables::clear_tables(tables);
-        words::program::clear_program(program);
-        return runs::came_to(read);
-    };
-    runs::came_to(read)
+    handed_out(read, tables, program)
 }
 
 // The form of a text of any length, as lines, in the lent words; beside a refusal they are all 0.
@@ -64,11 +72,5 @@ pub fn fill_form(text: &[u8], tables: &mut TableWords, program: &mut ProgramWord
     ensures { λ r. ⌜ beside r (tablesIn (now (tables .exit)), programIn (now (program .exit))) ≡ formRead (now (text .entry)) ⌝ }
 {
     let read = read_rows(text, tables, program);
-    let went = read.went;
-    let Went::On = went else {
-        words::tables::clear_tables(tables);
-        words::program::clear_program(program);
-        return runs::came_to(read);
-    };
-    runs::came_to(read)
+    handed_out(read, tables, program)
 }

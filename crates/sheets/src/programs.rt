@@ -46,7 +46,7 @@ pub(crate) fn then_instructions(
         (programIn (now (program .exit))) ⌝ }
 {
     let most = count.number;
-    let mut read = runs::then_here(text, count.read);
+    let mut read = runs::then_nothing(text, count.read);
     let mut i: u32 = 0;
     while (i < most) & runs::goes_on(read) {
         read = read_instruction(text, read.at, types, i, program);

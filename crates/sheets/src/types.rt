@@ -91,7 +91,7 @@ pub(crate) fn then_rows(
 {
     let most = count.number;
     let first = kind * per_type(rows);
-    let mut read = runs::then_here(text, count.read);
+    let mut read = runs::then_nothing(text, count.read);
     let mut i: u32 = 0;
     while (i < most) & runs::goes_on(read) {
         read = read_row(text, read.at, rows, first + i, known, tables);
@@ -128,7 +128,7 @@ pub(crate) fn then_initial(text: &[u8], places: NumberRead) -> NumberRead
 }
 
 // The lines of one type.
-fn read_type(text: &[u8], start: usize, kind: u32, tables: &mut TableWords) -> LinesRead
+pub(crate) fn read_type(text: &[u8], start: usize, kind: u32, tables: &mut TableWords) -> LinesRead
     requires { ⌜ kind < 16 ⌝ }
     ensures { λ r. ⌜ RunsTo (now (text .entry)) (r .went) (r .at) (tablesIn (now (tables .exit)))
         (typeLines kind (tablesIn (now (tables .entry))) (drop start (now (text .entry)))) ⌝ }
@@ -157,20 +157,4 @@ fn read_type(text: &[u8], start: usize, kind: u32, tables: &mut TableWords) -> L
         ports.number,
     );
     groups
-}
-
-// As many types as the last line said.
-pub(crate) fn then_types(text: &[u8], count: NumberRead, tables: &mut TableWords) -> LinesRead
-    requires { ⌜ count .number ≤ 16 ⌝ }
-    ensures { λ r. ⌜ After (now (text .entry)) (count .read) (each typeLines (count .number) 0 (tablesIn (now (tables .entry)))) r
-        (tablesIn (now (tables .exit))) ⌝ }
-{
-    let most = count.number;
-    let mut read = runs::then_here(text, count.read);
-    let mut i: u32 = 0;
-    while (i < most) & runs::goes_on(read) {
-        read = read_type(text, read.at, i, tables);
-        i = i + 1;
-    }
-    read
 }

@@ -10,21 +10,11 @@ use borrow.Author.Needs.{needs}
 use Rattle.answers.proofs.read_step.Statement.{statement}
 use Rattle.answers.proofs.read_step.Tie as tie
 
-returns : tie.Need-returns
-unfolding stepAt
-returns c =
-    let a = c .before .before .before .before .before .before .before .args in
-    put-refused stepSays stepLine (withStep (answerIn (a .answer .now)) (a .n)) _ _ _ (c .before .before .before .before .before .place-in .ensures) _ (c .before .before .before .step-line .ensures) (c .before .enum-told .given .1) refl
-    (c .step-refusal .ensures)
-
-returns-2 : tie.Need-returns-2
-unfolding stepAt
-returns-2 c =
-    let a = c .before .before .before .before .before .before .before .before .before .args in
-    rw (c .put-step .ensures)
-    (put-line stepSays stepLine (withStep (answerIn (a .answer .now)) (a .n)) _ _ _ (c .before .before .before .before .before .before .before .place-in .ensures) _ (c .before .before .before .before .before .step-line .ensures) (c .before .before .before .line .given .1) refl)
-
 pub read-step-spec : {M : Type 1} → statement M
+unfolding stepAt
 read-step-spec =
     tie.close
-    (tie.spec (λ c κs. search needs) (λ c. search needs) (λ c. search needs) (λ c. search needs) (λ c κs. search needs) (λ c. search needs) (λ c. search needs) (λ c κs. search needs) returns (λ c κs. search needs) (λ c. omega (arith, returns-2 c .within)) returns-2)
+    (tie.spec (λ c κs. search needs) (λ c. search needs) (λ c. search needs) (λ c. search needs) (λ c κs. search needs) (λ c. search needs) (λ c. search needs) (λ c κs. search needs)
+    (λ c. put-refused stepSays stepLine (withStep (answerIn (c .before .before .before .before .before .before .before .args .answer .now)) (c .before .before .before .before .before .before .before .args .n)) _ _ _ (c .before .before .before .before .before .place-in .ensures) _ (c .before .before .before .step-line .ensures) (c .before .enum-told .given .1) refl (c .step-refusal .ensures)) (λ c κs. search needs)
+    (λ c. omega (arith, put-line stepSays stepLine (withStep (answerIn (c .before .before .before .before .before .before .before .before .before .args .answer .now)) (c .before .before .before .before .before .before .before .before .before .args .n)) (c .before .before .before .before .before .before .before .before .before .args .text .now) (c .before .before .before .before .before .before .before .before .before .args .start) (c .before .before .before .before .before .before .before .place-in .result) (c .before .before .before .before .before .before .before .place-in .ensures) _ (c .before .before .before .before .before .step-line .ensures) (c .before .before .before .line .given .1) refl .within))
+    (λ c. rw (c .put-step .ensures) (put-line stepSays stepLine (withStep (answerIn (c .before .before .before .before .before .before .before .before .before .args .answer .now)) (c .before .before .before .before .before .before .before .before .before .args .n)) _ _ _ (c .before .before .before .before .before .before .before .place-in .ensures) _ (c .before .before .before .before .before .step-line .ensures) (c .before .before .before .line .given .1) refl)))

@@ -3,7 +3,7 @@ use mathlib.Core.Path.{sym}
 use native.Mathlib.Nat.{zero-add}
 use native.Mathlib.Omega.{arith}
 use borrow.Author.Needs.{needs}
-use Rattle.runs.proofs.Many.{Many, below, many-none, many-more, many-end}
+use Rattle.runs.proofs.Turns.{Turns, below, no-turn, turn-on, turns-over}
 use Rattle.reading.specs.Texts.{stepAt}
 use Rattle.words.specs.Words.{answerIn}
 use Rattle.answers.proofs.then_steps.Statement.{statement}
@@ -12,7 +12,7 @@ use Rattle.answers.proofs.then_steps.Tie as tie
 pub then-steps-spec : {M : Type 1} → statement M
 then-steps-spec =
     tie.close
-    (tie.spec (λ text old most first _ answer read i. Many stepAt most 0 (answerIn old) text first i read (answerIn answer)) (λ text old most first _ answer read i. most - i)
-    (λ c κs. search needs) (λ c. many-none _ _ _ _ _ (c .then-here .ensures)) (λ c κs. search needs) (λ c κs. search needs) (λ c. omega (arith, below (c .before .before .before .before .loop .i) (c .before .before .before .before .before .before .before .args .count .number) (c .before .before .before .goes-on .result) (c .before .before .if1 .taken)))
-    (λ c. omega (arith, below (c .before .before .before .before .loop .i) (c .before .before .before .before .before .before .before .args .count .number) (c .before .before .before .goes-on .result) (c .before .before .if1 .taken))) (λ c. many-more _ _ _ _ _ (c .before .before .before .before .loop .inv) _ (c .before .before .before .goes-on .ensures) _ (c .before .before .if1 .taken) (sym (zero-add _)) (c .read-step .ensures))
-    (λ c. many-end _ _ _ _ _ (c .before .before .before .then-here .ensures) (c .before .before .loop .inv) _ (c .before .goes-on .ensures) (c .if1 .left)))
+    (tie.spec (λ text old most first _ answer read i. Turns stepAt most 0 (answerIn old) text first i read (answerIn answer)) (λ text old most first _ answer read i. most - i)
+    (λ c κs. search needs) (λ c. no-turn _ _ _ _ (c .then-nothing .ensures)) (λ c κs. search needs) (λ c κs. search needs) (λ c. omega (arith, below (c .before .before .before .before .loop .i) (c .before .before .before .before .before .before .before .args .count .number) (c .before .before .before .goes-on .result) (c .before .before .if1 .taken)))
+    (λ c. omega (arith, below (c .before .before .before .before .loop .i) (c .before .before .before .before .before .before .before .args .count .number) (c .before .before .before .goes-on .result) (c .before .before .if1 .taken))) (λ c. turn-on _ _ _ _ (c .before .before .before .before .loop .inv) _ (c .before .before .before .goes-on .ensures) _ (c .before .before .if1 .taken) (sym (zero-add _)) (c .read-step .ensures))
+    (λ c. turns-over _ _ _ _ (c .before .before .before .then-nothing .ensures) (c .before .before .loop .inv) _ (c .before .goes-on .ensures) (c .if1 .left)))

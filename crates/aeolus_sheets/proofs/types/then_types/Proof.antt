@@ -3,7 +3,7 @@ use Prim.Native.Nat.{_-_}
 use mathlib.Core.Path.{sym}
 use native.Mathlib.Nat.{zero-add}
 use native.Mathlib.Omega.{arith}
-use Rattle.runs.proofs.Many.{Many, many-none, many-turn, many-all}
+use Rattle.runs.proofs.Turns.{Turns, no-turn, one-turn, all-turns}
 use Rattle.aeolus_model.specs.Words.{universeIn}
 use Rattle.aeolus_reading.specs.Texts.{typeAt}
 use borrow.Author.Needs.{needs}
@@ -14,8 +14,8 @@ pub then-types-spec : {M : Type 1} → statement M
 then-types-spec =
     tie.close
     (tie.spec
-    (λ text universe₀ most read₀ i₀ universe read i. Many typeAt most 0 (universeIn universe₀) text read₀ i read (universeIn universe))
+    (λ text universe₀ most read₀ i₀ universe read i. Turns typeAt most 0 (universeIn universe₀) text read₀ i read (universeIn universe))
     (λ text universe₀ most read₀ i₀ universe read i. most - i)
-    (λ c κs. search needs) (λ c. many-none _ _ _ _ _ (c .then-here .ensures)) (λ c κs. search needs) (λ c. omega arith) (λ c. omega arith)
-    (λ c. many-turn _ _ _ _ _ (c .before .before .before .loop .inv) (c .before .before .loop-test .taken) _ (sym (zero-add _)) (c .then-type .ensures))
-    (λ c. many-all _ _ _ _ _ (c .before .loop .inv) (c .before .before .then-here .ensures) (c .loop-test .left)))
+    (λ c κs. search needs) (λ c. no-turn _ _ _ _ (c .then-nothing .ensures)) (λ c κs. search needs) (λ c. omega arith) (λ c. omega arith)
+    (λ c. one-turn _ _ _ _ (c .before .before .before .loop .inv) (c .before .before .loop-test .taken) _ (sym (zero-add _)) (c .then-type .ensures))
+    (λ c. all-turns _ _ _ _ (c .before .before .then-nothing .ensures) (c .before .loop .inv) (c .loop-test .left)))

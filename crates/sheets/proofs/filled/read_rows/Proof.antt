@@ -6,8 +6,8 @@ use borrow.Author.Needs.{needs}
 use Rattle.sheets.proofs.filled.read_rows.Statement.{statement}
 use Rattle.sheets.proofs.filled.read_rows.Tie as tie
 
-then-type-forms-requires : tie.Need-then-type-forms-requires
-then-type-forms-requires c κs = c .before .before .before .then-counted .ensures .1
+then-types-requires : tie.Need-then-types-requires
+then-types-requires c κs = c .before .before .before .then-counted .ensures .1
 
 returns : tie.Need-returns
 unfolding shortly formCounted
@@ -16,7 +16,7 @@ returns c =
     (run-after _ _ (c .before .before .before .before .before .before .before .before .before .before .before .before .before .before .before .length-run .ensures)
     (after-then _ _ (c .before .before .before .before .before .before .before .before .before .before .before .before .before .then-number .ensures .0)
     (after-then _ _ (c .before .before .before .before .before .before .before .before .before .before .before .then-counted .ensures .0)
-    (after-then _ _ (rw (c .before .before .before .before .before .before .before .before .before .start-tables .ensures) at (c .before .before .before .before .before .before .before .then-type-forms .ensures))
+    (after-then _ _ (rw (c .before .before .before .before .before .before .before .before .before .start-tables .ensures) at (c .before .before .before .before .before .before .before .then-types .ensures))
     (after-then _ _ (c .before .before .before .before .before .then-counted2 .ensures .0)
     (after-then _ _ (rw (c .before .before .before .start-program .ensures) at (c .before .then-instructions .ensures))
     (after-give _ _ (c .then-end .ensures))))))))
@@ -26,5 +26,5 @@ read-rows-spec =
     tie.close
     (tie.spec
     (λ c κs. search needs) (λ c. search needs) (λ c κs. search needs) (λ c. search needs) (λ c κs. search needs) (λ c κs. search needs)
-    then-type-forms-requires (λ c. search needs) (λ c κs. search needs) (λ c κs. search needs) (λ c κs. search needs) (λ c κs. search needs)
+    then-types-requires (λ c. search needs) (λ c κs. search needs) (λ c κs. search needs) (λ c κs. search needs) (λ c κs. search needs)
     returns)

@@ -10,21 +10,11 @@ use borrow.Author.Needs.{needs}
 use Rattle.sheets.proofs.programs.read_instruction.Statement.{statement}
 use Rattle.sheets.proofs.programs.read_instruction.Tie as tie
 
-returns : tie.Need-returns
-unfolding instructionAt
-returns c =
-    let a = c .before .before .before .before .before .before .before .args in
-    put-refused instructionSays (doLine (a .types)) (withInstruction (programIn (a .program .now)) (a .n)) _ _ _ (c .before .before .before .before .before .place-in .ensures) _ (c .before .before .before .do-line .ensures) (c .before .enum-told .given .1) refl
-    (c .do-refusal .ensures)
-
-returns-2 : tie.Need-returns-2
-unfolding instructionAt
-returns-2 c =
-    let a = c .before .before .before .before .before .before .before .before .before .args in
-    rw (c .put-instruction .ensures)
-    (put-line instructionSays (doLine (a .types)) (withInstruction (programIn (a .program .now)) (a .n)) _ _ _ (c .before .before .before .before .before .before .before .place-in .ensures) _ (c .before .before .before .before .before .do-line .ensures) (c .before .before .before .line .given .1) refl)
-
 pub read-instruction-spec : {M : Type 1} → statement M
+unfolding instructionAt
 read-instruction-spec =
     tie.close
-    (tie.spec (λ c κs. search needs) (λ c. search needs) (λ c. search needs) (λ c. search needs) (λ c κs. search needs) (λ c. search needs) (λ c. search needs) (λ c κs. search needs) returns (λ c κs. search needs) (λ c. omega (arith, returns-2 c .within)) returns-2)
+    (tie.spec (λ c κs. search needs) (λ c. search needs) (λ c. search needs) (λ c. search needs) (λ c κs. search needs) (λ c. search needs) (λ c. search needs) (λ c κs. search needs)
+    (λ c. put-refused instructionSays (doLine (c .before .before .before .before .before .before .before .args .types)) (withInstruction (programIn (c .before .before .before .before .before .before .before .args .program .now)) (c .before .before .before .before .before .before .before .args .n)) _ _ _ (c .before .before .before .before .before .place-in .ensures) _ (c .before .before .before .do-line .ensures) (c .before .enum-told .given .1) refl (c .do-refusal .ensures)) (λ c κs. search needs)
+    (λ c. omega (arith, put-line instructionSays (doLine (c .before .before .before .before .before .before .before .before .before .args .types)) (withInstruction (programIn (c .before .before .before .before .before .before .before .before .before .args .program .now)) (c .before .before .before .before .before .before .before .before .before .args .n)) (c .before .before .before .before .before .before .before .before .before .args .text .now) (c .before .before .before .before .before .before .before .before .before .args .start) (c .before .before .before .before .before .before .before .place-in .result) (c .before .before .before .before .before .before .before .place-in .ensures) _ (c .before .before .before .before .before .do-line .ensures) (c .before .before .before .line .given .1) refl .within))
+    (λ c. rw (c .put-instruction .ensures) (put-line instructionSays (doLine (c .before .before .before .before .before .before .before .before .before .args .types)) (withInstruction (programIn (c .before .before .before .before .before .before .before .before .before .args .program .now)) (c .before .before .before .before .before .before .before .before .before .args .n)) _ _ _ (c .before .before .before .before .before .before .before .place-in .ensures) _ (c .before .before .before .before .before .do-line .ensures) (c .before .before .before .line .given .1) refl)))

@@ -9,21 +9,11 @@ use borrow.Author.Needs.{needs}
 use Rattle.sheets.proofs.types.read_row.Statement.{statement}
 use Rattle.sheets.proofs.types.read_row.Tie as tie
 
-returns : tie.Need-returns
-unfolding row
-returns c =
-    let a = c .before .before .before .before .before .before .before .args in
-    put-refused rowSays (rowLine (a .rows) (a .known)) (putRow (a .rows) (tablesIn (a .tables .now)) (a .slot)) _ _ _ (c .before .before .before .before .before .place-in .ensures) _ (c .before .before .before .row-line .ensures) (c .before .enum-told .given .1) refl
-    (c .row-refusal .ensures)
-
-returns-2 : tie.Need-returns-2
-unfolding row
-returns-2 c =
-    let a = c .before .before .before .before .before .before .before .before .before .args in
-    rw (c .put-row .ensures)
-    (put-line rowSays (rowLine (a .rows) (a .known)) (putRow (a .rows) (tablesIn (a .tables .now)) (a .slot)) _ _ _ (c .before .before .before .before .before .before .before .place-in .ensures) _ (c .before .before .before .before .before .row-line .ensures) (c .before .before .before .line .given .1) refl)
-
 pub read-row-spec : {M : Type 1} → statement M
+unfolding row
 read-row-spec =
     tie.close
-    (tie.spec (λ c κs. search needs) (λ c. search needs) (λ c. search needs) (λ c. search needs) (λ c κs. search needs) (λ c. search needs) (λ c. search needs) (λ c κs. search needs) returns (λ c κs. search needs) (λ c. omega (arith, returns-2 c .within)) returns-2)
+    (tie.spec (λ c κs. search needs) (λ c. search needs) (λ c. search needs) (λ c. search needs) (λ c κs. search needs) (λ c. search needs) (λ c. search needs) (λ c κs. search needs)
+    (λ c. put-refused rowSays (rowLine (c .before .before .before .before .before .before .before .args .rows) (c .before .before .before .before .before .before .before .args .known)) (putRow (c .before .before .before .before .before .before .before .args .rows) (tablesIn (c .before .before .before .before .before .before .before .args .tables .now)) (c .before .before .before .before .before .before .before .args .slot)) _ _ _ (c .before .before .before .before .before .place-in .ensures) _ (c .before .before .before .row-line .ensures) (c .before .enum-told .given .1) refl (c .row-refusal .ensures)) (λ c κs. search needs)
+    (λ c. omega (arith, put-line rowSays (rowLine (c .before .before .before .before .before .before .before .before .before .args .rows) (c .before .before .before .before .before .before .before .before .before .args .known)) (putRow (c .before .before .before .before .before .before .before .before .before .args .rows) (tablesIn (c .before .before .before .before .before .before .before .before .before .args .tables .now)) (c .before .before .before .before .before .before .before .before .before .args .slot)) (c .before .before .before .before .before .before .before .before .before .args .text .now) (c .before .before .before .before .before .before .before .before .before .args .start) (c .before .before .before .before .before .before .before .place-in .result) (c .before .before .before .before .before .before .before .place-in .ensures) _ (c .before .before .before .before .before .row-line .ensures) (c .before .before .before .line .given .1) refl .within))
+    (λ c. rw (c .put-row .ensures) (put-line rowSays (rowLine (c .before .before .before .before .before .before .before .before .before .args .rows) (c .before .before .before .before .before .before .before .before .before .args .known)) (putRow (c .before .before .before .before .before .before .before .before .before .args .rows) (tablesIn (c .before .before .before .before .before .before .before .before .before .args .tables .now)) (c .before .before .before .before .before .before .before .before .before .args .slot)) _ _ _ (c .before .before .before .before .before .before .before .place-in .ensures) _ (c .before .before .before .before .before .row-line .ensures) (c .before .before .before .line .given .1) refl)))

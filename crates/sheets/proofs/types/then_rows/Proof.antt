@@ -1,7 +1,7 @@
 use Prim.Native.Nat.{_+_, _*_, _-_, _≤_}
 use native.Mathlib.Omega.{arith}
 use borrow.Author.Needs.{needs}
-use Rattle.runs.proofs.Many.{Many, below, many-none, many-more, many-end}
+use Rattle.runs.proofs.Turns.{Turns, below, no-turn, turn-on, turns-over}
 use Rattle.words.specs.Words.{tablesIn}
 use Rattle.sheets.specs.Rows.{perType, row}
 use Rattle.sheets.proofs.TypeRows.{few-slots}
@@ -9,7 +9,7 @@ use Rattle.sheets.proofs.types.then_rows.Statement.{statement}
 use Rattle.sheets.proofs.types.then_rows.Tie as tie
 
 abbrev Inv-loop : tie.InvT-loop
-Inv-loop text rows kind known old most base first _ tables read i = Many (row rows known) most (kind * perType rows) (tablesIn old) text first i read (tablesIn tables)
+Inv-loop text rows kind known old most base first _ tables read i = Turns (row rows known) most (kind * perType rows) (tablesIn old) text first i read (tablesIn tables)
 
 abbrev μ-loop : tie.MeasureT-loop
 μ-loop text rows kind known old most base first _ tables read i = most - i
@@ -21,7 +21,7 @@ few c = rw (c .per-type .ensures) (few-slots (c .before .before .args .rows) (c 
 pub then-rows-spec : {M : Type 1} → statement M
 then-rows-spec =
     tie.close
-    (tie.spec Inv-loop μ-loop (λ c κs. search needs) (λ c. omega (arith, few c)) (λ c κs. search needs) (λ c. many-none _ _ _ _ _ (c .then-here .ensures)) (λ c κs. search needs)
+    (tie.spec Inv-loop μ-loop (λ c κs. search needs) (λ c. omega (arith, few c)) (λ c κs. search needs) (λ c. no-turn _ _ _ _ (c .then-nothing .ensures)) (λ c κs. search needs)
     (λ c. omega (arith, few (c .before .before .before .before), c .before .before .before .before .before .before .pre .1, below (c .before .before .loop .i) (c .before .before .before .before .before .before .args .count .number) (c .before .goes-on .result) (c .if1 .taken))) (λ c κs. search needs) (λ c. omega (arith, below (c .before .before .before .before .loop .i) (c .before .before .before .before .before .before .before .before .args .count .number) (c .before .before .before .goes-on .result) (c .before .before .if1 .taken))) (λ c. omega (arith, below (c .before .before .before .before .loop .i) (c .before .before .before .before .before .before .before .before .args .count .number) (c .before .before .before .goes-on .result) (c .before .before .if1 .taken)))
-    (λ c. many-more _ _ _ _ _ (c .before .before .before .before .loop .inv) _ (c .before .before .before .goes-on .ensures) (c .before .before .before .before .before .before .before .before .args .kind * c .before .before .before .before .before .before .per-type .result + c .before .before .before .before .loop .i) (c .before .before .if1 .taken) (rw (c .before .before .before .before .before .before .per-type .ensures)) (c .read-row .ensures))
-    (λ c. many-end _ _ _ _ _ (c .before .before .before .then-here .ensures) (c .before .before .loop .inv) _ (c .before .goes-on .ensures) (c .if1 .left)))
+    (λ c. turn-on _ _ _ _ (c .before .before .before .before .loop .inv) _ (c .before .before .before .goes-on .ensures) (c .before .before .before .before .before .before .before .before .args .kind * c .before .before .before .before .before .before .per-type .result + c .before .before .before .before .loop .i) (c .before .before .if1 .taken) (rw (c .before .before .before .before .before .before .per-type .ensures)) (c .read-row .ensures))
+    (λ c. turns-over _ _ _ _ (c .before .before .before .then-nothing .ensures) (c .before .before .loop .inv) _ (c .before .goes-on .ensures) (c .if1 .left)))
