@@ -3,12 +3,13 @@
 use Prim.Native.Nat.{ℕ}
 use mathlib.Core.List.{List}
 use mathlib.Core.Path.{_≡_, refl}
+use lib.ListN.{length}
 use Rattle.runs.specs.declared.Place.{Place}
 use Rattle.runs.specs.Whole.{Whole, whole, beside}
 use Rattle.judged.specs.Course.{Course}
 use Rattle.judging.specs.declared.pairs.Outcome.{Outcome}
 use Rattle.judging.specs.declared.pairs.Outcome.the-variants.{InSheet, InAnswer, Reached}
-use Rattle.judging.specs.Came.{seen, outcomeOf, came}
+use Rattle.judging.specs.Came.{outcomeOf, came}
 use Rattle.judging.proofs.Order.{in-order, Told, told-then}
 use Rattle.aeolus_model.specs.Model.{Universe, Configuration, noUniverse, nothing}
 use Rattle.aeolus_model.specs.Action.{Plan, noPlan, actionsOf}
@@ -20,7 +21,7 @@ use Rattle.aeolus_judged.specs.Course.{both, course}
 module _ (s a : List ℕ) where
   -- of what the two readers answered, x beside the universe and y beside the plan
   pub both-comes : (x y : Place) (u : Universe) (g : Plan) → beside x u ≡ whole noUniverse sheet s → beside y g ≡ whole noPlan (plan (u .count)) a
-      → (came (outcomeOf (seen s (beside x u)) (seen a (beside y g))) (u, g) ≡ both s a) × Told s a (both s a)
+      → (came (outcomeOf (length s) x (length a) y) (u, g) ≡ both s a) × Told s a (both s a)
   unfolding both
   both-comes x y u g is also =
       in-order sheet (λ u. plan (u .count)) (λ u g. (u, g)) s a noUniverse noPlan {r = beside x u} {y = beside y g} is also (sheet-stops s) (plan-stops (u .count) a)

@@ -12,7 +12,6 @@ use forms::BUFFER_SHORT;
 use judged::LENT_BYTES;
 use judged::Place;
 use judging::pairs::Outcome;
-use judging::pairs::look_at;
 use judging::pairs::outcome_of;
 use judging::parts::fault_or_report;
 use judging::parts::part_at;
@@ -45,12 +44,10 @@ const LARGEST: usize = 1811;
 fn read_both(sheet: &[u8], answer: &[u8], universe: &mut Universe, plan: &mut Plan) -> Outcome
     ensures { λ r. ⌜ came r (universeIn (now (universe .exit)), planIn (now (plan .exit))) ≡ both (now (sheet .entry)) (now (answer .entry)) ⌝ }
 {
-    let one = aeolus_sheets::fill_universe(sheet, universe);
+    let said = aeolus_sheets::fill_universe(sheet, universe);
     let n = types(universe);
-    let two = aeolus_answers::fill_plan(answer, n, plan);
-    let said = look_at(sheet, one.refused, one.place);
-    let given = look_at(answer, two.refused, two.place);
-    outcome_of(said, given)
+    let given = aeolus_answers::fill_plan(answer, n, plan);
+    outcome_of(sheet, said, answer, given)
 }
 
 // How far the two texts came, and the run where both are read.

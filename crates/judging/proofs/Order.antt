@@ -1,16 +1,13 @@
 -- The two texts by the order of 01: one too long, one refused at a line, both read; then the course.
 -- Assumes nothing.
 use Prim.Native.Nat.{ℕ, _-_, _<_, _≤_, zero-le}
-use mathlib.Core.List.{List, [], _∷_}
-use mathlib.Core.Path.{_≡_, refl, sym, subst}
+use mathlib.Core.List.{List}
+use mathlib.Core.Path.{_≡_, refl, sym, subst, _∙_}
 use mathlib.Core.Logic.{by-cases, ⊎-elim}
 use native.Mathlib.Omega.{arith}
 use native.Mathlib.Decide.{ℕ-discrete, decLt}
 use borrow.Author.Tests.{le-leb, lt-leb, leb-true, ne-eqb}
 use lib.ListN.{length, length-take}
-use types.Run.{OneOf}
-use denote.Enum.Declared.{tagOf}
-use Rattle.judging.proofs.pairs.Outcome.{the-type}
 use Rattle.forms.proofs.Tests.{and-left}
 use Rattle.model.specs.declared.Tables.{Tables}
 use Rattle.model.specs.declared.Program.{Program}
@@ -28,7 +25,8 @@ use Rattle.reading.proofs.Rests.{StopsAt}
 use Rattle.reading.proofs.Lawful.{sheet-stops, answer-stops, answers-are-lawful}
 use Rattle.rules.specs.Walk.{walkAnswer}
 use Rattle.rules.proofs.Numbers.{WalkNumbers, walk-numbers}
-use Rattle.runs.specs.Whole.{Whole, outcome, whole}
+use Rattle.runs.specs.declared.Place.{Place}
+use Rattle.runs.specs.Whole.{Whole, outcome, whole, beside}
 use Rattle.sheets.specs.Sheet.{sheetRead}
 use Rattle.answers.specs.Answer.{answerRead}
 use Rattle.judged.specs.Course.{Course, faulty, reached, goOn, _>>=_, _>>_, short, read, defaultDepth, both, course}
@@ -41,7 +39,7 @@ use Rattle.walks.specs.Fits.{PortsFit, LawfulPortsFit}
 use Rattle.walks.proofs.Fits.{lawful-ports-fit}
 use Rattle.judging.specs.declared.pairs.Outcome.{Outcome}
 use Rattle.judging.specs.declared.pairs.Outcome.the-variants.{InSheet, InAnswer, Reached}
-use Rattle.judging.specs.Came.{seen, outcomeOf, came, kept, Comes, reportIn}
+use Rattle.judging.specs.Came.{answered, outcomeOf, came, reportIn}
 use Rattle.judging.specs.Room.{Short}
 
 -- ---- the length of a text
@@ -102,12 +100,12 @@ module _ {A B C : Type 0} (m : Lines A) (next : A → Lines B) (pair : A → B �
   -- of what the readers answered, r and y
   module _ (none : A) (nil : B) {r : Whole A} {y : Whole B} (is : r ≡ whole none m s) (also : y ≡ whole nil (next (r .value)) a)
       (stops : (n : ℕ) (t : List ℕ) → m s ≡ stop n t → StopsAt s n t) (ends : (n : ℕ) (t : List ℕ) → next (r .value) a ≡ stop n t → StopsAt a n t) where
-    came-to : (o : Outcome) → outcomeOf (seen s r) (seen a y) ≡ o → came o (pair (r .value) (y .value)) ≡ inOrder → Told s a (came o (pair (r .value) (y .value)))
-        → (came (outcomeOf (seen s r) (seen a y)) (pair (r .value) (y .value)) ≡ inOrder) × Told s a inOrder
+    came-to : (o : Outcome) → outcomeOf (length s) (answered r) (length a) (answered y) ≡ o → came o (pair (r .value) (y .value)) ≡ inOrder → Told s a (came o (pair (r .value) (y .value)))
+        → (came (outcomeOf (length s) (answered r) (length a) (answered y)) (pair (r .value) (y .value)) ≡ inOrder) × Told s a inOrder
     came-to o e h t = (rw e h, subst (Told s a) h t)
 
     -- the course is that of their outcome, and a fault lies in its text
-    pub in-order : (came (outcomeOf (seen s r) (seen a y)) (pair (r .value) (y .value)) ≡ inOrder) × Told s a inOrder
+    pub in-order : (came (outcomeOf (length s) (answered r) (length a) (answered y)) (pair (r .value) (y .value)) ≡ inOrder) × Told s a inOrder
     unfolding outcomeOf
     in-order =
         by-cases (decLt 32768 (length s)) (λ h. came-to (InSheet 1 0) (rw (lt-leb (length s) 32768 h)) (rw (long text.Sheet s h)) (in-sheet zero-le)) (λ h.
@@ -126,22 +124,22 @@ module _ {A B C : Type 0} (m : Lines A) (next : A → Lines B) (pair : A → B �
 module _ (s a : List ℕ) where
   -- of what the two readers answered
   both-comes : {r : Whole (Tables × Program)} {y : Whole Answer} → r ≡ sheetRead s → y ≡ answerRead a
-      → (came (outcomeOf (seen s r) (seen a y)) (r .value .0, r .value .1, y .value) ≡ both s a) × Told s a (both s a)
+      → (came (outcomeOf (length s) (answered r) (length a) (answered y)) (r .value .0, r .value .1, y .value) ≡ both s a) × Told s a (both s a)
   unfolding both
   both-comes is also = in-order sheet (λ _. answer) (λ x y. (x .0, x .1, y)) s a (noTables, noProgram) noAnswer is also (sheet-stops s) (answer-stops a)
 
   pub both-told : Told s a (both s a)
   both-told = both-comes {r = sheetRead s} {y = answerRead a} refl refl .1
 
-  -- what is kept of them
-  pub kept-comes : (o : Outcome) {r : Whole (Tables × Program)} {y : Whole Answer} → r ≡ sheetRead s → y ≡ answerRead a → o ≡ outcomeOf (seen s r) (seen a y)
-      → Comes o (kept o (r .value .0, r .value .1, y .value)) (both s a)
-  kept-comes o is also e = go o _ (rw e (both-comes is also .0))
-    where
-      go : (o : Outcome) (x : Tables × Program × Answer) → came o x ≡ both s a → Comes o (kept o x) (both s a)
-      go (InSheet n at) x h = record { same = h; beside = refl }
-      go (InAnswer n at) x h = record { same = h; beside = refl }
-      go Reached x h = record { same = h; beside = tt }
+  -- an outcome, of what the sheet's reader answered beside x
+  pub outcome-told : {o : Outcome} {r : Place} (z : Place) {x : Tables × Program} → o ≡ outcomeOf (length s) r (length a) z → beside r x ≡ sheetRead s
+      → (o ≡ outcomeOf (length s) (answered (sheetRead s)) (length a) z) × (x ≡ sheetRead s .value)
+  outcome-told z e is = (e ∙ (λ i. outcomeOf (length s) (answered (is i)) (length a) z), λ i. is i .value)
+
+  -- and of what was read into words
+  pub outcome-comes : {o : Outcome} {x : Tables × Program} {z : Place} {y : Answer} → o ≡ outcomeOf (length s) (answered (sheetRead s)) (length a) z
+      → x ≡ sheetRead s .value → beside z y ≡ answerRead a → came o (x .0, x .1, y) ≡ both s a
+  outcome-comes {y} e is also = (λ i. came (e i) (is i .0, is i .1, y)) ∙ both-comes refl also .0
 
   -- the ports that a program names fit where its sheet is read
   pub ports-fit : (t : Tables) (p : Program) (y : Answer) → reached (t, p, y) ≡ both s a → PortsFit p
@@ -174,12 +172,6 @@ small-number s a w e = ⊎-elim (λ z. omega arith) (λ z. omega arith) (walked-
 
 pub reached-short : (s a : List ℕ) (w : Passed) (ws : List ℕ) → reached (walked w (stateIn ws)) ≡ course s a → Short w (reportIn w ws)
 reached-short s a w ws e = record { few = omega (arith, read-fits s a _ (sym e) .0); small = small-number s a _ (sym e) }
-
--- a pair that is not read: 0 and 1 are the tags of InSheet and InAnswer
-pub refused-kept : (o : Outcome) → OneOf (0 ∷ 1 ∷ []) (tagOf the-type o) → (x : Tables × Program × Answer) → kept o x ≡ (noTables, noProgram, noAnswer)
-refused-kept (InSheet n at) h x = refl
-refused-kept (InAnswer n at) h x = refl
-refused-kept Reached h x = absurd (⊎-elim (λ z. omega (arith, z)) (λ z. omega (arith, z)) h)
 
 pub told-then : {A B : Type 0} {s a : List ℕ} {m : Course A} (f : A → B) → Told s a m → Told s a (goOn m (λ x. reached (f x)))
 told-then f (in-sheet h) = in-sheet h

@@ -6,7 +6,7 @@ use judged::LENT_BYTES;
 use judged::Place;
 use judged::Verdict;
 use judging::pairs::Outcome;
-use judging::pairs::read_both;
+use judging::pairs::read_sheet;
 use judging::parts::part_at;
 use judging::parts::part_of;
 use model::Concerned;
@@ -104,10 +104,11 @@ fn course(sheet: &[u8], answer: &[u8], times: &[u8], state: &mut StateWords) -> 
     ensures { λ r. ⌜ came (r .outcome) (r .walk) (stateIn (now (state .exit)))
         ≡ timedCourse (now (sheet .entry)) (now (answer .entry)) (now (times .entry)) ⌝ }
 {
+    let mut steps = [0u32; 3073];
+    let given = answers::fill_answer(answer, &mut steps);
     let mut tables = [0u32; 2002];
     let mut program = [0u32; 1281];
-    let mut steps = [0u32; 3073];
-    let outcome = read_both(sheet, answer, &mut tables, &mut program, &mut steps);
+    let outcome = read_sheet(sheet, answer, given, &mut tables, &mut program);
     match outcome {
         Outcome::InSheet(n, at) => at_fault(TimedOutcome::InSheet(n, at)),
         Outcome::InAnswer(n, at) => at_fault(TimedOutcome::InAnswer(n, at)),
