@@ -8,7 +8,7 @@ use mathlib.Core.Path.{_≡_, refl, _∙_}
 use lib.Dec.{ltb, leb·suc-suc}
 use lib.ListN.{drop}
 use borrow.Author.Tests.{ltb-true}
-use Rattle.forms.proofs.Tests.{by-test, and-right}
+use Rattle.forms.proofs.Tests.{and-left, and-right}
 use Rattle.forms.specs.Reader.{Reply, Reader, got, refused, readOn, give, check, noLine, bytes}
 use Rattle.forms.specs.Read.{key, upon, oneForm, twoForm}
 use Rattle.texts.specs.Reads.{past, refusal, Reads}
@@ -19,7 +19,7 @@ use Rattle.texts.specs.declared.numbers.Numbers.the-variants as numbers
 use Rattle.texts.specs.Within.{four, numbersSays, numbersWithin}
 use Rattle.texts.proofs.Limits.{form-fault, limit-kept, verb-here}
 use Rattle.texts.proofs.Shapes.{bind-same}
-use Rattle.texts.proofs.Within.{one-within, two-within}
+use Rattle.texts.proofs.Within.{one-within, two-within, got-within}
 use Rattle.aeolus_model.specs.Model.{Universe, placeOf}
 use Rattle.aeolus_reading.specs.Limits.{nameOk, numberOk, stateOk, aboveOk, clausesOk}
 use Rattle.aeolus_reading.specs.Kinds.{interfaceName, interfaceLine, rowPort, rowLine}
@@ -63,15 +63,7 @@ module _ (u : Universe) (k : ℕ) where
 
 -- the number of a row is at most 64
 pub row-few : (t : List ℕ) {s : List ℕ} {x : Four} {i : ℕ} → Reads s (past x i) (numbersWithin 5 (limits.Two 256 65) t) → x .second ≤ 64
-unfolding numbersWithin
-row-few t {s} {x} {i} h = by (twoForm 5 t) (h .same)
-  where
-    by : (y : Reply (ℕ × ℕ)) → got x (drop i s) ≡ readOn y (λ (a, b) r. readOn (check (ltb a 256 && ltb b 65) 3 r) (λ _. give (four a b 0 0))) → x .second ≤ 64
-    by (refused n) e = let z : _≡_ {A = ℕ} 0 1 = cc in absurd (omega arith)
-    by (got (a, b) r) e =
-        by-test (ltb a 256 && ltb b 65)
-        (λ w. let g = rw w at e in let z : x .second ≡ b = cc in omega (arith, ltb-true b 65 (and-right (ltb a 256) (ltb b 65) w)))
-        (λ w. let g = rw w at e in let z : _≡_ {A = ℕ} 0 1 = cc in absurd (omega arith))
+row-few t {x = x} h = omega (arith, ltb-true (x .second) 65 (and-left (ltb (x .second) 65) _ (and-right (ltb (x .first) 256) _ (got-within 5 (limits.Two 256 65) t h))))
 
 pub state-numbers : (n : ℕ) (s t : List ℕ) (r : Numbers) → Reads s (numbersSays r) (numbersWithin 5 (limits.One n) t)
     → Reads s (lineSays kind.Initial r) (readOn (oneForm 5 t) (λ a q. readOn (check (stateOk n a) 3 q) (λ _. give a)))

@@ -63,16 +63,6 @@ fn got(first: u32, second: u32, third: u32, used: usize) -> Numbers
     Numbers::Got(numbers, used)
 }
 
-// The number of a line's refusal, 0 where the line was read.
-pub(crate) fn line_refusal(line: Numbers) -> u8
-    ensures { λ r. ⌜ r ≡ refusal (numbersSays line) ⌝ }
-{
-    match line {
-        Numbers::Got(_, _) => 0,
-        Numbers::Refused(k) => k,
-    }
-}
-
 // `initial=`: a state of type k.
 fn initial_line(s: &[u8], k: u32, universe: &Universe) -> Numbers
     ensures { λ r. ⌜ Reads (now (s .entry)) (lineSays Initial r) (lineOf Initial k 0 (universeIn (now (universe .entry))) (now (s .entry))) ⌝ }

@@ -1,7 +1,6 @@
 // The lines of the types, each put into what was read so far.
 use crate::kinds::Kind;
 use crate::kinds::kind_line;
-use crate::kinds::line_refusal;
 use aeolus_model::Universe;
 use lines::Went;
 use runs::LinesRead;
@@ -93,7 +92,7 @@ fn then_line(
     let at = texts::place_in(text, read.at);
     let line = kind_line(&text[at..], kind, k, j, universe);
     let Numbers::Got(numbers, used) = line else {
-        let refused = line_refusal(line);
+        let refused = texts::numbers::refusal(line);
         let went = Went::Stop(refused);
         return LinesRead { went, at };
     };

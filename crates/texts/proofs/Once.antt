@@ -10,12 +10,9 @@ use Rattle.forms.proofs.Laws.{not-got, got-value, got-rest}
 use Rattle.texts.specs.Reads.{Outcome, past, fault, Reads, NoOther}
 use Rattle.texts.specs.Within.{numbersSays}
 use Rattle.texts.specs.declared.numbers.Numbers.the-variants as numbers
-use Rattle.texts.specs.Says.{dueSays, numberSays, twoSays, threeSays, fourSays, listSays, listsSays}
+use Rattle.texts.specs.Says.{dueSays, numberSays, listSays, listsSays}
 use Rattle.texts.specs.declared.Due.the-variants as due
 use Rattle.texts.specs.declared.Number.the-variants as number
-use Rattle.texts.specs.declared.TwoNumbers.the-variants as two
-use Rattle.texts.specs.declared.ThreeNumbers.the-variants as three
-use Rattle.texts.specs.declared.FourNumbers.the-variants as four
 use Rattle.texts.specs.declared.OneList.the-variants as list
 use Rattle.texts.specs.declared.TwoLists.the-variants as lists
 
@@ -47,21 +44,6 @@ due-once = no-other dueSays (elim [ past a n ↦ due.Past n | fault k ↦ due.Ot
 
 pub number-once : NoOther numberSays
 number-once = no-other numberSays (elim [ past a n ↦ number.Got a n | fault k ↦ number.Fault ]) (elim [ number.Got a n ↦ refl | number.Fault ↦ refl ])
-
-pub two-once : NoOther twoSays
-two-once = no-other twoSays (elim [ past a n ↦ two.Got (a .0) (a .1) n | fault k ↦ two.Fault ]) (elim [ two.Got a b n ↦ refl | two.Fault ↦ refl ])
-
-pub three-once : NoOther threeSays
-three-once =
-    no-other threeSays
-    (elim [ past a n ↦ three.Got (a .0) (a .1) (a .2) n | fault k ↦ three.Fault ])
-    (elim [ three.Got a b c n ↦ refl | three.Fault ↦ refl ])
-
-pub four-once : NoOther fourSays
-four-once =
-    no-other fourSays
-    (elim [ past a n ↦ four.Got (a .0) (a .1) (a .2) (a .3) n | fault k ↦ four.Fault ])
-    (elim [ four.Got a b c d n ↦ refl | four.Fault ↦ refl ])
 
 pub list-once : NoOther listSays
 list-once =

@@ -5,7 +5,7 @@ use mathlib.Core.List.{List}
 use mathlib.Core.Path.{_≡_, refl, sym, ap, _∙_}
 use lib.ListN.{drop}
 use Rattle.forms.specs.Reader.{Reply, Reader, got, refused, readOn, byte, give, _>>=_}
-use Rattle.forms.specs.Read.{key, number, list, oneForm, twoForm, threeForm, fourForm, listForm, listsForm}
+use Rattle.forms.specs.Read.{key, list, listForm, listsForm}
 use Rattle.texts.specs.Reads.{Outcome, past, fault, Reads}
 use Rattle.texts.specs.Keyed.{keyed}
 
@@ -58,27 +58,8 @@ module _ {A B : Type 0} (k : List ℕ) (m : Reader A) (f : A → Reader B) {s : 
   unfolding keyed
   keyed-fault h = sym (bind-bind (key k s) (λ _. m) f) ∙ ap (λ x. readOn x f) (sym (h .same))
 
--- ---- the shapes
+-- ---- the shape of two lists
 module _ (d : ℕ) (s : List ℕ) where
-  pub two-is : twoForm d s ≡ joined (λ a b. (a, b)) (number d (byte ",")) (oneForm d) s
-  unfolding twoForm oneForm joined
-  two-is = refl
-
   pub sets-is : listsForm d s ≡ joined (λ a b. (a, b)) (list d (byte ",")) (listForm d) s
   unfolding listsForm listForm joined
   sets-is = refl
-
-  pub three-is : threeForm d s ≡ joined (λ a (b, c). (a, b, c)) (number d (byte ",")) (twoForm d) s
-  unfolding threeForm twoForm joined
-  three-is =
-      bind-same (number d (byte ",") s) _ _ (λ a r.
-      sym (bind-bind (number d (byte ",") r) _ _ ∙ bind-same (number d (byte ",") r) _ _ (λ b q. bind-bind (number d (byte "\n") q) _ _)))
-
-  pub four-is : fourForm d s ≡ joined (λ a (b, c, e). (a, b, c, e)) (number d (byte ",")) (threeForm d) s
-  unfolding fourForm threeForm joined
-  four-is =
-      bind-same (number d (byte ",") s) _ _ (λ a r.
-      sym
-      (bind-bind (number d (byte ",") r) _ _
-      ∙ bind-same (number d (byte ",") r) _ _ (λ b q.
-      bind-bind (number d (byte ",") q) _ _ ∙ bind-same (number d (byte ",") q) _ _ (λ c p. bind-bind (number d (byte "\n") p) _ _))))

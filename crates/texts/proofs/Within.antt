@@ -7,7 +7,9 @@ use mathlib.Core.Path.{_≡_, refl, sym, ap, _∙_}
 use native.Mathlib.Omega.{arith}
 use lib.Dec.{ltb, lit<, lit≤}
 use lib.ListN.{length, drop, set, replicate, length-set}
-use Rattle.forms.specs.Reader.{Reply, Reader, got, refused, readOn, check, byte}
+use Rattle.forms.specs.Reader.{Reply, Reader, got, refused, readOn, check, give, byte}
+use Rattle.forms.proofs.Tests.{by-test}
+use Rattle.forms.proofs.Laws.{not-got, got-value}
 use Rattle.forms.specs.Read.{number, oneForm, twoForm, threeForm, fourForm}
 use Rattle.texts.specs.declared.numbers.Four.{Four}
 use Rattle.texts.specs.declared.numbers.Limits.{Limits}
@@ -104,6 +106,15 @@ module _ (d at : ℕ) (h : Held) (s l : List ℕ) (next k left : ℕ) (g : Left 
 
 pub held-reads : (d : ℕ) (l : Limits) (t : List ℕ) {s : List ℕ} {h : Held} {o : Outcome Four} → h ≡ heldBy l → Reads s o (numbersHeld d h t) → Reads s o (numbersWithin d l t)
 held-reads d l t e r = rw (held-is d l t) at (rw e at r)
+
+-- what was read is within its limits
+pub got-within : (d : ℕ) (l : Limits) (t : List ℕ) {s : List ℕ} {x : Four} {i : ℕ} → Reads s (past x i) (numbersWithin d l t) → within x (heldBy l) ≡ true
+unfolding numbersHeld
+got-within d l t {s} {x} {i} h = by (numbersFrom d (heldBy l .count) 0 (replicate 4 0) t) (h .same ∙ sym (held-is d l t))
+  where
+    by : (y : Reply (List ℕ)) → got x (drop i s) ≡ readOn y (λ q r. readOn (check (within (fourOf q) (heldBy l)) 3 r) (λ _. give (fourOf q))) → within x (heldBy l) ≡ true
+    by (refused n) e = absurd (not-got (sym e))
+    by (got q r) e = by-test (within (fourOf q) (heldBy l)) (λ w. rw (got-value (rw w at e)) w) (λ w. absurd (not-got (sym (rw w at e))))
 
 -- then f, by the limits' own tests
 module _ {B : Type 0} (d : ℕ) (f : Four → Reader B) (s : List ℕ) where

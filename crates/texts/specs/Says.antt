@@ -9,12 +9,6 @@ use Rattle.texts.specs.declared.Due.{Due}
 use Rattle.texts.specs.declared.Due.the-variants as due
 use Rattle.texts.specs.declared.Number.{Number}
 use Rattle.texts.specs.declared.Number.the-variants as number
-use Rattle.texts.specs.declared.TwoNumbers.{TwoNumbers}
-use Rattle.texts.specs.declared.TwoNumbers.the-variants as two
-use Rattle.texts.specs.declared.ThreeNumbers.{ThreeNumbers}
-use Rattle.texts.specs.declared.ThreeNumbers.the-variants as three
-use Rattle.texts.specs.declared.FourNumbers.{FourNumbers}
-use Rattle.texts.specs.declared.FourNumbers.the-variants as four
 use Rattle.texts.specs.declared.OneList.{OneList}
 use Rattle.texts.specs.declared.OneList.the-variants as list
 use Rattle.texts.specs.declared.TwoLists.{TwoLists}
@@ -32,18 +26,6 @@ dueSays due.Other = fault badForm
 abbrev pub numberSays : Number → Outcome ℕ
 numberSays (number.Got a n) = past a n
 numberSays number.Fault = fault badForm
-
-abbrev pub twoSays : TwoNumbers → Outcome (ℕ × ℕ)
-twoSays (two.Got a b n) = past (a, b) n
-twoSays two.Fault = fault badForm
-
-abbrev pub threeSays : ThreeNumbers → Outcome (ℕ × ℕ × ℕ)
-threeSays (three.Got a b c n) = past (a, b, c) n
-threeSays three.Fault = fault badForm
-
-abbrev pub fourSays : FourNumbers → Outcome (ℕ × ℕ × ℕ × ℕ)
-fourSays (four.Got a b c d n) = past (a, b, c, d) n
-fourSays four.Fault = fault badForm
 
 abbrev pub listSays : OneList → Outcome Set
 listSays (list.Got m t n) = past (record { mask = m; top = t }) n

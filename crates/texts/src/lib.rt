@@ -5,9 +5,9 @@ pub mod numbers;
 ghost use mathlib.Core.Path.{_≡_};
 ghost use Prim.Native.Nat.{min};
 ghost use lib.ListN.{length, drop};
-ghost use Rattle.forms.specs.Read.{key, number, list, membersFrom, oneForm, twoForm, threeForm, fourForm, listForm, listsForm};
+ghost use Rattle.forms.specs.Read.{key, number, list, membersFrom, oneForm, listForm, listsForm};
 ghost use Rattle.texts.specs.Reads.{Reads};
-ghost use Rattle.texts.specs.Says.{most, dueSays, numberSays, twoSays, threeSays, fourSays, listSays, listsSays};
+ghost use Rattle.texts.specs.Says.{most, dueSays, numberSays, listSays, listsSays};
 ghost use Rattle.texts.specs.Keyed.{keyed};
 ghost use Rattle.texts.specs.Turn.{Small, TakesDigit, TakesMember, Turns};
 
@@ -23,24 +23,9 @@ pub enum Due {
     Other,
 }
 
-// One to four numbers, and the place past the byte that ends them.
+// A number, and the place past the byte that ends it.
 pub enum Number {
     Got(u32, usize),
-    Fault,
-}
-
-pub enum TwoNumbers {
-    Got(u32, u32, usize),
-    Fault,
-}
-
-pub enum ThreeNumbers {
-    Got(u32, u32, u32, usize),
-    Fault,
-}
-
-pub enum FourNumbers {
-    Got(u32, u32, u32, u32, usize),
     Fault,
 }
 
@@ -270,47 +255,11 @@ fn list_then(s: &[u8], at: usize, end: u8, digits: Digits) -> OneList
     OneList::Got(0, 0, next)
 }
 
-// What stands between the key and the line's end: one to four numbers, a list, two lists.
+// What stands between the key and the line's end: a number, a list, two lists; more numbers: module numbers.
 pub fn one_number(s: &[u8], at: usize, digits: Digits) -> Number
     ensures { λ r. ⌜ Reads (now (s .entry)) (numberSays r) (oneForm (most digits) (drop at (now (s .entry)))) ⌝ }
 {
     number_then(s, at, b'\n', digits)
-}
-
-pub fn two_numbers(s: &[u8], at: usize, digits: Digits) -> TwoNumbers
-    ensures { λ r. ⌜ Reads (now (s .entry)) (twoSays r) (twoForm (most digits) (drop at (now (s .entry)))) ⌝ }
-{
-    let Number::Got(a, i) = number_then(s, at, b',', digits) else {
-        return TwoNumbers::Fault;
-    };
-    let Number::Got(b, next) = one_number(s, i, digits) else {
-        return TwoNumbers::Fault;
-    };
-    TwoNumbers::Got(a, b, next)
-}
-
-pub fn three_numbers(s: &[u8], at: usize, digits: Digits) -> ThreeNumbers
-    ensures { λ r. ⌜ Reads (now (s .entry)) (threeSays r) (threeForm (most digits) (drop at (now (s .entry)))) ⌝ }
-{
-    let Number::Got(a, i) = number_then(s, at, b',', digits) else {
-        return ThreeNumbers::Fault;
-    };
-    let TwoNumbers::Got(b, c, next) = two_numbers(s, i, digits) else {
-        return ThreeNumbers::Fault;
-    };
-    ThreeNumbers::Got(a, b, c, next)
-}
-
-pub fn four_numbers(s: &[u8], at: usize, digits: Digits) -> FourNumbers
-    ensures { λ r. ⌜ Reads (now (s .entry)) (fourSays r) (fourForm (most digits) (drop at (now (s .entry)))) ⌝ }
-{
-    let Number::Got(a, i) = number_then(s, at, b',', digits) else {
-        return FourNumbers::Fault;
-    };
-    let ThreeNumbers::Got(b, c, d, next) = three_numbers(s, i, digits) else {
-        return FourNumbers::Fault;
-    };
-    FourNumbers::Got(a, b, c, d, next)
 }
 
 fn one_list(s: &[u8], at: usize, digits: Digits) -> OneList
@@ -331,7 +280,7 @@ pub fn two_lists(s: &[u8], at: usize, digits: Digits) -> TwoLists
     TwoLists::Got(first, first_top, second, second_top, next)
 }
 
-// A line of a key and a number, two numbers, a list. Where a verb follows the key, past_key tells it, and the rest is read from there.
+// A line of a key and a number, a list. Where a verb follows the key, past_key tells it, and the rest is read from there.
 pub fn number_line(s: &[u8], key: &[u8], digits: Digits) -> Number
     ensures { λ r. ⌜ Reads (now (s .entry)) (numberSays r) (keyed (now (key .entry)) (oneForm (most digits)) (now (s .entry))) ⌝ }
 {
@@ -339,15 +288,6 @@ pub fn number_line(s: &[u8], key: &[u8], digits: Digits) -> Number
         return Number::Fault;
     };
     one_number(s, i, digits)
-}
-
-pub fn two_numbers_line(s: &[u8], key: &[u8], digits: Digits) -> TwoNumbers
-    ensures { λ r. ⌜ Reads (now (s .entry)) (twoSays r) (keyed (now (key .entry)) (twoForm (most digits)) (now (s .entry))) ⌝ }
-{
-    let Due::Past(i) = past_key(s, 0, key) else {
-        return TwoNumbers::Fault;
-    };
-    two_numbers(s, i, digits)
 }
 
 pub fn list_line(s: &[u8], key: &[u8], digits: Digits) -> OneList

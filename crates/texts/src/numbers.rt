@@ -6,7 +6,7 @@ use forms::BAD_FORM;
 use forms::BEYOND_LIMIT;
 ghost use mathlib.Core.Path.{_≡_};
 ghost use lib.ListN.{drop};
-ghost use Rattle.texts.specs.Reads.{Reads};
+ghost use Rattle.texts.specs.Reads.{Reads, refusal};
 ghost use Rattle.texts.specs.Says.{most};
 ghost use Rattle.texts.specs.Within.{numbersSays, numbersWithin, heldBy, endOf, within};
 
@@ -105,4 +105,14 @@ fn within(four: Four, held: Held) -> bool
 {
     let ends = (four.third < held.third) & (four.fourth < held.fourth);
     (four.first < held.first) & ((four.second < held.second) & ends)
+}
+
+// The number of a line's refusal, 0 where the line was read.
+pub fn refusal(line: Numbers) -> u8
+    ensures { λ r. ⌜ r ≡ refusal (numbersSays line) ⌝ }
+{
+    match line {
+        Numbers::Got(_, _) => 0,
+        Numbers::Refused(k) => k,
+    }
 }

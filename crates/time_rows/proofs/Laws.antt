@@ -2,14 +2,24 @@
 -- Assumes nothing.
 use Prim.Native.Nat.{ℕ, _+_, zero-le, _<_, _≤_}
 use mathlib.Core.List.{List}
-use mathlib.Core.Bool.{true, false, _&&_}
+use mathlib.Core.Bool.{true, false, not}
 use mathlib.Core.Path.{_≡_, refl, sym, ap, _∙_}
 use lib.ListN.{replicate, length, drop}
 use native.Mathlib.Nat.{add-zero}
-use borrow.Author.Tests.{lt-leb, le-leb}
-use Rattle.forms.specs.Reader.{bytes}
-use Rattle.forms.specs.Read.{key, threeForm}
+use borrow.Author.Tests.{lt-leb, le-leb, ltb-true}
+use lib.Dec.{ltb, leb·suc-suc}
+use Rattle.forms.specs.Refusal.{badClause}
+use Rattle.forms.specs.Reader.{Reader, bytes, readOn, _>>=_, _>>_, give, check}
+use Rattle.forms.specs.Read.{key}
+use Rattle.forms.proofs.Tests.{and-left, and-right}
 use Rattle.texts.specs.Reads.{past, fault, Reads}
+use Rattle.texts.specs.declared.numbers.Four.{Four}
+use Rattle.texts.specs.declared.numbers.Limits.{Limits}
+use Rattle.texts.specs.declared.numbers.Limits.the-variants as limits
+use Rattle.texts.specs.Within.{numbersWithin}
+use Rattle.texts.proofs.Shapes.{bind-same}
+use Rattle.texts.proofs.Limits.{form-fault, form-then, limit-fault, limit-kept}
+use Rattle.texts.proofs.Within.{three-within, got-within}
 use Rattle.reading.specs.Limits.{idOk, transitionOk}
 use Rattle.reading.specs.Lines.{Run, atEnd, each}
 use Rattle.reading.specs.Kinds.{dueLine, countLineIn}
@@ -32,10 +42,21 @@ use Rattle.time_rows.specs.Onward.{fromRows}
 use Rattle.time_rows.specs.Says.{filled, lineWent, lineUsed, rowsWent, ReadsTo}
 use Rattle.time_rows.specs.Times.{refusedTimes, rowsAnswer, timesRead}
 
-in-limits : (id x n : ℕ) → id ≤ 31 → x ≤ 31 → n ≤ 86400 → (idOk id && (transitionOk x && secondsOk n)) ≡ true
-in-limits id x n h l g = rw (le-leb id 31 h, le-leb x 31 l, le-leb n 86400 g)
+-- ---- a row: its key, its three numbers within their limits, and whether the pair is listed
+abbrev pub dayLimits : Limits
+dayLimits = limits.Three 32 32 86401
 
--- ---- a row, where the key stands or not, then its three numbers, then its tests
+listing : Times → Four → Reader (ℕ × ℕ × ℕ)
+listing ts n = do
+  check (not (isListed ts (n .first) (n .second))) badClause
+  give (n .first, n .second, n .third)
+
+line-is : (ts : Times) (s : List ℕ) → timeLine ts s ≡ readOn (key (bytes "time=") s) (λ _ r. readOn (numbersWithin 7 dayLimits r) (listing ts))
+unfolding timeLine listing
+line-is ts s =
+    bind-same (key (bytes "time=") s) _ _ (λ u r.
+    three-within 7 (listing ts) r 32 32 86401 idOk transitionOk secondsOk (λ a. leb·suc-suc a 31) (λ b. leb·suc-suc b 31) (λ c. leb·suc-suc c 86400))
+
 module _ (s : List ℕ) (ts : Times) (j : ℕ) {b : Times} where
   -- what the line gives is what the row does
   line-fault : {k : ℕ} → Reads s (fault k) (timeLine ts s) → RunsTo s (Stop k) 0 b (time j ts s)
@@ -43,29 +64,28 @@ module _ (s : List ℕ) (ts : Times) (j : ℕ) {b : Times} where
   line-fault h = line-refused (timeLine ts s) s _ zero-le refl h
 
   pub no-key : {k : ℕ} → Reads s (fault k) (key (bytes "time=") s) → RunsTo s (Stop k) 0 b (time j ts s)
-  unfolding timeLine
-  no-key h = line-fault (record { within = zero-le; same = sym (rw (sym (h .same), timeLine)) })
+  no-key h = line-fault (rw (line-is ts s) (form-fault _ _ h))
 
   module _ {i : ℕ} (d : Reads s (past tt i) (key (bytes "time=") s)) where
-    pub no-numbers : {k : ℕ} → Reads s (fault k) (threeForm 7 (drop i s)) → RunsTo s (Stop k) 0 b (time j ts s)
-    unfolding timeLine
-    no-numbers h = line-fault (record { within = zero-le; same = sym (rw (sym (d .same), sym (h .same), timeLine)) })
+    pub no-numbers : {k : ℕ} → Reads s (fault k) (numbersWithin 7 dayLimits (drop i s)) → RunsTo s (Stop k) 0 b (time j ts s)
+    no-numbers h = line-fault (rw (line-is ts s) (form-then _ _ d (form-fault _ _ h)))
 
-    module _ {id x n to : ℕ} (h : Reads s (past (id, x, n) to) (threeForm 7 (drop i s))) where
-      pub over-limit : (idOk id && (transitionOk x && secondsOk n)) ≡ false → RunsTo s (Stop 3) 0 b (time j ts s)
-      unfolding timeLine
-      over-limit e = line-fault (record { within = zero-le; same = sym (rw (sym (d .same), sym (h .same), e, timeLine)) })
+    module _ {n : Four} {to : ℕ} (h : Reads s (past n to) (numbersWithin 7 dayLimits (drop i s))) where
+      pub listed-twice : isListed ts (n .first) (n .second) ≡ true → RunsTo s (Stop 4) 0 b (time j ts s)
+      unfolding listing
+      listed-twice e = line-fault (rw (line-is ts s) (form-then _ _ d (limit-fault _ _ h (rw e))))
 
-      module _ (f : id ≤ 31) (l : x ≤ 31) (g : n ≤ 86400) where
-        pub listed-twice : isListed ts id x ≡ true → RunsTo s (Stop 4) 0 b (time j ts s)
-        unfolding timeLine
-        listed-twice e = line-fault (record { within = zero-le; same = sym (rw (sym (d .same), sym (h .same), in-limits id x n f l g, e, timeLine)) })
+      pub listed-now : isListed ts (n .first) (n .second) ≡ false → withTime ts (n .first) (n .second) (n .third) ≡ b → RunsTo s On to b (time j ts s)
+      unfolding time listing
+      listed-now e q =
+          let r : Reads s (past (n .first, n .second, n .third) to) (timeLine ts s) = rw (line-is ts s) (form-then _ _ d (limit-kept _ _ h (rw e))) in
+          line-then (timeLine ts s) s _ r (went-on (h .within) (rw q))
 
-        pub listed-now : isListed ts id x ≡ false → withTime ts id x n ≡ b → RunsTo s On to b (time j ts s)
-        unfolding time timeLine
-        listed-now e q =
-            let r : Reads s (past (id, x, n) to) (timeLine ts s) = record { within = h .within; same = sym (rw (sym (d .same), sym (h .same), in-limits id x n f l g, e, timeLine)) } in
-            line-then (timeLine ts s) s _ r (went-on (h .within) (rw q))
+-- the id and the transition that were read, each below 32
+pub pair-few : (s : List ℕ) (i : ℕ) {to : ℕ} {n : Four} → Reads s (past n to) (numbersWithin 7 dayLimits (drop i s)) → (n .first < 32) × (n .second < 32)
+pair-few s i {n = n} h =
+    let e = got-within 7 dayLimits (drop i s) h in
+    (ltb-true (n .first) 32 (and-left (ltb (n .first) 32) _ e), ltb-true (n .second) 32 (and-left (ltb (n .second) 32) _ (and-right (ltb (n .first) 32) _ e)))
 
 -- the row at the place at, by the line r that was read there
 module _ (s : List ℕ) (at : ℕ) (l : at ≤ length s) (ts : Times) (j : ℕ) {b : Times} {r : TimeLine} (h : RunsTo (part s at) (lineWent r) (lineUsed r) b (time j ts (part s at))) where

@@ -2,13 +2,15 @@
 // Promised: for every text `read_times` answers the one number, place and times that `timesRead` gives of it.
 use forms::BAD_CLAUSE;
 use forms::BAD_FORM;
-use forms::BEYOND_LIMIT;
 use lines::LONGEST;
 use lines::Line;
 use lines::Went;
 use texts::Digits;
 use texts::Due;
-use texts::ThreeNumbers;
+use texts::numbers::Limits;
+use texts::numbers::Numbers;
+use texts::numbers::numbers_within;
+use texts::numbers::refusal;
 use times::Times;
 ghost use mathlib.Core.Path.{_≡_};
 ghost use Prim.Native.Nat.{ℕ};
@@ -47,25 +49,16 @@ fn time_line(s: &[u8], listed: &mut [u8; 1024], seconds: &mut [u32; 1024]) -> Ti
     let Due::Past(i) = texts::past_key(s, 0, b"time=") else {
         return TimeLine::Refused(BAD_FORM);
     };
-    let ThreeNumbers::Got(id, transition, n, used) = texts::three_numbers(s, i, Digits::Seven)
-    else {
-        return TimeLine::Refused(BAD_FORM);
+    let line = numbers_within(s, i, Digits::Seven, Limits::Three(32, 32, 86401));
+    let Numbers::Got(n, used) = line else {
+        return TimeLine::Refused(refusal(line));
     };
-    if 31 < id {
-        return TimeLine::Refused(BEYOND_LIMIT);
-    }
-    if 31 < transition {
-        return TimeLine::Refused(BEYOND_LIMIT);
-    }
-    if 86400 < n {
-        return TimeLine::Refused(BEYOND_LIMIT);
-    }
-    let slot = (id * 32 + transition) as usize;
+    let slot = (n.first * 32 + n.second) as usize;
     if listed[slot] == 1 {
         return TimeLine::Refused(BAD_CLAUSE);
     }
     listed[slot] = 1;
-    seconds[slot] = n;
+    seconds[slot] = n.third;
     TimeLine::Got(used)
 }
 

@@ -1,7 +1,9 @@
 // The words and the room that a case lends: those of the tables, of the program, of an answer, then the room, and 1 where an answer is to be written.
 use model::mask_at;
 use texts::Digits;
-use texts::ThreeNumbers;
+use texts::numbers::Limits;
+use texts::numbers::Numbers;
+use texts::numbers::numbers_within;
 use words::put_word;
 ghost use Prim.Native.Nat.{_≤_};
 
@@ -15,14 +17,11 @@ pub(crate) fn read_words(text: &[u8], all: &mut [u32; 6358]) {
     let mut at: usize = 0;
     let mut turns: usize = 0;
     while turns < 8000 {
-        let ThreeNumbers::Got(place, high, low, next) = texts::three_numbers(
-            text,
-            at,
-            Digits::Seven,
-        ) else {
+        let line = numbers_within(text, at, Digits::Seven, Limits::Three(6358, 65536, 65536));
+        let Numbers::Got(n, next) = line else {
             return;
         };
-        put_word(all, place as usize, word_of(high, low));
+        put_word(all, n.first as usize, word_of(n.second, n.third));
         at = next;
         turns += 1;
     }

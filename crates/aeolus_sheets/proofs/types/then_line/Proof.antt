@@ -16,7 +16,7 @@ returns-2 c =
     let u = universeIn (a .universe .now) in
     after-went (c .before .before .before .before .before .before .before .enum-told .given .1)
     (put-refused (lineSays (a .kind)) (lineOf (a .kind) (a .k) (a .j) u) (putIn (a .kind) (a .k) (a .j) u) _ _ _ (c .before .before .before .before .before .before .place-in .ensures) _ (c .before .before .before .kind-line .ensures)
-    (c .before .enum-told3 .given .1) refl (c .line-refusal .ensures ∙ same-refusal (a .kind) (c .before .before .before .kind-line .result)))
+    (c .before .enum-told3 .given .1) refl (c .refusal .ensures ∙ same-refusal (a .kind) (c .before .before .before .kind-line .result)))
 
 returns-3 : tie.Need-returns-3
 unfolding lineAt
