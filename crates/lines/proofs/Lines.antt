@@ -16,8 +16,9 @@ use Rattle.texts.specs.Reads.{Outcome, past, fault, Reads}
 use Rattle.texts.proofs.Laws.{from-end, told}
 use Rattle.lines.specs.declared.Limit.{Limit}
 use Rattle.lines.specs.declared.Limit.the-variants as limit
+use Rattle.lines.specs.declared.Range.{Range}
 use Rattle.lines.specs.declared.Line.{Line}
-use Rattle.lines.specs.Counts.{limitOk, least, greatest, inRange, CountsIn, Counts}
+use Rattle.lines.specs.Counts.{limitOk, rangeOf, inRange, CountsIn, Counts}
 
 -- ---- a line read at the part of s from start on
 -- the outcome's place, counted from the text's start
@@ -55,7 +56,7 @@ module _ {A R : Type 0} (says : R → Outcome A) (m : Reader A) (s : List ℕ) (
 from-none : (b a : ℕ) → leb a b ≡ inRange 0 b a
 from-none b a = rw (leb·zero a)
 
-limit-is : (l : Limit) (a : ℕ) → limitOk l a ≡ inRange (least l) (greatest l) a
+limit-is : (l : Limit) (a : ℕ) → limitOk l a ≡ inRange (rangeOf l .0) (rangeOf l .1) a
 limit-is limit.Depth a = from-none 8 a
 limit-is limit.Types a = refl
 limit-is limit.Places a = refl
@@ -69,9 +70,9 @@ limit-is limit.Steps a = from-none 1024 a
 pub count-to : (d b : ℕ) (k s : List ℕ) → countLineIn d k (λ a. leb a b) s ≡ countLineIn d k (inRange 0 b) s
 count-to d b k s = ap (λ (f : ℕ → Bool). countLineIn d k f s) (fun-ext (from-none b))
 
-pub count-limit : (l : Limit) (k t : List ℕ) {s : List ℕ} {a b : ℕ} {r : Line} → a ≡ least l → b ≡ greatest l
-    → CountsIn s a b r (countLineIn fiveDigits k (inRange a b) t) → Counts s l r (countLine k (limitOk l) t)
-count-limit l k t e f h = rw (fun-ext (limit-is l)) (rw (e, f) at h)
+pub count-limit : (l : Limit) (k t : List ℕ) {s : List ℕ} {x : Range} {r : Line} → x ≡ rangeOf l
+    → CountsIn s (x .0) (x .1) r (countLineIn fiveDigits k (inRange (x .0) (x .1)) t) → Counts s l r (countLine k (limitOk l) t)
+count-limit l k t e h = rw (fun-ext (limit-is l)) (rw e at h)
 
 -- ---- the end of the text
 module _ (s : List ℕ) (at : ℕ) where

@@ -8,6 +8,7 @@ use Rattle.reading.specs.Limits.{depthOk, typesOk, placesOk, transitionsOk, beh
 use Rattle.texts.specs.Reads.{Outcome, past, fault, Reads}
 use Rattle.lines.specs.declared.Limit.{Limit}
 use Rattle.lines.specs.declared.Limit.the-variants as limit
+use Rattle.lines.specs.declared.Range.{Range}
 use Rattle.lines.specs.declared.Line.{Line}
 use Rattle.lines.specs.declared.Line.the-variants as line
 
@@ -22,25 +23,18 @@ limitOk limit.Ports = portsOk
 limitOk limit.Program = programOk
 limitOk limit.Steps = stepsOk
 
-abbrev pub least : Limit → ℕ
-least limit.Depth = 0
-least limit.Types = 1
-least limit.Places = 1
-least limit.Transitions = 0
-least limit.Behaviors = 0
-least limit.Ports = 0
-least limit.Program = 0
-least limit.Steps = 0
+abbrev pub rangeOf : Limit → Range
+rangeOf limit.Depth = record { 0 = 0; 1 = 8 }
+rangeOf limit.Types = record { 0 = 1; 1 = 16 }
+rangeOf limit.Places = record { 0 = 1; 1 = 16 }
+rangeOf limit.Transitions = record { 0 = 0; 1 = 32 }
+rangeOf limit.Behaviors = record { 0 = 0; 1 = 8 }
+rangeOf limit.Ports = record { 0 = 0; 1 = 16 }
+rangeOf limit.Program = record { 0 = 0; 1 = 256 }
+rangeOf limit.Steps = record { 0 = 0; 1 = 1024 }
 
 abbrev pub greatest : Limit → ℕ
-greatest limit.Depth = 8
-greatest limit.Types = 16
-greatest limit.Places = 16
-greatest limit.Transitions = 32
-greatest limit.Behaviors = 8
-greatest limit.Ports = 16
-greatest limit.Program = 256
-greatest limit.Steps = 1024
+greatest l = rangeOf l .1
 
 -- a number from a to b
 abbrev pub inRange : ℕ → ℕ → ℕ → Bool
@@ -61,4 +55,4 @@ pub record CountsIn (s : List ℕ) (a b : ℕ) (r : Line) (m : Reply ℕ) : Type
 
 -- the same for a count with a limit's name
 abbrev pub Counts : List ℕ → Limit → Line → Reply ℕ → Type 0
-Counts s l r m = CountsIn s (least l) (greatest l) r m
+Counts s l r m = CountsIn s (rangeOf l .0) (greatest l) r m

@@ -13,7 +13,7 @@ ghost use Rattle.texts.specs.Says.{most, dueSays};
 ghost use Rattle.reading.specs.Kinds.{dueLine, countLineIn, countLine};
 ghost use Rattle.reading.specs.Lines.{atEnd};
 ghost use Rattle.reading.specs.Place.{upToLf, lineNumber, lineStart};
-ghost use Rattle.lines.specs.Counts.{lineSays, limitOk, least, greatest, inRange, CountsIn, Counts};
+ghost use Rattle.lines.specs.Counts.{lineSays, limitOk, rangeOf, inRange, CountsIn, Counts};
 ghost use Rattle.lines.specs.Runs.{run, refusalOf};
 
 // "Each text has at most 32,768 bytes."
@@ -30,6 +30,9 @@ pub enum Limit {
     Program,
     Steps,
 }
+
+// The least number and the greatest.
+struct Range(u32, u32);
 
 // The one number of a line, or its list as a set, and the place past the line; or the number of the refusal.
 pub enum Line {
@@ -56,33 +59,19 @@ fn due_line(s: &[u8], key: &[u8], number: u32) -> Due
     Due::Past(used)
 }
 
-fn least(limit: Limit) -> u32
-    ensures { λ r. ⌜ r ≡ least limit ⌝ }
+// The numbers that a limit lies between.
+fn range_of(limit: Limit) -> Range
+    ensures { λ r. ⌜ r ≡ rangeOf limit ⌝ }
 {
     match limit {
-        Limit::Depth => 0,
-        Limit::Types => 1,
-        Limit::Places => 1,
-        Limit::Transitions => 0,
-        Limit::Behaviors => 0,
-        Limit::Ports => 0,
-        Limit::Program => 0,
-        Limit::Steps => 0,
-    }
-}
-
-fn greatest(limit: Limit) -> u32
-    ensures { λ r. ⌜ r ≡ greatest limit ⌝ }
-{
-    match limit {
-        Limit::Depth => 8,
-        Limit::Types => 16,
-        Limit::Places => 16,
-        Limit::Transitions => 32,
-        Limit::Behaviors => 8,
-        Limit::Ports => 16,
-        Limit::Program => 256,
-        Limit::Steps => 1024,
+        Limit::Depth => Range(0, 8),
+        Limit::Types => Range(1, 16),
+        Limit::Places => Range(1, 16),
+        Limit::Transitions => Range(0, 32),
+        Limit::Behaviors => Range(0, 8),
+        Limit::Ports => Range(0, 16),
+        Limit::Program => Range(0, 256),
+        Limit::Steps => Range(0, 1024),
     }
 }
 
@@ -137,7 +126,8 @@ pub fn within_at(
 pub fn count_at(text: &[u8], at: usize, key: &[u8], limit: Limit) -> Line
     ensures { λ r. ⌜ Counts (now (text .entry)) limit r (countLine (now (key .entry)) (limitOk limit) (drop at (now (text .entry)))) ⌝ }
 {
-    within_at(text, at, key, Digits::Five, least(limit), greatest(limit))
+    let range = range_of(limit);
+    within_at(text, at, key, Digits::Five, range.0, range.1)
 }
 
 // The number of a line's refusal, 0 where the line was read; and of a run's, 0 where it went on.

@@ -8,11 +8,7 @@ use words::TableWords;
 use words::answer::step_id;
 use words::answer::step_number;
 use words::answer::step_verb;
-use words::program::instruction_id;
-use words::program::instruction_number;
-use words::program::instruction_provideport;
-use words::program::instruction_provider;
-use words::program::instruction_verb;
+use words::program::instruction;
 use words::tables::behavior_of;
 use words::tables::behaviors_of;
 use words::tables::destination;
@@ -99,12 +95,8 @@ pub(crate) fn row_at(tables: &TableWords, rows: Rows, i: u32, x: u32) -> Row
 pub(crate) fn instruction_at(program: &ProgramWords, j: u32) -> Said
     ensures { λ r. ⌜ asInstruction r ≡ instructionRow (programIn (now (program .entry))) j ⌝ }
 {
-    let verb = instruction_verb(program, j);
-    let id = instruction_id(program, j);
-    let number = instruction_number(program, j);
-    let provider = instruction_provider(program, j);
-    let provideport = instruction_provideport(program, j);
-    Said(verb, id, number, provider, provideport)
+    let x = instruction(program, j);
+    Said(x.verb, x.id, x.number, x.provider, x.provideport)
 }
 
 // Step j.

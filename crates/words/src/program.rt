@@ -22,43 +22,14 @@ pub struct InstructionWords {
 pub fn instruction(program: &ProgramWords, n: u32) -> InstructionWords
     ensures { λ r. ⌜ said r ≡ getD (programIn (now (program .entry)) .instructions) n noInstruction ⌝ }
 {
+    let row = n as usize;
     InstructionWords {
-        verb: instruction_verb(program, n),
-        id: instruction_id(program, n),
-        number: instruction_number(program, n),
-        provider: instruction_provider(program, n),
-        provideport: instruction_provideport(program, n),
+        verb: cell(program, 0, 256, 5, row, 0),
+        id: cell(program, 0, 256, 5, row, 1),
+        number: cell(program, 0, 256, 5, row, 2),
+        provider: cell(program, 0, 256, 5, row, 3),
+        provideport: cell(program, 0, 256, 5, row, 4),
     }
-}
-
-pub fn instruction_verb(program: &ProgramWords, n: u32) -> u32
-    ensures { λ r. ⌜ r ≡ getD (programIn (now (program .entry)) .instructions) n noInstruction .verb ⌝ }
-{
-    cell(program, 0, 256, 5, n as usize, 0)
-}
-
-pub fn instruction_id(program: &ProgramWords, n: u32) -> u32
-    ensures { λ r. ⌜ r ≡ getD (programIn (now (program .entry)) .instructions) n noInstruction .id ⌝ }
-{
-    cell(program, 0, 256, 5, n as usize, 1)
-}
-
-pub fn instruction_number(program: &ProgramWords, n: u32) -> u32
-    ensures { λ r. ⌜ r ≡ getD (programIn (now (program .entry)) .instructions) n noInstruction .number ⌝ }
-{
-    cell(program, 0, 256, 5, n as usize, 2)
-}
-
-pub fn instruction_provider(program: &ProgramWords, n: u32) -> u32
-    ensures { λ r. ⌜ r ≡ getD (programIn (now (program .entry)) .instructions) n noInstruction .provider ⌝ }
-{
-    cell(program, 0, 256, 5, n as usize, 3)
-}
-
-pub fn instruction_provideport(program: &ProgramWords, n: u32) -> u32
-    ensures { λ r. ⌜ r ≡ getD (programIn (now (program .entry)) .instructions) n noInstruction .provideport ⌝ }
-{
-    cell(program, 0, 256, 5, n as usize, 4)
 }
 
 pub fn instructions(program: &ProgramWords) -> u32

@@ -6,11 +6,8 @@ use Rattle.lines.proofs.count_at.Tie as tie
 
 returns : tie.Need-returns
 returns c =
-    let a = c .before .before .before .before .before .args in
-    count-limit (a .limit) (a .key .now) (drop (a .at) (a .text .now)) (c .before .before .least .ensures) (c .before .greatest .ensures) (c .within-at .ensures)
+    let a = c .before .before .before .before .args in
+    count-limit (a .limit) (a .key .now) (drop (a .at) (a .text .now)) (c .before .range-of .ensures) (c .within-at .ensures)
 
 pub count-at-spec : {M : Type 1} → statement M
-count-at-spec =
-    tie.close
-    (tie.spec
-    (λ c κs. search needs) (λ c κs. search needs) (λ c κs. search needs) returns)
+count-at-spec = tie.close (tie.spec (λ c κs. search needs) (λ c κs. search needs) returns)

@@ -3,7 +3,4 @@ use Rattle.scribes.proofs.rows.instruction_at.Statement.{statement}
 use Rattle.scribes.proofs.rows.instruction_at.Tie as tie
 
 pub instruction-at-spec : {M : Type 1} → statement M
-instruction-at-spec =
-    tie.close
-    (tie.spec (λ c κs. search needs) (λ c κs. search needs) (λ c κs. search needs) (λ c κs. search needs) (λ c κs. search needs)
-    (λ c. rw (c .before .before .before .before .instruction-verb .ensures, c .before .before .before .instruction-id .ensures, c .before .before .instruction-number .ensures, c .before .instruction-provider .ensures, c .instruction-provideport .ensures)))
+instruction-at-spec = tie.close (tie.spec (λ c κs. search needs) (λ c. c .instruction .ensures))
