@@ -5,7 +5,7 @@ import sys
 
 here = os.path.dirname(os.path.abspath(__file__))
 sys.dont_write_bytecode = True
-sys.path.insert(0, os.path.join(here, "..", "cases"))
+sys.path.insert(0, os.path.join(here, "..", "judge_tests"))
 
 from model import judge, printed
 from pairs import pairs

@@ -10,7 +10,7 @@ use lib.Dec.{ltb}
 use borrow.Author.Tests.{lt-ltb, le-ltb}
 use Rattle.sets.specs.Test.{anyBelow}
 use Rattle.sets.proofs.Laws.{any-hit, any-none}
-use Rattle.forms.proofs.Tests.{by-test}
+use Rattle.item_spec.proofs.Tests.{by-test}
 use Rattle.aeolus_model.specs.Model.{find}
 
 module _ (p : ℕ → Bool) where

@@ -6,7 +6,7 @@ use mathlib.Core.List.{List, [], _∷_}
 use Prim.Native.Nat.{ℕ, zero, suc, _+_, _<_}
 use native.Mathlib.Nat.{zero-add}
 use native.Mathlib.Numerals.{one-add}
-use Rattle.forms.proofs.Tests.{by-test}
+use Rattle.item_spec.proofs.Tests.{by-test}
 use Rattle.model.specs.declared.Tables.{Tables}
 use Rattle.model.specs.declared.Program.{Program}
 use Rattle.model.specs.declared.Step.{Step}
@@ -14,14 +14,14 @@ use Rattle.model.specs.declared.Configuration.{Configuration}
 use Rattle.model.specs.declared.Walked.{Walked}
 use Rattle.model.specs.Empty.{start}
 use Rattle.model.specs.View.{withDone}
-use Rattle.rules.specs.Action.{Action, add, del, pushb, con, dcon, wait, fire, end, enter, finish, moveAction}
-use Rattle.rules.specs.Step.{isNext, actionAt, action, stepCheck, stepTo}
-use Rattle.rules.specs.Walk.{oneMore, walk}
-use Rattle.rules.specs.Proper.{Proper}
-use Rattle.rules.proofs.Tables.{Facts, facts}
-use Rattle.rules.proofs.Local.{Wires, wires, rewired, wiringOf, change, touches, changes, part-wires, rest-after}
-use Rattle.rules.proofs.Walks.{walk-unnamed, walk-on, allowed-head, allowed-tail, number-facts, after-cases, after-done}
-use Rattle.rules.proofs.Proper.{step-lawfully, step-proper, start-proper, proper-from}
+use Rattle.rules_spec.specs.Action.{Action, add, del, pushb, con, dcon, wait, fire, end, enter, finish, moveAction}
+use Rattle.rules_spec.specs.Step.{isNext, actionAt, action, stepCheck, stepTo}
+use Rattle.rules_spec.specs.Walk.{oneMore, walk}
+use Rattle.rules_spec.specs.Proper.{Proper}
+use Rattle.rules_spec.proofs.Tables.{Facts, facts}
+use Rattle.rules_spec.proofs.Local.{Wires, wires, rewired, wiringOf, change, touches, changes, part-wires, rest-after}
+use Rattle.rules_spec.proofs.Walks.{walk-unnamed, walk-on, allowed-head, allowed-tail, number-facts, after-cases, after-done}
+use Rattle.rules_spec.proofs.Proper.{step-lawfully, step-proper, start-proper, proper-from}
 use Rattle.demands.specs.Agree.{names, deeds, naming, ReportsAgree}
 use Rattle.demands.proofs.Parts.{Part, part, acted, part-after, whole}
 use Rattle.demands.proofs.Moves.{isMove, line-no-move, move-is-move, move-changes}

@@ -10,7 +10,7 @@ use native.Mathlib.Decide.{ℕ-discrete}
 use lib.Dec.{eqb}
 use borrow.Author.Tests.{eqb-true, eq-eqb}
 use Rattle.sets.proofs.Laws.{any-same}
-use Rattle.forms.proofs.Tests.{by-test}
+use Rattle.item_spec.proofs.Tests.{by-test}
 use Rattle.model.specs.declared.Tables.{Tables}
 use Rattle.model.specs.declared.Program.{Program}
 use Rattle.model.specs.declared.Step.{Step}
@@ -20,23 +20,23 @@ use Rattle.model.specs.declared.Configuration.{Configuration}
 use Rattle.model.specs.declared.Walked.{Walked}
 use Rattle.model.specs.Empty.{start}
 use Rattle.model.specs.View.{instance, isServed, connection, queueHead}
-use Rattle.rules.specs.Refusal.{orNumber}
-use Rattle.rules.specs.Instance.{portsOf, current, leaving, entering, fired, entered}
-use Rattle.rules.specs.Standing.{standing, inTable, someConnection}
-use Rattle.rules.specs.Ports.{isOf, serves, blocks, employs, failsUnconnected, failsUnserved, failsRefusing, failsInUse, portCheck}
-use Rattle.rules.specs.Fire.{fireRow, fireCheck}
-use Rattle.rules.specs.End.{endCheck}
-use Rattle.rules.specs.Enter.{enterRow, enterCheck}
-use Rattle.rules.specs.Finish.{finishRow, finishCheck}
-use Rattle.rules.specs.Action.{Action, add, del, pushb, con, dcon, wait, fire, end, enter, finish, moveAction, actionCheck, effect}
-use Rattle.rules.specs.Step.{isNext, stepTo, checkAt}
-use Rattle.rules.specs.Walk.{oneMore, walk}
-use Rattle.rules.specs.Proper.{Proper}
-use Rattle.rules.proofs.Tables.{Facts, facts}
-use Rattle.rules.proofs.Local.{Wires, wires, change, changes, owner, ownerOf, at-owner, Room, changes-one, part-wires, rest-after, instance-other, slot-other}
-use Rattle.rules.proofs.Walks.{walk-on, allowed-head, allowed-tail}
-use Rattle.rules.proofs.Connections.{Joined, joined-none}
-use Rattle.rules.proofs.Proper.{Lawfully, room, action-proper, step-proper, start-proper}
+use Rattle.rules_spec.specs.Refusal.{orNumber}
+use Rattle.rules_spec.specs.Instance.{portsOf, current, leaving, entering, fired, entered}
+use Rattle.rules_spec.specs.Standing.{standing, inTable, someConnection}
+use Rattle.rules_spec.specs.Ports.{isOf, serves, blocks, employs, failsUnconnected, failsUnserved, failsRefusing, failsInUse, portCheck}
+use Rattle.rules_spec.specs.Fire.{fireRow, fireCheck}
+use Rattle.rules_spec.specs.End.{endCheck}
+use Rattle.rules_spec.specs.Enter.{enterRow, enterCheck}
+use Rattle.rules_spec.specs.Finish.{finishRow, finishCheck}
+use Rattle.rules_spec.specs.Action.{Action, add, del, pushb, con, dcon, wait, fire, end, enter, finish, moveAction, actionCheck, effect}
+use Rattle.rules_spec.specs.Step.{isNext, stepTo, checkAt}
+use Rattle.rules_spec.specs.Walk.{oneMore, walk}
+use Rattle.rules_spec.specs.Proper.{Proper}
+use Rattle.rules_spec.proofs.Tables.{Facts, facts}
+use Rattle.rules_spec.proofs.Local.{Wires, wires, change, changes, owner, ownerOf, at-owner, Room, changes-one, part-wires, rest-after, instance-other, slot-other}
+use Rattle.rules_spec.proofs.Walks.{walk-on, allowed-head, allowed-tail}
+use Rattle.rules_spec.proofs.Connections.{Joined, joined-none}
+use Rattle.rules_spec.proofs.Proper.{Lawfully, room, action-proper, step-proper, start-proper}
 use Rattle.demands.specs.Exchange.{between, MovesExchange}
 use Rattle.demands.proofs.Moves.{isMove, move-is-move, move-changes, move-number, move-after}
 use Rattle.demands.proofs.Parts.{Part, part, acted, part-after, whole}

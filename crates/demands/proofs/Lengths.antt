@@ -7,20 +7,20 @@ use Prim.Native.Nat.{ℕ, _+_}
 use native.Mathlib.Omega.{arith}
 use lib.Dec.{eqb}
 use lib.ListN.{length, getD, length-append}
-use Rattle.forms.specs.Reader.{bytes}
-use Rattle.forms.specs.Write.{inTurn, oneText, twoText}
+use Rattle.item_spec.specs.Reader.{bytes}
+use Rattle.item_spec.specs.Write.{inTurn, oneText, twoText}
 use Rattle.model.specs.declared.Program.{Program}
 use Rattle.model.specs.declared.Step.{Step}
 use Rattle.model.specs.Empty.{noInstruction}
 use Rattle.model.specs.Verb.{nextVerb, fireVerb, endVerb, enterVerb, finishVerb}
-use Rattle.reading.specs.Limits.{idOk, placeOk, transitionOk}
-use Rattle.rules.specs.Action.{Action, add, del, pushb, con, dcon, wait, fire, end, enter, finish, moveAction}
-use Rattle.rules.specs.Step.{isNext, actionAt}
-use Rattle.rules.proofs.Actions.{instruction-cases}
-use Rattle.writing.specs.Kinds.{limitFault, stepText, stepFault}
-use Rattle.writing.specs.Texts.{answerText, ofSteps}
-use Rattle.writing.specs.Steps.{SaidStep, Every}
-use Rattle.writing.proofs.Steps.{linesOf, lines-cons, text-length}
+use Rattle.read_spec.specs.Limits.{idOk, placeOk, transitionOk}
+use Rattle.rules_spec.specs.Action.{Action, add, del, pushb, con, dcon, wait, fire, end, enter, finish, moveAction}
+use Rattle.rules_spec.specs.Step.{isNext, actionAt}
+use Rattle.rules_spec.proofs.Actions.{instruction-cases}
+use Rattle.write_spec.specs.Kinds.{limitFault, stepText, stepFault}
+use Rattle.write_spec.specs.Texts.{answerText, ofSteps}
+use Rattle.write_spec.specs.Steps.{SaidStep, Every}
+use Rattle.write_spec.proofs.Steps.{linesOf, lines-cons, text-length}
 use Rattle.demands.specs.Agree.{deeds, naming}
 use Rattle.demands.proofs.Traces.{tally, same-tally}
 use Rattle.demands.proofs.Agree.{same-count}

@@ -11,10 +11,10 @@ use Rattle.model.specs.declared.Program.{Program}
 use Rattle.model.specs.declared.Step.{Step}
 use Rattle.model.specs.declared.Configuration.{Configuration}
 use Rattle.model.specs.Empty.{noInstruction}
-use Rattle.rules.specs.Action.{Action, add, del, pushb, con, dcon, wait, fire, end, enter, finish, moveAction, effect}
-use Rattle.rules.specs.Step.{isNext, actionAt, action, stepCheckWith, stepCheck, stepTo, checkAt}
-use Rattle.rules.proofs.Actions.{instruction-cases, move-cases, kindOf}
-use Rattle.rules.proofs.Local.{change, touches, changes}
+use Rattle.rules_spec.specs.Action.{Action, add, del, pushb, con, dcon, wait, fire, end, enter, finish, moveAction, effect}
+use Rattle.rules_spec.specs.Step.{isNext, actionAt, action, stepCheckWith, stepCheck, stepTo, checkAt}
+use Rattle.rules_spec.proofs.Actions.{instruction-cases, move-cases, kindOf}
+use Rattle.rules_spec.proofs.Local.{change, touches, changes}
 
 unfoldable pub isMove : Action → Bool
 isMove a = leb 6 (kindOf a)

@@ -7,33 +7,33 @@ use native.Mathlib.Omega.{arith}
 use lib.Dec.{leb}
 use lib.ListN.{length, length-append}
 use borrow.Author.Tests.{le-leb, eq-eqb}
-use Rattle.forms.proofs.Tests.{by-test}
+use Rattle.item_spec.proofs.Tests.{by-test}
 use Rattle.model.specs.declared.Walked.{Walked}
 use Rattle.model.specs.declared.Text.{Text}
 use Rattle.model.specs.declared.Text.the-variants as text
 use Rattle.model.specs.declared.Step.{Step}
 use Rattle.model.specs.declared.Answer.{Answer}
 use Rattle.model.specs.View.{stepsOf}
-use Rattle.reading.specs.Limits.{lengthOk}
-use Rattle.reading.specs.Lines.{Run, on, stop}
-use Rattle.reading.specs.Texts.{answer}
-use Rattle.reading.specs.Lawful.{Lawful, SheetsAreLawful}
-use Rattle.reading.proofs.Lawful.{sheets-are-lawful}
-use Rattle.rules.specs.Walk.{walkAnswer}
-use Rattle.report.specs.Report.{report}
-use Rattle.judged.specs.Course.{Course, faulty, reached, defaultDepth, short, read, both, course}
-use Rattle.judged.specs.Judged.{afterFault, afterWalk, stepPlace, inRoom, ending, judged, printing, printed}
-use Rattle.judged.specs.Room.{ReportsFit}
-use Rattle.judged.proofs.Read.{both-read, fault-numbered}
-use Rattle.judged.proofs.Room.{reports-fit}
+use Rattle.read_spec.specs.Limits.{lengthOk}
+use Rattle.read_spec.specs.Lines.{Run, on, stop}
+use Rattle.read_spec.specs.Texts.{answer}
+use Rattle.read_spec.specs.Lawful.{Lawful, SheetsAreLawful}
+use Rattle.read_spec.proofs.Lawful.{sheets-are-lawful}
+use Rattle.rules_spec.specs.Walk.{walkAnswer}
+use Rattle.report_spec.specs.Report.{report}
+use Rattle.judge_spec.specs.Course.{Course, faulty, reached, defaultDepth, short, read, both, course}
+use Rattle.judge_spec.specs.Judged.{afterFault, afterWalk, stepPlace, inRoom, ending, judged, printing, printed}
+use Rattle.judge_spec.specs.Room.{ReportsFit}
+use Rattle.judge_spec.proofs.Read.{both-read, fault-numbered}
+use Rattle.judge_spec.proofs.Room.{reports-fit}
 use Rattle.demands.specs.OnTexts.{sheetTables, sheetProgram, answerSteps, BothRead, AllAllowed, walkOn, upTo, ReachedIsTheWalk, SafeOnTexts, QueuesOnTexts, SameReports, ReportsAgreeOnTexts, Exchanged, exchangedSteps, exchangedText, MovesExchangeOnTexts}
 use Rattle.demands.specs.Safe.{WalksAreSafe}
 use Rattle.demands.specs.Queues.{QueuesAreKept}
 use Rattle.demands.specs.Exchange.{MovesExchange}
 use Rattle.demands.specs.Agree.{ReportsAgree}
-use Rattle.writing.specs.Texts.{answerText, ofSteps}
-use Rattle.writing.specs.Steps.{SaidSteps, StepsHaveTheirText, AnswersAreTheirTexts}
-use Rattle.writing.proofs.Steps.{answers-are-their-texts, steps-have-their-text, exchanged-length, said-exchanged}
+use Rattle.write_spec.specs.Texts.{answerText, ofSteps}
+use Rattle.write_spec.specs.Steps.{SaidSteps, StepsHaveTheirText, AnswersAreTheirTexts}
+use Rattle.write_spec.proofs.Steps.{answers-are-their-texts, steps-have-their-text, exchanged-length, said-exchanged}
 use Rattle.demands.proofs.Lengths.{same-text-length}
 use Rattle.demands.proofs.Safe.{walks-are-safe}
 use Rattle.demands.proofs.Queues.{queues-are-kept}

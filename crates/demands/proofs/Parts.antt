@@ -9,19 +9,19 @@ use native.Mathlib.Omega.{arith}
 use lib.Dec.{eqb, ltb}
 use lib.ListN.{getD}
 use borrow.Author.Tests.{ltb-true}
-use Rattle.forms.proofs.Tests.{by-test}
+use Rattle.item_spec.proofs.Tests.{by-test}
 use Rattle.model.specs.declared.Tables.{Tables}
 use Rattle.model.specs.declared.Instance.{Instance}
 use Rattle.model.specs.declared.Configuration.{Configuration}
 use Rattle.model.specs.View.{instance, slot, listOf}
 use Rattle.model.proofs.View.{list-same, list-at, same-instances, same-queues, same-fields}
-use Rattle.rules.specs.Action.{Action, effect}
-use Rattle.rules.specs.Step.{checkAt}
-use Rattle.rules.specs.Proper.{Proper}
+use Rattle.rules_spec.specs.Action.{Action, effect}
+use Rattle.rules_spec.specs.Step.{checkAt}
+use Rattle.rules_spec.specs.Proper.{Proper}
 use Rattle.model.specs.declared.Program.{Program}
-use Rattle.rules.proofs.Tables.{Facts}
-use Rattle.rules.proofs.Local.{Turn, stays, cleared, shifted, appended, wires, change, changes, ownInstance, turn, turnedSlot, ownSlot, Fits, Room, room-own, instance-own, instance-other, slot-own, slot-other}
-use Rattle.rules.proofs.Proper.{Lawfully, room}
+use Rattle.rules_spec.proofs.Tables.{Facts}
+use Rattle.rules_spec.proofs.Local.{Turn, stays, cleared, shifted, appended, wires, change, changes, ownInstance, turn, turnedSlot, ownSlot, Fits, Room, room-own, instance-own, instance-other, slot-own, slot-other}
+use Rattle.rules_spec.proofs.Proper.{Lawfully, room}
 
 pub record Part : Type 0 where
   pub self : Instance

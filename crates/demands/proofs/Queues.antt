@@ -6,7 +6,7 @@ use mathlib.Core.List.{List, [], _∷_, _++_, append-assoc}
 use Prim.Native.Nat.{ℕ, suc, _-_, _≤_, _<_}
 use native.Mathlib.Omega.{arith}
 use borrow.Author.Tests.{eq-eqb, ne-eqb, lt-ltb}
-use Rattle.forms.proofs.Tests.{by-test}
+use Rattle.item_spec.proofs.Tests.{by-test}
 use Rattle.model.specs.declared.Tables.{Tables}
 use Rattle.model.specs.declared.Program.{Program}
 use Rattle.model.specs.declared.Step.{Step}
@@ -15,16 +15,16 @@ use Rattle.model.specs.declared.Configuration.{Configuration}
 use Rattle.model.specs.Empty.{start}
 use Rattle.model.specs.View.{instance, slot, queueHead, listOf, queueOf, withDone}
 use Rattle.model.proofs.View.{list-same, list-snoc, list-head, start-instance}
-use Rattle.rules.specs.Instance.{fired, endedBy, entered, withQueued}
-use Rattle.rules.specs.Action.{Action, add, del, pushb, con, dcon, wait, fire, end, enter, finish, actionCheck, effect}
-use Rattle.rules.specs.Step.{action, stepCheck, stepTo, checkAt}
-use Rattle.rules.specs.Walk.{oneMore, besideBy, walk}
-use Rattle.rules.specs.Proper.{Proper}
-use Rattle.rules.proofs.Tables.{Facts, facts}
-use Rattle.rules.proofs.Local.{shifted, appended, change, touches, changes, owner, ownerOf, at-owner, self, ownInstance, turn, turnedSlot, ownSlot, Fits, Room, room-own, instance-own, instance-other, slot-own, slot-other}
-use Rattle.rules.proofs.Allowed.{del-facts}
-use Rattle.rules.proofs.Walks.{step-on, step-stop, walk-cases, number-facts, after-cases}
-use Rattle.rules.proofs.Proper.{Lawfully, room, step-lawfully, step-proper, start-proper}
+use Rattle.rules_spec.specs.Instance.{fired, endedBy, entered, withQueued}
+use Rattle.rules_spec.specs.Action.{Action, add, del, pushb, con, dcon, wait, fire, end, enter, finish, actionCheck, effect}
+use Rattle.rules_spec.specs.Step.{action, stepCheck, stepTo, checkAt}
+use Rattle.rules_spec.specs.Walk.{oneMore, besideBy, walk}
+use Rattle.rules_spec.specs.Proper.{Proper}
+use Rattle.rules_spec.proofs.Tables.{Facts, facts}
+use Rattle.rules_spec.proofs.Local.{shifted, appended, change, touches, changes, owner, ownerOf, at-owner, self, ownInstance, turn, turnedSlot, ownSlot, Fits, Room, room-own, instance-own, instance-other, slot-own, slot-other}
+use Rattle.rules_spec.proofs.Allowed.{del-facts}
+use Rattle.rules_spec.proofs.Walks.{step-on, step-stop, walk-cases, number-facts, after-cases}
+use Rattle.rules_spec.proofs.Proper.{Lawfully, room, step-lawfully, step-proper, start-proper}
 use Rattle.demands.specs.Queues.{Story, nothing, morePushed, moreFinished, tell, story, QueuesAreKept}
 
 -- ---- a queue of any elements: n of them queued, in the slots s

@@ -9,7 +9,7 @@ use lib.Dec.{eqb}
 use borrow.Author.Tests.{eqb-true, eqb-false, eq-eqb}
 use Rattle.sets.specs.Test.{anyBelow}
 use Rattle.sets.specs.Mask.{member, collect}
-use Rattle.forms.proofs.Tests.{by-test}
+use Rattle.item_spec.proofs.Tests.{by-test}
 use Rattle.model.specs.declared.Tables.{Tables}
 use Rattle.model.specs.declared.Program.{Program}
 use Rattle.model.specs.declared.Step.{Step}
@@ -19,24 +19,24 @@ use Rattle.model.specs.declared.Configuration.{Configuration}
 use Rattle.model.specs.Empty.{start}
 use Rattle.model.specs.View.{isUse, instance, queueHead, withServers, withDone}
 use Rattle.model.proofs.View.{start-instance}
-use Rattle.rules.specs.Instance.{active, portsOf, fired, endedBy, entered, withQueued}
-use Rattle.rules.specs.Standing.{standing, someConnection}
-use Rattle.rules.specs.Ports.{serves, employs, portCheck}
-use Rattle.rules.specs.Add.{fresh}
-use Rattle.rules.specs.Del.{namedBy}
-use Rattle.rules.specs.Con.{connected}
-use Rattle.rules.specs.DCon.{disconnected}
-use Rattle.rules.specs.Action.{Action, add, del, pushb, con, dcon, wait, fire, end, enter, finish, actionCheck, effect}
-use Rattle.rules.specs.Step.{action, stepCheck, stepTo, checkAt}
-use Rattle.rules.specs.Walk.{walk}
-use Rattle.rules.specs.Proper.{Joins, Proper}
-use Rattle.rules.proofs.Masks.{neither, end-active}
-use Rattle.rules.proofs.Tables.{Facts, facts}
-use Rattle.rules.proofs.Local.{Wiring, kept, made, cut, Wires, wires, rewired, wiringOf, change, touches, changes, owner, ownerOf, at-owner, self, ownInstance, part-wires, changes-one, instance-own, instance-other, rest-after}
-use Rattle.rules.proofs.Allowed.{add-facts, del-facts, pushb-facts, fire-facts, enter-facts, end-facts, finish-facts, served, unused, present-in}
-use Rattle.rules.proofs.Walks.{walk-keeps, number-facts, after-cases}
-use Rattle.rules.proofs.Connections.{Stands, Joined, some-joined, joined-some, joined-none, con-keeps, same-stands, dcon-keeps, Passed, passed, joined-joins, new-joins}
-use Rattle.rules.proofs.Proper.{Lawfully, joins-small, step-lawfully, step-proper, start-proper}
+use Rattle.rules_spec.specs.Instance.{active, portsOf, fired, endedBy, entered, withQueued}
+use Rattle.rules_spec.specs.Standing.{standing, someConnection}
+use Rattle.rules_spec.specs.Ports.{serves, employs, portCheck}
+use Rattle.rules_spec.specs.Add.{fresh}
+use Rattle.rules_spec.specs.Del.{namedBy}
+use Rattle.rules_spec.specs.Con.{connected}
+use Rattle.rules_spec.specs.DCon.{disconnected}
+use Rattle.rules_spec.specs.Action.{Action, add, del, pushb, con, dcon, wait, fire, end, enter, finish, actionCheck, effect}
+use Rattle.rules_spec.specs.Step.{action, stepCheck, stepTo, checkAt}
+use Rattle.rules_spec.specs.Walk.{walk}
+use Rattle.rules_spec.specs.Proper.{Joins, Proper}
+use Rattle.rules_spec.proofs.Masks.{neither, end-active}
+use Rattle.rules_spec.proofs.Tables.{Facts, facts}
+use Rattle.rules_spec.proofs.Local.{Wiring, kept, made, cut, Wires, wires, rewired, wiringOf, change, touches, changes, owner, ownerOf, at-owner, self, ownInstance, part-wires, changes-one, instance-own, instance-other, rest-after}
+use Rattle.rules_spec.proofs.Allowed.{add-facts, del-facts, pushb-facts, fire-facts, enter-facts, end-facts, finish-facts, served, unused, present-in}
+use Rattle.rules_spec.proofs.Walks.{walk-keeps, number-facts, after-cases}
+use Rattle.rules_spec.proofs.Connections.{Stands, Joined, some-joined, joined-some, joined-none, con-keeps, same-stands, dcon-keeps, Passed, passed, joined-joins, new-joins}
+use Rattle.rules_spec.proofs.Proper.{Lawfully, joins-small, step-lawfully, step-proper, start-proper}
 use Rattle.demands.specs.Safe.{Served, Safe, WalksAreSafe}
 
 -- the connection k joins the use port q of i to an active provide port

@@ -7,11 +7,11 @@ use mathlib.Core.List.{List, [], _∷_}
 use Prim.Native.Nat.{ℕ, suc, _+_}
 use native.Mathlib.Omega.{arith}
 use borrow.Author.Tests.{eq-eqb}
-use Rattle.forms.proofs.Tests.{by-test}
+use Rattle.item_spec.proofs.Tests.{by-test}
 use Rattle.model.specs.declared.Program.{Program}
 use Rattle.model.specs.declared.Step.{Step}
-use Rattle.rules.specs.Action.{Action, add, del, pushb, con, dcon, wait, fire, end, enter, finish, moveAction}
-use Rattle.rules.specs.Step.{isNext, actionAt}
+use Rattle.rules_spec.specs.Action.{Action, add, del, pushb, con, dcon, wait, fire, end, enter, finish, moveAction}
+use Rattle.rules_spec.specs.Step.{isNext, actionAt}
 use Rattle.demands.specs.Agree.{names, deeds, naming}
 
 -- what the actions count for together, where each counts for so much

@@ -10,10 +10,10 @@ use Rattle.model.specs.declared.Tables.{Tables}
 use Rattle.model.specs.declared.Program.{Program}
 use Rattle.model.specs.declared.Step.{Step}
 use Rattle.model.specs.Empty.{start}
-use Rattle.reading.specs.Lawful.{Lawful}
-use Rattle.rules.specs.Action.{Action, add, del, pushb, con, dcon, wait, fire, end, enter, finish, moveAction}
-use Rattle.rules.specs.Step.{isNext, actionAt}
-use Rattle.rules.specs.Walk.{walk}
+use Rattle.read_spec.specs.Lawful.{Lawful}
+use Rattle.rules_spec.specs.Action.{Action, add, del, pushb, con, dcon, wait, fire, end, enter, finish, moveAction}
+use Rattle.rules_spec.specs.Step.{isNext, actionAt}
+use Rattle.rules_spec.specs.Walk.{walk}
 use Rattle.demands.specs.Exchange.{Allowed}
 
 -- a move is of its component; an instruction names its ids, `con` and `dcon` both ends

@@ -11,10 +11,10 @@ use Rattle.model.specs.declared.Program.{Program}
 use Rattle.model.specs.declared.Step.{Step}
 use Rattle.model.specs.declared.Connection.{Connection}
 use Rattle.model.specs.Empty.{start}
-use Rattle.reading.specs.Lawful.{Lawful}
-use Rattle.rules.specs.Standing.{someConnection}
-use Rattle.rules.specs.Step.{isNext}
-use Rattle.rules.specs.Walk.{walk}
+use Rattle.read_spec.specs.Lawful.{Lawful}
+use Rattle.rules_spec.specs.Standing.{someConnection}
+use Rattle.rules_spec.specs.Step.{isNext}
+use Rattle.rules_spec.specs.Walk.{walk}
 
 -- all steps are allowed
 abbrev pub Allowed : ℕ → Tables → Program → List Step → Type 0

@@ -9,13 +9,13 @@ use Rattle.model.specs.declared.Step.{Step}
 use Rattle.model.specs.declared.Walked.{Walked}
 use Rattle.model.specs.Empty.{noTables, noProgram, start}
 use Rattle.model.specs.View.{stepsOf, queueOf}
-use Rattle.reading.specs.Lines.{on, stop}
-use Rattle.reading.specs.Texts.{sheet, answer}
-use Rattle.rules.specs.Action.{Action}
-use Rattle.rules.specs.Walk.{walk}
-use Rattle.judged.specs.Course.{reached, course, defaultDepth}
-use Rattle.judged.specs.Judged.{judged, printed, lentBytes}
-use Rattle.writing.specs.Texts.{answerText, ofSteps}
+use Rattle.read_spec.specs.Lines.{on, stop}
+use Rattle.read_spec.specs.Texts.{sheet, answer}
+use Rattle.rules_spec.specs.Action.{Action}
+use Rattle.rules_spec.specs.Walk.{walk}
+use Rattle.judge_spec.specs.Course.{reached, course, defaultDepth}
+use Rattle.judge_spec.specs.Judged.{judged, printed, lentBytes}
+use Rattle.write_spec.specs.Texts.{answerText, ofSteps}
 use Rattle.demands.specs.Safe.{Safe}
 use Rattle.demands.specs.Queues.{Story, nothing, story}
 use Rattle.demands.specs.Exchange.{Exchangeable}

@@ -11,10 +11,10 @@ use Rattle.model.specs.declared.Step.{Step}
 use Rattle.model.specs.declared.Configuration.{Configuration}
 use Rattle.model.specs.Empty.{start}
 use Rattle.model.specs.View.{queueHead, queueOf}
-use Rattle.reading.specs.Lawful.{Lawful}
-use Rattle.rules.specs.Action.{Action, add, del, pushb, con, dcon, wait, fire, end, enter, finish}
-use Rattle.rules.specs.Step.{action, step}
-use Rattle.rules.specs.Walk.{besideBy, walk}
+use Rattle.read_spec.specs.Lawful.{Lawful}
+use Rattle.rules_spec.specs.Action.{Action, add, del, pushb, con, dcon, wait, fire, end, enter, finish}
+use Rattle.rules_spec.specs.Step.{action, step}
+use Rattle.rules_spec.specs.Walk.{besideBy, walk}
 
 -- what was pushed to a component and what it finished, since it was added
 pub record Story (A : Type 0) : Type 0 where

@@ -9,10 +9,10 @@ use Rattle.model.specs.declared.Step.{Step}
 use Rattle.model.specs.declared.Configuration.{Configuration}
 use Rattle.model.specs.Empty.{start}
 use Rattle.model.specs.View.{isUse, instance, isServed, connection}
-use Rattle.reading.specs.Lawful.{Lawful}
-use Rattle.rules.specs.Instance.{active, portsOf}
-use Rattle.rules.specs.Walk.{walk}
-use Rattle.rules.specs.Proper.{Joins}
+use Rattle.read_spec.specs.Lawful.{Lawful}
+use Rattle.rules_spec.specs.Instance.{active, portsOf}
+use Rattle.rules_spec.specs.Walk.{walk}
+use Rattle.rules_spec.specs.Proper.{Joins}
 
 -- the connection in the slot `at` joins the use port q of i to a provide port, which is active
 pub record Served (t : Tables) (c : Configuration) (i q : ℕ) : Type 0 where

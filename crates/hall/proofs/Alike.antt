@@ -10,7 +10,7 @@ use native.Mathlib.Omega.{arith}
 use lib.ListN.{getD, length, length-take}
 use lib.Seq.{getD-take}
 use borrow.Author.Tests.{ne-eqb}
-use Rattle.forms.proofs.Tests.{and-right}
+use Rattle.item_spec.proofs.Tests.{and-right}
 use Rattle.sets.proofs.Laws.{all-at}
 use Rattle.model.specs.declared.Tables.{Tables}
 use Rattle.model.specs.declared.Program.{Program}
@@ -19,16 +19,16 @@ use Rattle.model.specs.declared.Answer.{Answer}
 use Rattle.model.specs.declared.Configuration.{Configuration}
 use Rattle.model.specs.Empty.{noStep, start}
 use Rattle.model.specs.View.{stepsOf}
-use Rattle.reading.specs.Limits.{stepsOk}
-use Rattle.reading.specs.Lawful.{Lawful, stepLawful, answerLawful, SheetsAreLawful, AnswersAreLawful}
-use Rattle.reading.proofs.Lawful.{sheets-are-lawful, answers-are-lawful}
-use Rattle.rules.specs.Step.{stepCheck, stepTo, step}
-use Rattle.rules.specs.Walk.{oneMore, walkBy, walk, walkAnswer}
-use Rattle.rules.specs.Proper.{Proper}
-use Rattle.rules.proofs.Walks.{step-on, step-stop}
-use Rattle.rules.proofs.Tables.{facts}
-use Rattle.rules.proofs.Proper.{start-proper, step-proper}
-use Rattle.judged.specs.Course.{defaultDepth}
+use Rattle.read_spec.specs.Limits.{stepsOk}
+use Rattle.read_spec.specs.Lawful.{Lawful, stepLawful, answerLawful, SheetsAreLawful, AnswersAreLawful}
+use Rattle.read_spec.proofs.Lawful.{sheets-are-lawful, answers-are-lawful}
+use Rattle.rules_spec.specs.Step.{stepCheck, stepTo, step}
+use Rattle.rules_spec.specs.Walk.{oneMore, walkBy, walk, walkAnswer}
+use Rattle.rules_spec.specs.Proper.{Proper}
+use Rattle.rules_spec.proofs.Walks.{step-on, step-stop}
+use Rattle.rules_spec.proofs.Tables.{facts}
+use Rattle.rules_spec.proofs.Proper.{start-proper, step-proper}
+use Rattle.judge_spec.specs.Course.{defaultDepth}
 use Rattle.hall.specs.Screen.{lentLawful, hallStep}
 use Rattle.hall.specs.Agree.{hallWalk, ProperIsLawful, SheetsBreakNone, HallWalksAlike}
 use Rattle.hall.proofs.Proper.{proper-is-lawful}

@@ -2,7 +2,7 @@
 -- Assumes nothing.
 use mathlib.Core.Path.{_≡_, sym, _∙_}
 use Rattle.words.proofs.Whole.{state-words}
-use Rattle.ports.specs.declared.Answered.{Answered}
+use Rattle.step_ports.specs.declared.Answered.{Answered}
 use Rattle.hall.specs.Once.{NoOtherLeft, NoOtherWords}
 
 same-answer : (a b : Answered) → a .refused ≡ b .refused → a .port ≡ b .port → a ≡ b

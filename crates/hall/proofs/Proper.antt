@@ -8,7 +8,7 @@ use native.Mathlib.Omega.{arith}
 use lib.Dec.{eqb, leb}
 use lib.Pow.{pow-mono}
 use borrow.Author.Tests.{lt-ltb, le-leb, leb-true, leb-false, ne-eqb}
-use Rattle.forms.proofs.Tests.{by-test}
+use Rattle.item_spec.proofs.Tests.{by-test}
 use Rattle.sets.specs.Mask.{member, collect}
 use Rattle.sets.proofs.Laws.{all-of, member-collect, member-past, collect-lt, same-members}
 use Rattle.model.specs.declared.Tables.{Tables}
@@ -17,13 +17,13 @@ use Rattle.model.specs.declared.Connection.{Connection}
 use Rattle.model.specs.declared.Configuration.{Configuration}
 use Rattle.model.specs.Empty.{noServer}
 use Rattle.model.specs.View.{instance, slot, portNumber, server, isServed, connection}
-use Rattle.reading.specs.Limits.{maskOk}
-use Rattle.rules.specs.Con.{isUsePort, isProvidePort}
-use Rattle.rules.specs.Proper.{ProperInstance, Joins, Proper, SlotIsItsPort}
-use Rattle.rules.proofs.Connections.{slot-is-its-port}
-use Rattle.judged.specs.Course.{defaultDepth}
-use Rattle.lawfulness.specs.Lawful.{queuedLawful, numbersLawful, instanceLawful, endsLawful, connectionLawful, connectionsLawful, configurationLawful}
-use Rattle.lawfulness.proofs.Servers.{lawful-all}
+use Rattle.read_spec.specs.Limits.{maskOk}
+use Rattle.rules_spec.specs.Con.{isUsePort, isProvidePort}
+use Rattle.rules_spec.specs.Proper.{ProperInstance, Joins, Proper, SlotIsItsPort}
+use Rattle.rules_spec.proofs.Connections.{slot-is-its-port}
+use Rattle.judge_spec.specs.Course.{defaultDepth}
+use Rattle.hall_lawful.specs.Lawful.{queuedLawful, numbersLawful, instanceLawful, endsLawful, connectionLawful, connectionsLawful, configurationLawful}
+use Rattle.hall_lawful.proofs.Servers.{lawful-all}
 use Rattle.hall.specs.Agree.{ProperIsLawful, NoUsePortTwice}
 
 -- a set whose members lie below n, as a mask

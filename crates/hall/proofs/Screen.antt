@@ -5,17 +5,17 @@ use mathlib.Core.Logic.{_≢_, by-cases, ⊎-elim}
 use Prim.Native.Nat.{ℕ}
 use native.Mathlib.Decide.{ℕ-discrete}
 use native.Mathlib.Omega.{arith}
-use Rattle.forms.proofs.Tests.{by-test}
+use Rattle.item_spec.proofs.Tests.{by-test}
 use Rattle.model.specs.declared.Tables.{Tables}
 use Rattle.model.specs.declared.Program.{Program}
 use Rattle.model.specs.declared.Step.{Step}
 use Rattle.model.specs.declared.Configuration.{Configuration}
 use Rattle.model.specs.declared.Stepped.{Stepped}
-use Rattle.rules.specs.Refused.{RefusedChangesNothing}
-use Rattle.rules.specs.Step.{stepCheck, step}
-use Rattle.rules.proofs.Walks.{step-on, step-stop, refused-changes-nothing}
-use Rattle.rules.proofs.Numbers.{Numbered, step-numbered}
-use Rattle.judged.specs.Course.{defaultDepth}
+use Rattle.rules_spec.specs.Refused.{RefusedChangesNothing}
+use Rattle.rules_spec.specs.Step.{stepCheck, step}
+use Rattle.rules_spec.proofs.Walks.{step-on, step-stop, refused-changes-nothing}
+use Rattle.rules_spec.proofs.Numbers.{Numbered, step-numbered}
+use Rattle.judge_spec.specs.Course.{defaultDepth}
 use Rattle.hall.specs.Screen.{limitBroken, lentLawful, hallStep}
 use Rattle.hall.specs.Agree.{RefusedLeaves, SevenExactly}
 

@@ -8,7 +8,7 @@ use lib.Dec.{eqb, leb}
 use lib.ListN.{length, set}
 use lib.Seq.{getD-set-same, getD-set-other}
 use borrow.Author.Tests.{eqb-true, eqb-false, eq-eqb, ne-eqb, le-ltb, leb-true}
-use Rattle.forms.proofs.Tests.{by-test, and-left, and-right}
+use Rattle.item_spec.proofs.Tests.{by-test, and-left, and-right}
 use Rattle.sets.specs.Test.{allBelow}
 use Rattle.sets.proofs.Laws.{all-at}
 use Rattle.model.specs.declared.Tables.{Tables}
@@ -17,20 +17,20 @@ use Rattle.model.specs.declared.Step.{Step}
 use Rattle.model.specs.declared.Configuration.{Configuration}
 use Rattle.model.specs.Empty.{noServer}
 use Rattle.model.specs.View.{typeOf, instance, slot, queueHead, server, withServers, withDone}
-use Rattle.reading.specs.Limits.{typeOk, maskOk}
-use Rattle.reading.specs.Lawful.{tablesLawful, programLawful, stepLawful, Lawful}
-use Rattle.rules.specs.PushB.{depthOf}
-use Rattle.rules.specs.Con.{connected}
-use Rattle.rules.specs.DCon.{disconnected}
-use Rattle.rules.specs.Action.{Action, add, del, pushb, con, dcon, wait, fire, end, enter, finish, actionCheck, effect}
-use Rattle.rules.specs.Step.{checkAt, stepCheck, stepTo, action}
-use Rattle.rules.proofs.Local.{shifted, Wires, change, touches, changes, self, turn, turnedSlot, ownInstance, ownSlot, Fits, Roomy, Room, instance-own, instance-other, slot-own, slot-other, part-wires}
-use Rattle.rules.proofs.Allowed.{del-facts, pushb-facts, fire-facts, end-facts, enter-facts, finish-facts, present-in}
-use Rattle.rules.proofs.Tables.{facts}
-use Rattle.rules.proofs.Proper.{Lawfully, step-lawfully}
-use Rattle.rules.proofs.Walks.{step-on, number-facts, after-cases, after-done}
-use Rattle.judged.specs.Course.{defaultDepth}
-use Rattle.lawfulness.specs.Lawful.{numbersLawful, instanceLawful, configurationLawful}
+use Rattle.read_spec.specs.Limits.{typeOk, maskOk}
+use Rattle.read_spec.specs.Lawful.{tablesLawful, programLawful, stepLawful, Lawful}
+use Rattle.rules_spec.specs.PushB.{depthOf}
+use Rattle.rules_spec.specs.Con.{connected}
+use Rattle.rules_spec.specs.DCon.{disconnected}
+use Rattle.rules_spec.specs.Action.{Action, add, del, pushb, con, dcon, wait, fire, end, enter, finish, actionCheck, effect}
+use Rattle.rules_spec.specs.Step.{checkAt, stepCheck, stepTo, action}
+use Rattle.rules_spec.proofs.Local.{shifted, Wires, change, touches, changes, self, turn, turnedSlot, ownInstance, ownSlot, Fits, Roomy, Room, instance-own, instance-other, slot-own, slot-other, part-wires}
+use Rattle.rules_spec.proofs.Allowed.{del-facts, pushb-facts, fire-facts, end-facts, enter-facts, finish-facts, present-in}
+use Rattle.rules_spec.proofs.Tables.{facts}
+use Rattle.rules_spec.proofs.Proper.{Lawfully, step-lawfully}
+use Rattle.rules_spec.proofs.Walks.{step-on, number-facts, after-cases, after-done}
+use Rattle.judge_spec.specs.Course.{defaultDepth}
+use Rattle.hall_lawful.specs.Lawful.{numbersLawful, instanceLawful, configurationLawful}
 use Rattle.hall.specs.Screen.{lentLawful, hallStep}
 use Rattle.hall.specs.Slots.{Whole, Holds, inInstance, servedBy, gapClosed, slots, EverySlot}
 use Rattle.hall.proofs.Screen.{step-number}

@@ -6,7 +6,7 @@ use mathlib.Core.Bool.{Bool, true, false, not, cond}
 use mathlib.Core.List.{List}
 use Prim.Native.Nat.{ℕ, suc}
 use borrow.Author.Tests.{not-true, not-false}
-use Rattle.forms.proofs.Tests.{and-left, and-right}
+use Rattle.item_spec.proofs.Tests.{and-left, and-right}
 use Rattle.model.specs.declared.Tables.{Tables}
 use Rattle.model.specs.declared.Program.{Program}
 use Rattle.model.specs.declared.Step.{Step}
@@ -14,15 +14,15 @@ use Rattle.model.specs.declared.Configuration.{Configuration}
 use Rattle.model.specs.declared.Stepped.{Stepped}
 use Rattle.model.specs.declared.Concerned.the-variants.{NoPort}
 use Rattle.model.proofs.View.{length-list}
-use Rattle.reading.specs.Lawful.{tablesLawful, programLawful}
-use Rattle.rules.specs.Step.{isNext, action, step}
-use Rattle.judged.specs.Course.{defaultDepth}
+use Rattle.read_spec.specs.Lawful.{tablesLawful, programLawful}
+use Rattle.rules_spec.specs.Step.{isNext, action, step}
+use Rattle.judge_spec.specs.Course.{defaultDepth}
 use Rattle.words.specs.Words.{tablesIn, programIn, stateIn}
 use Rattle.words.proofs.Whole.{state-words}
-use Rattle.ports.specs.declared.Answered.{Answered}
-use Rattle.walks.specs.Reached.{stepped}
-use Rattle.walks.specs.Fits.{PortsFit, LawfulPortsFit}
-use Rattle.walks.proofs.Fits.{lawful-ports-fit}
+use Rattle.step_ports.specs.declared.Answered.{Answered}
+use Rattle.step_walk.specs.Reached.{stepped}
+use Rattle.step_walk.specs.Fits.{PortsFit, LawfulPortsFit}
+use Rattle.step_walk.proofs.Fits.{lawful-ports-fit}
 use Rattle.hall.specs.Screen.{limitBroken, lentLawful, hallStep, Left}
 use Rattle.hall.specs.Agree.{RefusedLeaves}
 use Rattle.hall.specs.Slots.{slots, Holds, Whole, EverySlot}

@@ -12,13 +12,13 @@ use Rattle.model.specs.declared.Configuration.{Configuration}
 use Rattle.model.specs.declared.Walked.{Walked}
 use Rattle.model.specs.Empty.{start}
 use Rattle.model.specs.View.{connection, stepsOf}
-use Rattle.reading.specs.Lines.{on}
-use Rattle.reading.specs.Texts.{sheet, answer}
-use Rattle.reading.specs.Lawful.{stepLawful}
-use Rattle.rules.specs.Proper.{Proper}
-use Rattle.rules.specs.Walk.{walkBy, walkAnswer}
-use Rattle.judged.specs.Course.{defaultDepth}
-use Rattle.lawfulness.specs.Lawful.{configurationLawful}
+use Rattle.read_spec.specs.Lines.{on}
+use Rattle.read_spec.specs.Texts.{sheet, answer}
+use Rattle.read_spec.specs.Lawful.{stepLawful}
+use Rattle.rules_spec.specs.Proper.{Proper}
+use Rattle.rules_spec.specs.Walk.{walkBy, walkAnswer}
+use Rattle.judge_spec.specs.Course.{defaultDepth}
+use Rattle.hall_lawful.specs.Lawful.{configurationLawful}
 use Rattle.hall.specs.Screen.{limitBroken, lentLawful, hallStep}
 
 -- a screen's own walk: the steps one after the other on the one lent configuration, to the first that it refuses

@@ -18,7 +18,7 @@ use Rattle.model.specs.declared.Configuration.{Configuration}
 use Rattle.model.specs.Empty.{noInstruction, absent, noServer}
 use Rattle.model.specs.View.{serverNumber}
 use Rattle.model.specs.Verb.{addVerb, delVerb, pushbVerb, conVerb, dconVerb, waitVerb, fireVerb, endVerb, enterVerb, finishVerb}
-use Rattle.reading.specs.Kinds.{anInstruction}
+use Rattle.read_spec.specs.Kinds.{anInstruction}
 use Rattle.hall.specs.Screen.{limitBroken, lentLawful, hallStep}
 
 -- ---- what is lent, with a number changed

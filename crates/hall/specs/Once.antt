@@ -7,7 +7,7 @@ use Rattle.model.specs.declared.Tables.{Tables}
 use Rattle.model.specs.declared.Program.{Program}
 use Rattle.model.specs.declared.Step.{Step}
 use Rattle.model.specs.declared.Configuration.{Configuration}
-use Rattle.ports.specs.declared.Answered.{Answered}
+use Rattle.step_ports.specs.declared.Answered.{Answered}
 use Rattle.hall.specs.Screen.{Left}
 use Rattle.hall.specs.Words.{LeftWords, Configured}
 

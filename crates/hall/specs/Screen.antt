@@ -10,11 +10,11 @@ use Rattle.model.specs.declared.Step.{Step}
 use Rattle.model.specs.declared.Configuration.{Configuration}
 use Rattle.model.specs.declared.Stepped.{Stepped}
 use Rattle.model.specs.declared.Concerned.the-variants.{NoPort}
-use Rattle.reading.specs.Lawful.{tablesLawful, programLawful, stepLawful}
-use Rattle.rules.specs.Step.{step}
-use Rattle.ports.specs.declared.Answered.{Answered}
-use Rattle.judged.specs.Course.{defaultDepth}
-use Rattle.lawfulness.specs.Lawful.{configurationLawful}
+use Rattle.read_spec.specs.Lawful.{tablesLawful, programLawful, stepLawful}
+use Rattle.rules_spec.specs.Step.{step}
+use Rattle.step_ports.specs.declared.Answered.{Answered}
+use Rattle.judge_spec.specs.Course.{defaultDepth}
+use Rattle.hall_lawful.specs.Lawful.{configurationLawful}
 
 -- hall screen only: the lent tables, configuration or step break a limit
 abbrev pub limitBroken : ℕ

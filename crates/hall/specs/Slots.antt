@@ -13,12 +13,12 @@ use Rattle.model.specs.declared.Instance.{Instance}
 use Rattle.model.specs.declared.Configuration.{Configuration}
 use Rattle.model.specs.Empty.{absent, noServer}
 use Rattle.model.specs.View.{instance, slot, portNumber, serverNumber, server}
-use Rattle.rules.specs.Instance.{endedBy, withQueued}
-use Rattle.rules.specs.Add.{fresh}
-use Rattle.rules.specs.Fire.{afterFire}
-use Rattle.rules.specs.Enter.{afterEnter}
-use Rattle.rules.specs.Action.{Action, add, del, pushb, con, dcon, wait, fire, end, enter, finish}
-use Rattle.rules.specs.Step.{isNext, action}
+use Rattle.rules_spec.specs.Instance.{endedBy, withQueued}
+use Rattle.rules_spec.specs.Add.{fresh}
+use Rattle.rules_spec.specs.Fire.{afterFire}
+use Rattle.rules_spec.specs.Enter.{afterEnter}
+use Rattle.rules_spec.specs.Action.{Action, add, del, pushb, con, dcon, wait, fire, end, enter, finish}
+use Rattle.rules_spec.specs.Step.{isNext, action}
 use Rattle.hall.specs.Screen.{hallStep}
 
 -- the record of each instance, slot r of its queue, and the slot of each use port by its number

@@ -6,10 +6,10 @@ use mathlib.Core.Bool.{cond}
 use Prim.Native.Nat.{ℕ, suc, _<_, _^_}
 use lib.ListN.{length}
 use Rattle.model.specs.declared.Step.{Step}
-use Rattle.rules.specs.Step.{isNext, action}
+use Rattle.rules_spec.specs.Step.{isNext, action}
 use Rattle.words.specs.Rows.{word}
 use Rattle.words.specs.Words.{tablesIn, programIn, stateIn}
-use Rattle.ports.specs.declared.Answered.{Answered}
+use Rattle.step_ports.specs.declared.Answered.{Answered}
 use Rattle.hall.specs.Screen.{Left}
 use Rattle.hall.specs.Slots.{slots, Holds}
 

@@ -1,14 +1,14 @@
 // The screen in the hall: one step on lent tables, program and configuration, with number 7 before all of 10 to 38. It has two doors:
 // `hall` is over the step by value, `lent_step` moves the lent words on in place, for terminals with a small stack.
 // Promised of both: the number, the use port concerned and every word of the configuration after it, for all that can be lent; a refusal leaves it untouched.
-use judged::DEFAULT_DEPTH;
-use lawfulness::configuration_lawful;
-use lawfulness::program_lawful;
-use lawfulness::step_lawful;
-use lawfulness::tables_lawful;
-use ports::Answered;
-use ports::about_none;
-use walks::step;
+use hall_lawful::configuration_lawful;
+use hall_lawful::program_lawful;
+use hall_lawful::step_lawful;
+use hall_lawful::tables_lawful;
+use judge_spec::DEFAULT_DEPTH;
+use step_ports::Answered;
+use step_ports::about_none;
+use step_walk::step;
 use words::ProgramWords;
 use words::StateWords;
 use words::TableWords;

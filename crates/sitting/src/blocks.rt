@@ -1,7 +1,7 @@
 // A candidate's block, put together in a lent buffer so that it is one write: each function writes at a position and answers the position after.
-use judged::LENT_BYTES;
-use judged::Place;
-use judged::Verdict;
+use judge_spec::LENT_BYTES;
+use judge_spec::Place;
+use judge_spec::Verdict;
 use libc::STDERR_FILENO;
 use libc::STDOUT_FILENO;
 use model::Text;
@@ -10,7 +10,7 @@ ghost use Rattle.io.specs.Counts.{Counts};
 // A name of 4,096 bytes and a line of 32,768, each byte shown as four at most, a report of 8,192, and the keys.
 pub(crate) const LONGEST: usize = 155702;
 
-// At most so many of a text's bytes. What `judging` promises lies within its buffer and its texts, so it takes none away.
+// At most so many of a text's bytes. What `judge_lib` promises lies within its buffer and its texts, so it takes none away.
 pub(crate) fn at_most(size: usize, text: &[u8]) -> usize
     ensures { λ r. ⌜ Counts r (now (text .entry)) ⌝ }
 {
@@ -22,14 +22,14 @@ pub(crate) fn at_most(size: usize, text: &[u8]) -> usize
 
 // KEY and a candidate's bytes as they are shown.
 fn write_shown(block: &mut [u8], at: usize, key: &[u8], text: &[u8]) -> usize {
-    let a = inks::write_key(block, at, key);
-    let b = shown::show(block, a, text);
-    inks::write_byte(block, b, b'\n')
+    let a = write_items::write_key(block, at, key);
+    let b = sitting_shown::show(block, a, text);
+    write_items::write_byte(block, b, b'\n')
 }
 
 fn write_first(block: &mut [u8], at: usize, text: &[u8], size: usize) -> usize {
     let n = at_most(size, text);
-    inks::write_key(block, at, &text[..n])
+    write_items::write_key(block, at, &text[..n])
 }
 
 // What `judge` prints of this verdict: the report, or after 1 to 5 the three lines.
@@ -38,7 +38,7 @@ fn write_verdict(block: &mut [u8], at: usize, verdict: Verdict, report: &mut [u8
     let text = verdict.text;
     match refused {
         1..=5 => {
-            let used = writers::write_fault(report, text, verdict.line, refused);
+            let used = write_report::write_fault(report, text, verdict.line, refused);
             write_first(block, at, report, used)
         }
         _ => write_first(block, at, report, verdict.written),
@@ -47,8 +47,8 @@ fn write_verdict(block: &mut [u8], at: usize, verdict: Verdict, report: &mut [u8
 
 fn write_place(block: &mut [u8], at: usize, place: Place) -> usize {
     let mut line = [0u8; 32];
-    let used = shown::show_place(place, &mut line);
-    inks::write_key(block, at, &line[..used])
+    let used = sitting_shown::show_place(place, &mut line);
+    write_items::write_key(block, at, &line[..used])
 }
 
 // So many bytes of a text, from a place on.
@@ -80,7 +80,7 @@ fn write_offending(
 // One walk gives the report, the verdict and the place.
 fn write_judgement(block: &mut [u8], at: usize, sheet: &[u8], answer: &[u8]) -> usize {
     let mut report = [0u8; LENT_BYTES];
-    let judged = judging::judge_and_place(sheet, answer, &mut report);
+    let judged = judge_lib::judge_and_place(sheet, answer, &mut report);
     let verdict = judged.verdict;
     let place = judged.place;
     let a = write_verdict(block, at, verdict, &mut report);
@@ -105,7 +105,7 @@ pub(crate) fn say_unreadable(block: &mut [u8], name: &[u8]) {
 
 pub(crate) fn write_unreadable(block: &mut [u8], name: &[u8]) -> usize {
     let at = write_shown(block, 0, b"candidate=", name);
-    inks::write_key(block, at, b"unreadable=1\n")
+    write_items::write_key(block, at, b"unreadable=1\n")
 }
 
 pub(crate) fn write_candidate(block: &mut [u8], name: &[u8], sheet: &[u8], answer: &[u8]) -> usize {
@@ -117,8 +117,8 @@ pub(crate) fn write_candidate(block: &mut [u8], name: &[u8], sheet: &[u8], answe
 pub(crate) fn print_count(block: &mut [u8], candidates: u64) -> bool {
     let mut digits = [0u8; 20];
     let k = io::decimal(candidates, &mut digits);
-    let a = inks::write_key(block, 0, b"candidates=");
-    let b = inks::write_key(block, a, &digits[..k]);
-    let used = inks::write_byte(block, b, b'\n');
+    let a = write_items::write_key(block, 0, b"candidates=");
+    let b = write_items::write_key(block, a, &digits[..k]);
+    let used = write_items::write_byte(block, b, b'\n');
     print(block, used)
 }

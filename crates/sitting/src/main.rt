@@ -1,6 +1,6 @@
 // A marker's aid: the sheet from sheet.txt in the current folder, and for each answer file that an argument names, in order, `candidate=` and its name,
 // what `judge` prints, `place=` and `offending=` with the line at fault; or `unreadable=1`; at the end `candidates=` and how many there were. A candidate's
-// bytes are shown as `shown` promises: `\xNN`, lower case. Each candidate is one write, and the first write that fails ends the sitting.
+// bytes are shown as `sitting_shown` promises: `\xNN`, lower case. Each candidate is one write, and the first write that fails ends the sitting.
 // Called as `sitting -0 SHEET`, as bin/sitting calls it, it takes the sheet's path from there and the names, each ended by a NUL, from standard input, shows
 // them whole, and tells on descriptor 3 that all was written, and whether every answer was read.
 mod blocks;
@@ -13,7 +13,7 @@ use blocks::say_unreadable;
 use blocks::write_candidate;
 use blocks::write_unreadable;
 use libc::STDIN_FILENO;
-use texts::Due;
+use read_items::Due;
 ghost use Prim.Native.Nat.{_≤_};
 ghost use lib.ListN.{length};
 ghost use Rattle.io.specs.Counts.{Counts};
@@ -45,7 +45,7 @@ fn shown_from(name: &[u8]) -> usize
 {
     let mut i: usize = 0;
     while i < name.len() {
-        if let Due::Past(after) = texts::past_key(name, i, b"/./") {
+        if let Due::Past(after) = read_items::past_key(name, i, b"/./") {
             return after;
         }
         i += 1;
@@ -66,7 +66,7 @@ fn one_more(went: Went, unread: bool, written: bool) -> Went {
 // The candidate whose answer stands in `path`, shown by this name.
 fn run_answer(block: &mut [u8], sheet: &[u8], path: &[u8], name: &[u8], went: Went) -> Went {
     let mut answer = [0u8; 32769];
-    let read = files::read_named(path, &mut answer);
+    let read = program_io::read_named(path, &mut answer);
     let size = read.size;
     if read.failed {
         say_unreadable(block, name);
@@ -125,7 +125,7 @@ fn take_byte(block: &mut [u8], sheet: &[u8], name: &mut [u8], b: u8, went: Went)
         unread: went.unread,
         written: went.written,
         ended: went.ended,
-        size: inks::write_byte(name, went.size, b),
+        size: write_items::write_byte(name, went.size, b),
     }
 }
 
@@ -164,7 +164,7 @@ fn next_names(
     bytes: &mut [u8],
     went: Went,
 ) -> Went {
-    let read = files::read_some(STDIN_FILENO, bytes);
+    let read = program_io::read_some(STDIN_FILENO, bytes);
     let size = read.size;
     if read.failed {
         os::fail(b"sitting: standard input");
@@ -198,7 +198,7 @@ fn print_last(block: &mut [u8], went: Went) -> bool {
 // Each text has room for a byte more than it may have, so that a longer one still gets 1. A missing sheet counts as empty.
 fn sit(block: &mut [u8]) {
     let mut sheet = [0u8; 32769];
-    let n = files::read_named(b"sheet.txt", &mut sheet).size;
+    let n = program_io::read_named(b"sheet.txt", &mut sheet).size;
     let went = run_arguments(block, &sheet[..n]);
     print_last(block, went);
 }
@@ -207,12 +207,12 @@ fn sit_for_script(block: &mut [u8]) {
     let mut path = [0u8; 4096];
     let k = name_of(2, &mut path);
     let mut sheet = [0u8; 32769];
-    let n = files::read_named(&path[..k], &mut sheet).size;
+    let n = program_io::read_named(&path[..k], &mut sheet).size;
     let mut name = [0u8; 4096];
     let mut bytes = [0u8; 65536];
     let went = run_names(block, &sheet[..n], &mut name, &mut bytes);
     if print_last(block, went) {
-        files::tell_of(went.unread, false);
+        program_io::tell_of(went.unread, false);
     }
 }
 

@@ -18,7 +18,7 @@ use Rattle.model.specs.declared.Configuration.{Configuration}
 use Rattle.model.specs.Empty.{absent, start}
 use Rattle.model.specs.View.{instance, server, listOf, put, withQueue, withServers, withDone}
 use Rattle.model.proofs.View.{past-end, put-past, put-twice, list-at, length-list}
-use Rattle.rules.specs.Instance.{withQueued}
+use Rattle.rules_spec.specs.Instance.{withQueued}
 use Rattle.words.specs.Rows.{word, row, rowAt, rows, puts, putsIn}
 use Rattle.words.specs.Words.{instanceIn, stateIn}
 use Rattle.words.specs.Parts.{withSets, bare, withSlot, withServer, changed}

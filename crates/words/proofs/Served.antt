@@ -9,14 +9,14 @@ use native.Mathlib.Decide.{decLt}
 use lib.Dec.{eqb}
 use lib.ListN.{length}
 use borrow.Author.Tests.{eqb-true, lt-ltb, le-ltb}
-use Rattle.forms.proofs.Tests.{by-test}
+use Rattle.item_spec.proofs.Tests.{by-test}
 use Rattle.model.specs.declared.Connection.{Connection}
 use Rattle.model.specs.declared.Configuration.{Configuration}
 use Rattle.model.specs.Empty.{noServer}
 use Rattle.model.specs.View.{portNumber, server, isServed, connectionOf, connectionAt}
 use Rattle.model.proofs.View.{past-end, slot-is}
-use Rattle.rules.specs.Standing.{inTable, someConnection}
-use Rattle.rules.proofs.Connections.{Stands, some-stands, one-look}
+use Rattle.rules_spec.specs.Standing.{inTable, someConnection}
+use Rattle.rules_spec.proofs.Connections.{Stands, some-stands, one-look}
 use Rattle.words.specs.Parts.{serverOf}
 
 module _ (c : Configuration) (full : length (c .servers) ≡ 512) (i q : ℕ) where

@@ -6,7 +6,7 @@ use crate::put_word;
 ghost use mathlib.Core.Path.{_≡_};
 ghost use lib.ListN.{getD};
 ghost use Rattle.model.specs.Empty.{noStep, noAnswer};
-ghost use Rattle.reading.specs.Fill.{withStep};
+ghost use Rattle.read_spec.specs.Fill.{withStep};
 ghost use Rattle.words.specs.Words.{answerIn};
 ghost use Rattle.words.specs.Parts.{stepOf, withSteps};
 

@@ -6,7 +6,7 @@ use crate::put_word;
 ghost use mathlib.Core.Path.{_≡_};
 ghost use lib.ListN.{getD};
 ghost use Rattle.model.specs.Empty.{noInstruction, noProgram};
-ghost use Rattle.reading.specs.Fill.{programOf, withInstruction};
+ghost use Rattle.read_spec.specs.Fill.{programOf, withInstruction};
 ghost use Rattle.words.specs.Words.{programIn};
 ghost use Rattle.words.specs.Parts.{instructionOf, said, withInstructions};
 

@@ -11,8 +11,8 @@ ghost use lib.ListN.{getD};
 ghost use Rattle.sets.specs.Mask.{with, without, only};
 ghost use Rattle.model.specs.Empty.{start};
 ghost use Rattle.model.specs.View.{instance, queueHead, slot, server, put, withDone};
-ghost use Rattle.rules.specs.Instance.{withQueued};
-ghost use Rattle.rules.specs.Standing.{standing};
+ghost use Rattle.rules_spec.specs.Instance.{withQueued};
+ghost use Rattle.rules_spec.specs.Standing.{standing};
 ghost use Rattle.words.specs.Words.{stateIn};
 ghost use Rattle.words.specs.Parts.{withSets, bare, withSlot, serverOf, withServer, changed};
 

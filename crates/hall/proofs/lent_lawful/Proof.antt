@@ -2,7 +2,7 @@ use mathlib.Core.Path.{_≡_, sym, ap, _∙_}
 use mathlib.Core.Bool.{Bool, true, false, not, _&&_, and-assoc}
 use borrow.Author.Tests.{not-true, not-false}
 use borrow.Author.Needs.{needs}
-use Rattle.reading.specs.Lawful.{programLawful}
+use Rattle.read_spec.specs.Lawful.{programLawful}
 use Rattle.words.specs.Words.{tablesIn, programIn}
 use Rattle.hall.specs.Screen.{lentLawful}
 use Rattle.hall.proofs.lent_lawful.Statement.{statement}

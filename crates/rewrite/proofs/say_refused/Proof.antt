@@ -3,7 +3,7 @@
 use native.Mathlib.Omega.{arith}
 use borrow.Author.Needs.{needs}
 use lib.ListN.{length-take}
-use Rattle.inks.proofs.Laws.{within, length-written}
+use Rattle.write_items.proofs.Laws.{within, length-written}
 use Rattle.rewrite.proofs.say_refused.Statement.{statement}
 use Rattle.rewrite.proofs.say_refused.Tie as tie
 

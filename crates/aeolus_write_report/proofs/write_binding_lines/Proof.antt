@@ -1,0 +1,22 @@
+use Prim.Native.Nat.{_-_}
+use Rattle.write_items.proofs.Turns.{Turns, turns-none, turns-more, turns-all}
+use Rattle.aeolus_model.specs.Words.{universeIn, configurationIn}
+use Rattle.item_spec.specs.Write.{inTurn}
+use Rattle.aeolus_judge_spec.specs.Report.{bindingsAt}
+use borrow.Author.Needs.{needs}
+use Rattle.aeolus_write_report.proofs.write_binding_lines.Statement.{statement}
+use Rattle.aeolus_write_report.proofs.write_binding_lines.Tie as tie
+
+abbrev Inv-loop : tie.InvT-loop
+Inv-loop t₀ universe deployed used₀ r₀ t used r = Turns (λ x. inTurn (bindingsAt (universeIn universe) (configurationIn deployed) x) 32) 256 r t₀ t used
+
+abbrev μ-loop : tie.MeasureT-loop
+μ-loop t₀ universe deployed used₀ r₀ t used r = 256 - r
+
+pub write-binding-lines-spec : {M : Type 1} → statement M
+write-binding-lines-spec =
+    tie.close
+    (tie.spec Inv-loop μ-loop (λ c. turns-none) (λ c. search needs) (λ c. search needs) (λ c. search needs) (λ c κs. search needs) (λ c. search needs)
+    (λ c. search needs) (λ c. search needs)
+    (λ c. turns-more (c .before .before .before .before .before .loop .inv) (c .before .before .before .before .loop-test .taken) (c .before .before .write-requirers .ensures))
+    (λ c. search needs) (λ c. turns-all (c .before .loop .inv) (c .loop-test .left)))

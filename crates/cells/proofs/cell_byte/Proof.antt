@@ -1,7 +1,0 @@
-use borrow.Author.Tests.{eq-eqb, ne-eqb}
-use borrow.Author.Needs.{needs}
-use Rattle.cells.proofs.cell_byte.Statement.{statement}
-use Rattle.cells.proofs.cell_byte.Tie as tie
-
-pub cell-byte-spec : {M : Type 1} → statement M
-cell-byte-spec = tie.close (tie.spec (λ c. rw (eq-eqb _ _ (c .if1 .taken))) (λ c. rw (ne-eqb _ _ (c .if1 .left))))

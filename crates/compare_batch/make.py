@@ -1,0 +1,71 @@
+"""make.py: writes stdin and stdout of the program `compare_batch`: pairs of texts of `cases` by the model beside them, and the cases of the Aeolus paper by
+the judge in C of compare/ and by what each case says of itself. Needs a C compiler."""
+import os
+import subprocess
+import sys
+import tempfile
+
+here = os.path.dirname(os.path.abspath(__file__))
+sys.dont_write_bytecode = True
+sys.path[:0] = [os.path.join(here, "..", name) for name in ("cases", "aeolus")]
+
+from cases import cases as plans
+from model import judge
+from pairs import pairs
+
+# a pair of `cases` and a room: no refusal, a refused step, a fault in the sheet, one in the answer, both texts empty, the report's very length, a byte less, none
+cases = [
+    ("pair", 8192),
+    ("pair_service_in_use", 16384),
+    ("tran_of_one_place", 8192),
+    ("unknown_step", 0),
+    ("both_empty", 8192),
+    ("pair", 123),
+    ("pair", 122),
+    ("pair_service_in_use", 0),
+]
+
+
+def said(case, room):
+    sheet, answer = texts[case]
+    found = judge(sheet, answer, room)
+    text = found.text if found.text != "neither" else "-"
+    fields = found.refused, found.accepted, found.next, text, found.line, *found.place, len(found.report)
+    return " ".join(map(str, fields)) + "\n" + found.report
+
+
+def as_plan(sheet, answer, room=8192):
+    return b"plan %d %d %d\n" % (len(sheet), len(answer), room) + sheet.encode() + answer.encode()
+
+
+def judged_in_c(folder, case):
+    return subprocess.run([os.path.join(folder, "batch")], input=case, stdout=subprocess.PIPE, check=True).stdout
+
+
+def plans_judged():
+    """What the judge in C answers, held to what each case says: refused, accepted, text, line."""
+    with tempfile.TemporaryDirectory() as folder:
+        sources = ["batch.c", "judge.c", "rules.c", "aeolus_judge.c", "aeolus.c"]
+        subprocess.run(["cc", "-std=c11", "-O1", "-o", os.path.join(folder, "batch"), *sources], cwd=os.path.join(here, "..", "..", "compare"), check=True)
+        for name, sheet, answer, said_so in plans:
+            out = judged_in_c(folder, as_plan(sheet, answer))
+            fields = out.split(b"\n")[0].decode().split()
+            found = int(fields[0]), int(fields[1]), fields[3], int(fields[4])
+            if found != said_so:
+                raise SystemExit(f"{name}: it says {said_so}, and the judge in C {found}")
+            yield as_plan(sheet, answer), out
+        _, sheet, answer, _ = plans[0]
+        # the report's very length, and a byte less
+        for room in 91, 90:
+            yield as_plan(sheet, answer, room), judged_in_c(folder, as_plan(sheet, answer, room))
+
+
+texts = {name: (sheet, answer) for name, sheet, answer, _ in pairs}
+planned = list(plans_judged())
+with open(os.path.join(here, "stdin"), "wb") as file:
+    for case, room in cases:
+        sheet, answer = texts[case]
+        file.write(b"case %d %d %d\n" % (len(sheet), len(answer), room) + sheet + answer)
+    file.write(b"".join(case for case, _ in planned) + b"case 1 0 00\nx")
+with open(os.path.join(here, "stdout"), "wb") as file:
+    file.write("".join(said(*case) for case in cases).encode() + b"".join(out for _, out in planned) + b"bad header\n")

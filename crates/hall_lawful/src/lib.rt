@@ -1,0 +1,102 @@
+// The tests behind number 7: whether lent tables, program, step and configuration break a rule of a sheet, an answer or a configuration.
+// Promised: each answers its definition (reading/specs/Lawful, specs/Lawful) for all that can be lent; what is past a count is not looked at.
+mod configurations;
+mod types;
+
+use configurations::connections_lawful;
+use configurations::instances_lawful;
+use types::types_lawful;
+use words::ProgramWords;
+use words::StateWords;
+use words::TableWords;
+use words::program::instruction;
+use words::program::instructions;
+use words::state::done;
+use words::tables::depth;
+use words::tables::types;
+ghost use mathlib.Core.Path.{_≡_};
+ghost use lib.ListN.{getD};
+ghost use Rattle.model.specs.Empty.{noInstruction};
+ghost use Rattle.read_spec.specs.Lawful.{tablesLawful, verbLawful, instructionLawful, programLawful, stepLawful};
+ghost use Rattle.words.specs.Words.{tablesIn, programIn, stateIn};
+ghost use Rattle.words.specs.Parts.{instructionOf, stepOf};
+ghost use Rattle.hall_lawful.specs.Lawful.{configurationLawful};
+
+// Every type counts, also one that no instance has; more than 16 are not looked at.
+pub fn tables_lawful(tables: &TableWords) -> bool
+    ensures { λ r. ⌜ r ≡ tablesLawful (tablesIn (now (tables .entry))) ⌝ }
+{
+    let n = types(tables);
+    let head = (depth(tables) <= 8) & ((1 <= n) & (n <= 16));
+    if !head {
+        return false;
+    }
+    types_lawful(tables, n)
+}
+
+// A code that no line says is refused like a number beyond its limit.
+fn verb_lawful(n: u32, verb: u32, number: u32, provider: u32, provideport: u32) -> bool
+    ensures { λ r. ⌜ r ≡ verbLawful n (instructionOf verb 0 number provider provideport) ⌝ }
+{
+    match verb {
+        0 => number < n,
+        1 => true,
+        2 => number <= 7,
+        3 => (number <= 15) & ((provider <= 31) & (provideport <= 15)),
+        4 => (number <= 15) & ((provider <= 31) & (provideport <= 15)),
+        5 => true,
+        _ => false,
+    }
+}
+
+fn instruction_lawful(n: u32, program: &ProgramWords, j: u32) -> bool
+    ensures { λ r. ⌜ r ≡ instructionLawful n (getD (programIn (now (program .entry)) .instructions) j noInstruction) ⌝ }
+{
+    let k = instruction(program, j);
+    (k.id <= 31) & verb_lawful(n, k.verb, k.number, k.provider, k.provideport)
+}
+
+// Every instruction counts, done or not.
+pub fn program_lawful(n: u32, program: &ProgramWords) -> bool
+    ensures { λ r. ⌜ r ≡ programLawful n (programIn (now (program .entry))) ⌝ }
+{
+    let count = instructions(program);
+    if 256 < count {
+        return false;
+    }
+    let mut j: u32 = 0;
+    while j < count {
+        if !instruction_lawful(n, program, j) {
+            return false;
+        }
+        j += 1;
+    }
+    true
+}
+
+pub fn step_lawful(verb: u32, id: u32, number: u32) -> bool
+    ensures { λ r. ⌜ r ≡ stepLawful (stepOf verb id number) ⌝ }
+{
+    match verb {
+        0 => true,
+        1 => (id <= 31) & (number <= 15),
+        2 => (id <= 31) & (number <= 31),
+        3 => (id <= 31) & (number <= 15),
+        4 => id <= 31,
+        _ => false,
+    }
+}
+
+pub fn configuration_lawful(
+    default: u32,
+    tables: &TableWords,
+    program: &ProgramWords,
+    state: &StateWords,
+) -> bool
+    ensures { λ r. ⌜ r ≡ configurationLawful default (tablesIn (now (tables .entry))) (programIn (now (program .entry)))
+        (stateIn (now (state .entry))) ⌝ }
+{
+    let instances = instances_lawful(default, tables, state);
+    let due = done(state) <= instructions(program);
+    instances & (due & connections_lawful(tables, state))
+}

@@ -1,0 +1,27 @@
+// Runs each pair of texts that an argument names, NAME.sheet and NAME.answer beside it: its name, what `judge` prints, and the place of the line at fault.
+// Promised by `judge_lib`: every byte between the name and the place, and the place. A pair is a line of pairs.py or papers.py, and make.py writes the rest.
+use judge_spec::LENT_BYTES;
+use libc::STDOUT_FILENO;
+
+fn run_case(i: usize) {
+    let mut name = [0u8; 64];
+    let k = os::arg(i, &mut name);
+    let mut sheet = [0u8; 32769];
+    let n = sitting_shown::read_named(&name[..k], b".sheet", &mut sheet);
+    let mut answer = [0u8; 32769];
+    let m = sitting_shown::read_named(&name[..k], b".answer", &mut answer);
+    let mut out = [0u8; LENT_BYTES];
+    let used = judge_lib::print(&sheet[..n], &answer[..m], &mut out);
+    io::write_all(STDOUT_FILENO, b"case=");
+    io::write_all(STDOUT_FILENO, &name[..k]);
+    io::write_all(STDOUT_FILENO, b"\n");
+    io::write_all(STDOUT_FILENO, &out[..used]);
+    sitting_shown::print_place(judge_lib::place(&sheet[..n], &answer[..m], LENT_BYTES));
+}
+
+fn main() {
+    let count = os::arg_count();
+    for i in 1..count {
+        run_case(i);
+    }
+}

@@ -1,6 +1,0 @@
-// A sheet as a form: the sheet from standard input; out goes the form, rows of cells, or on standard error the number and the line at fault.
-use drafts::Draft;
-
-fn main() {
-    drafts::run(Draft::Form, b"read-sheet: standard input", b"text=sheet\n");
-}

@@ -1,0 +1,57 @@
+-- "A program rewrites such a sheet with `depth=4` and nothing else altered." "A sheet with another depth comes out unchanged."
+use Prim.Native.Nat.{ℕ}
+use mathlib.Core.Bool.{cond}
+use mathlib.Core.List.{List, _++_}
+use mathlib.Core.Path.{_≡_}
+use mathlib.Core.Logic.{_⊎_, _≢_}
+use lib.Dec.{eqb}
+use lib.ListN.{length, drop}
+use Rattle.item_spec.specs.Reader.{bytes}
+use Rattle.model.specs.declared.Tables.{Tables}
+use Rattle.model.specs.declared.Program.{Program}
+use Rattle.judge_spec.specs.Course.{Course, reached, _>>=_, defaultDepth, sheetCourse}
+use Rattle.rewrite_spec.specs.Under.{judgedUnder, printedUnder}
+
+-- what 0 stood for: "Some forty old sheets rely on 4"
+abbrev pub oldDefault : ℕ
+oldDefault = 4
+
+-- the first two lines of a sheet that leaves the depth at 0, and of the same sheet rewritten
+abbrev pub oldHead : List ℕ
+oldHead = bytes "sheet=1\ndepth=0\n"
+
+abbrev pub newHead : List ℕ
+newHead = bytes "sheet=1\ndepth=4\n"
+
+-- what a sheet of depth d that is read becomes
+abbrev pub sheetAfter : ℕ → List ℕ → List ℕ
+sheetAfter d s = cond (eqb d 0) (newHead ++ drop (length oldHead) s) s
+
+-- "Refusals: 1 to 5 as the reader gives them"
+unfoldable pub rewritten : List ℕ → Course (List ℕ)
+rewritten s = do
+  (t, p) ← sheetCourse s
+  reached (sheetAfter (t .depth) s)
+
+-- nothing else is altered: the sheet as it was, or its first lines alone
+unfoldable pub NothingElseAltered : Type 0
+NothingElseAltered = (s r : List ℕ) → rewritten s ≡ reached r → (r ≡ s) ⊎ ((x : List ℕ) × (s ≡ oldHead ++ x) × (r ≡ newHead ++ x))
+
+-- so it stays as long as it was
+unfoldable pub LengthStays : Type 0
+LengthStays = (s r : List ℕ) → rewritten s ≡ reached r → length r ≡ length s
+
+unfoldable pub AnotherDepthUnchanged : Type 0
+AnotherDepthUnchanged = (s : List ℕ) (t : Tables) (p : Program) → sheetCourse s ≡ reached (t, p) → t .depth ≢ 0 → rewritten s ≡ reached s
+
+-- rewriting twice is rewriting once
+unfoldable pub RewrittenOnce : Type 0
+RewrittenOnce = (s r : List ℕ) → rewritten s ≡ reached r → rewritten r ≡ reached r
+
+-- "the rewritten sheet gets, under the new rule, the verdict and report that the old one got under the old rule, for every answer"
+unfoldable pub JudgedAlike : Type 0
+JudgedAlike =
+    (s r a : List ℕ)
+    → rewritten s ≡ reached r
+    → ((room : ℕ) → judgedUnder defaultDepth r a room ≡ judgedUnder oldDefault s a room)
+    × (printedUnder defaultDepth r a ≡ printedUnder oldDefault s a)

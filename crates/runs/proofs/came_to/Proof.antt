@@ -1,9 +1,0 @@
-use borrow.Author.Needs.{needs}
-use Rattle.runs.proofs.came_to.Statement.{statement}
-use Rattle.runs.proofs.came_to.Tie as tie
-
-returns : tie.Need-returns
-returns c = rw (c .refusal .ensures)
-
-pub came-to-spec : {M : Type 1} → statement M
-came-to-spec = tie.close (tie.spec (λ c κs. search needs) returns)

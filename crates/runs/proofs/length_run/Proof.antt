@@ -1,6 +1,0 @@
-use Rattle.runs.proofs.Chain.{short-long, short-fits}
-use Rattle.runs.proofs.length_run.Statement.{statement}
-use Rattle.runs.proofs.length_run.Tie as tie
-
-pub length-run-spec : {M : Type 1} → statement M
-length-run-spec = tie.close (tie.spec (λ c. short-long _ (c .if1 .taken)) (λ c. short-fits _ (c .if1 .left)))

@@ -1,6 +1,0 @@
-use borrow.Author.Needs.{needs}
-use Rattle.scribes.proofs.rows.instruction_at.Statement.{statement}
-use Rattle.scribes.proofs.rows.instruction_at.Tie as tie
-
-pub instruction-at-spec : {M : Type 1} → statement M
-instruction-at-spec = tie.close (tie.spec (λ c κs. search needs) (λ c. c .instruction .ensures))

@@ -1,0 +1,196 @@
+// One step by its verb, and the walk of an answer, in place.
+// Promised: what each leaves in the state and answers is the step and the walk of rules/specs, of every program whose `con` lines name ports
+// up to 15, as lawful ones do: a word does not hold every server's number.
+use model::Concerned;
+use rules_spec::NO_INSTRUCTION_LEFT;
+use step_instructions::add_check;
+use step_instructions::add_to;
+use step_instructions::con_check;
+use step_instructions::connections::connect;
+use step_instructions::connections::disconnect;
+use step_instructions::dcon_check;
+use step_instructions::del_check;
+use step_instructions::del_to;
+use step_instructions::push_to;
+use step_instructions::pushb_check;
+use step_instructions::wait_check;
+use step_moves::end_check;
+use step_moves::end_to;
+use step_moves::enter_check;
+use step_moves::enter_to;
+use step_moves::finish_check;
+use step_moves::finish_to;
+use step_moves::fire_check;
+use step_moves::fire_to;
+use step_ports::Answered;
+use step_ports::about_none;
+use words::AnswerWords;
+use words::ProgramWords;
+use words::StateWords;
+use words::TableWords;
+use words::answer::step_id;
+use words::answer::step_number;
+use words::answer::step_verb;
+use words::answer::steps;
+use words::program::InstructionWords;
+use words::program::instruction;
+use words::program::instructions;
+use words::state::done;
+use words::state::put_done;
+ghost use mathlib.Core.Path.{_≡_};
+ghost use Prim.Native.Nat.{ℕ, _<_, min};
+ghost use Rattle.model.specs.View.{stepsOf};
+ghost use Rattle.rules_spec.specs.Action.{instructionAction, moveAction, effect};
+ghost use Rattle.rules_spec.specs.Step.{checkAt, step};
+ghost use Rattle.rules_spec.specs.Walk.{walk};
+ghost use Rattle.words.specs.Words.{tablesIn, programIn, answerIn, stateIn};
+ghost use Rattle.words.specs.Parts.{said, stepOf};
+ghost use Rattle.step_walk.specs.Reached.{tally, answerAt, stepped, passed, walked};
+ghost use Rattle.step_walk.specs.Fits.{PortFits, PortsFit};
+
+// How far a walk came: the steps allowed, the number of the refusal, or 0, and the use port concerned.
+pub struct Passed {
+    pub accepted: u32,
+    pub refused: u32,
+    pub port: Concerned,
+}
+
+// The number of a move and the use port concerned, by its verb: an unknown one counts as the last.
+fn move_check(tables: &TableWords, state: &StateWords, verb: u32, i: u32, n: u32) -> Answered
+    ensures { λ r. ⌜ ((default : ℕ) → r ≡ answerAt default (tablesIn (now (tables .entry))) (stateIn (now (state .entry))) (moveAction (stepOf verb i n))) ⌝ }
+{
+    match verb {
+        1 => fire_check(tables, state, i, n),
+        2 => about_none(end_check(state, i, n)),
+        3 => enter_check(tables, state, i, n),
+        _ => about_none(finish_check(tables, state, i)),
+    }
+}
+
+fn move_to(tables: &TableWords, state: &mut StateWords, verb: u32, i: u32, n: u32)
+    ensures { λ r. ⌜ stateIn (now (state .exit)) ≡ effect (tablesIn (now (tables .entry))) (stateIn (now (state .entry))) (moveAction (stepOf verb i n)) ⌝ }
+{
+    match verb {
+        1 => fire_to(tables, state, i, n),
+        2 => end_to(state, i, n),
+        3 => enter_to(tables, state, i, n),
+        _ => finish_to(state, i),
+    }
+}
+
+// The number of an instruction, by its verb: an unknown one counts as the last. Where it is 0 there is room for one more.
+fn line_check(default: u32, tables: &TableWords, state: &StateWords, line: InstructionWords) -> u32
+    ensures value { λ r. ⌜ r ≡ checkAt default (tablesIn (now (tables .entry))) (stateIn (now (state .entry))) (instructionAction (said line)) ⌝ }
+    ensures room { λ r. ⌜ (PortFits (instructionAction (said line)) → r ≡ 0
+        → tally (stateIn (now (state .entry))) (instructionAction (said line)) < 4294967295) ⌝ }
+{
+    let verb = line.verb;
+    let i = line.id;
+    let n = line.number;
+    match verb {
+        0 => add_check(state, i),
+        1 => del_check(state, i),
+        2 => pushb_check(default, tables, state, i, n),
+        3 => con_check(tables, state, i, n, line.provider, line.provideport),
+        4 => dcon_check(tables, state, i, n, line.provider, line.provideport),
+        _ => wait_check(state, i),
+    }
+}
+
+fn line_to(tables: &TableWords, state: &mut StateWords, line: InstructionWords)
+    ensures { λ r. ⌜ (tally (stateIn (now (state .entry))) (instructionAction (said line)) < 4294967295
+        → stateIn (now (state .exit)) ≡ effect (tablesIn (now (tables .entry))) (stateIn (now (state .entry))) (instructionAction (said line))) ⌝ }
+{
+    let verb = line.verb;
+    let i = line.id;
+    let n = line.number;
+    match verb {
+        0 => add_to(tables, state, i, n),
+        1 => del_to(state, i),
+        2 => push_to(state, i, n),
+        3 => connect(state, i, n, line.provider, line.provideport),
+        4 => disconnect(state, i, n),
+        _ => {}
+    }
+}
+
+// One step: the number of its refusal, the use port concerned and nothing changed, or 0 and what it changes.
+pub fn step(
+    default: u32,
+    tables: &TableWords,
+    program: &ProgramWords,
+    state: &mut StateWords,
+    verb: u32,
+    i: u32,
+    n: u32,
+) -> Answered
+    ensures { λ r. ⌜ (PortsFit (programIn (now (program .entry))) → stepped r (stateIn (now (state .exit)))
+        ≡ step default (tablesIn (now (tables .entry))) (programIn (now (program .entry))) (stateIn (now (state .entry))) (stepOf verb i n)) ⌝ }
+{
+    if verb != 0 {
+        let answered = move_check(tables, state, verb, i, n);
+        if answered.refused != 0 {
+            return answered;
+        }
+        move_to(tables, state, verb, i, n);
+        return about_none(0);
+    }
+    let at = done(state);
+    if instructions(program) <= at {
+        return about_none(NO_INSTRUCTION_LEFT);
+    }
+    let line = instruction(program, at);
+    let refused = line_check(default, tables, state, line);
+    if refused != 0 {
+        return about_none(refused);
+    }
+    line_to(tables, state, line);
+    put_done(state, at + 1);
+    about_none(0)
+}
+
+// How many steps there are: no more than the array holds.
+pub fn step_count(answer: &AnswerWords) -> u32
+    ensures { λ r. ⌜ r ≡ min (answerIn (now (answer .entry)) .count) 1024 ⌝ }
+{
+    let n = steps(answer);
+    if n < 1024 { n } else { 1024 }
+}
+
+fn come_to(accepted: u32, answered: Answered) -> Passed
+    ensures { λ r. ⌜ r ≡ passed accepted answered ⌝ }
+{
+    let port = answered.port;
+    Passed {
+        accepted,
+        refused: answered.refused,
+        port,
+    }
+}
+
+// The walk of an answer, to its end or to the first step that the rules forbid.
+pub fn walk(
+    default: u32,
+    tables: &TableWords,
+    program: &ProgramWords,
+    answer: &AnswerWords,
+    state: &mut StateWords,
+) -> Passed
+    ensures { λ r. ⌜ (PortsFit (programIn (now (program .entry))) → walked r (stateIn (now (state .exit)))
+        ≡ walk default (tablesIn (now (tables .entry))) (programIn (now (program .entry))) (stateIn (now (state .entry)))
+        (stepsOf (answerIn (now (answer .entry))))) ⌝ }
+{
+    let n = step_count(answer);
+    let mut k: u32 = 0;
+    while k < n {
+        let verb = step_verb(answer, k);
+        let i = step_id(answer, k);
+        let number = step_number(answer, k);
+        let answered = step(default, tables, program, state, verb, i, number);
+        if answered.refused != 0 {
+            return come_to(k, answered);
+        }
+        k += 1;
+    }
+    come_to(k, about_none(0))
+}

@@ -1,8 +1,0 @@
--- That no other answer fits the promise of a text of times.
--- Assumes nothing.
-use mathlib.Core.Path.{sym, _∙_}
-use Rattle.time_rows.specs.Times.{NoOtherTimes}
-
-pub times-once : NoOtherTimes
-unfolding NoOtherTimes
-times-once s r q e f = e ∙ sym f

@@ -1,0 +1,36 @@
+-- What the one public function promises, and that no other outcome fits it.
+use mathlib.Core.Path.{_≡_}
+use mathlib.Core.List.{List}
+use Prim.Native.Nat.{ℕ, _<_, _^_}
+use lib.ListN.{length}
+use Rattle.model.specs.declared.Tables.{Tables}
+use Rattle.model.specs.declared.Program.{Program}
+use Rattle.model.specs.declared.Answer.{Answer}
+use Rattle.model.specs.declared.Configuration.{Configuration}
+use Rattle.rules_spec.specs.Walk.{walkAnswer}
+use Rattle.times_spec.specs.declared.Times.{Times}
+use Rattle.timing_spec.specs.Clock.{clockOf}
+use Rattle.timing_spec.specs.Mark.{markAfter}
+use Rattle.words.specs.Rows.{word}
+use Rattle.words.specs.Words.{stateIn}
+use Rattle.step_walk.specs.Reached.{walked}
+use Rattle.timing_clock.specs.declared.TimedWalk.{TimedWalk}
+
+-- times with this par, these pairs listed and these seconds
+abbrev pub timesIn : ℕ → List ℕ → List ℕ → Times
+timesIn par listed seconds = record { par = par; listed = listed; seconds = seconds }
+
+-- what the timed walk promises: the walk of the rules, and its mark
+pub record Promised (default : ℕ) (t : Tables) (p : Program) (a : Answer) (ts : Times) (r : TimedWalk) (c : Configuration) : Type 0 where
+  pub walked-is : walked (r .passed) c ≡ walkAnswer default t p a
+  pub mark-is : r .mark ≡ markAfter (walkAnswer default t p a .refused) (ts .par) (clockOf default t p a ts)
+
+-- and no other words of the state: so many, each of 32 bits
+unfoldable pub NoOtherTimedWalk : Type 0
+NoOtherTimedWalk =
+    (default : ℕ) (t : Tables) (p : Program) (a : Answer) (ts : Times) (r q : TimedWalk) (ws vs : List ℕ)
+    → (length ws ≡ 930) × (word ws 0 < 2 ^ 32)
+    → (length vs ≡ 930) × (word vs 0 < 2 ^ 32)
+    → Promised default t p a ts r (stateIn ws)
+    → Promised default t p a ts q (stateIn vs)
+    → (r ≡ q) × (ws ≡ vs)

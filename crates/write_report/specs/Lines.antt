@@ -1,0 +1,28 @@
+-- The report's parts as the writers take them.
+use Prim.Native.Nat.{ℕ}
+use mathlib.Core.List.{List, _++_}
+use Rattle.sets.specs.Test.{tally}
+use Rattle.item_spec.specs.Reader.{bytes}
+use Rattle.model.specs.declared.Configuration.{Configuration}
+use Rattle.model.specs.declared.Concerned.{Concerned}
+use Rattle.model.specs.declared.Walked.{Walked}
+use Rattle.model.specs.View.{instance}
+use Rattle.rules_spec.specs.Standing.{standing}
+use Rattle.report_spec.specs.Report.{countText, portText, instancesText, connectionsText}
+use Rattle.words.specs.Words.{stateIn}
+
+-- what a walk came to: the steps allowed, the number of the refusal, the use port concerned, and the state that the words say
+abbrev pub reached : ℕ → ℕ → Concerned → List ℕ → Walked
+reached accepted refused port ws = record { accepted = accepted; refused = refused; port = port; configuration = stateIn ws }
+
+unfoldable pub endingPart : ℕ → Concerned → List ℕ
+endingPart refused port = countText (bytes "refused=") refused ++ portText port
+
+unfoldable pub headPart : ℕ → ℕ → Concerned → ℕ → List ℕ
+headPart accepted refused port next = countText (bytes "accepted=") accepted ++ endingPart refused port ++ countText (bytes "next=") next
+
+unfoldable pub instancesPart : Configuration → List ℕ
+instancesPart c = countText (bytes "instances=") (tally 32 (λ i. instance c i .present)) ++ instancesText c
+
+unfoldable pub connectionsPart : Configuration → List ℕ
+connectionsPart c = countText (bytes "connections=") (standing c .count) ++ connectionsText c
