@@ -21,10 +21,15 @@ ghost use Rattle.hall.specs.Words.{LeftWords};
 
 const LIMIT_BROKEN: u32 = 7;
 
-// What the step by value answers: the number and the use port concerned, and every word of the configuration after it.
+// A configuration as it is lent: its words.
+pub struct LentConfiguration {
+    pub words: StateWords,
+}
+
+// What the step by value answers: the number and the use port concerned, and the configuration after it.
 pub struct Moved {
     pub answered: Answered,
-    pub configuration: StateWords,
+    pub configuration: LentConfiguration,
 }
 
 // The configuration is looked at where tables, program and step are lawful: its queues are then no longer than the depth.
@@ -77,40 +82,38 @@ pub fn lent_step(
 pub fn hall_step(
     tables: &TableWords,
     program: &ProgramWords,
-    configuration: StateWords,
+    configuration: LentConfiguration,
     verb: u32,
     i: u32,
     n: u32,
 ) -> Moved
-    ensures { λ r. ⌜ LeftWords (now (tables .entry)) (now (program .entry)) configuration (stepOf verb i n)
-        (r .answered) (r .configuration) ⌝ }
+    ensures { λ r. ⌜ LeftWords (now (tables .entry)) (now (program .entry)) (configuration .words) (stepOf verb i n)
+        (r .answered) (r .configuration .words) ⌝ }
 {
-    let mut after = configuration;
-    let answered = lent_step(tables, program, &mut after, verb, i, n);
+    let mut words = configuration.words;
+    let answered = lent_step(tables, program, &mut words, verb, i, n);
+    let after = LentConfiguration { words };
     Moved {
         answered,
         configuration: after,
     }
 }
 
-// Stores the result, or leaves the lent configuration on a refusal.
+// Stores the result, or leaves the lent configuration on a refusal. Its proof is a walk by hand.
 pub fn hall(
     tables: &TableWords,
     program: &ProgramWords,
-    configuration: &mut StateWords,
+    configuration: &mut LentConfiguration,
     verb: u32,
     i: u32,
     n: u32,
 ) -> Answered
-    ensures { λ r. ⌜ LeftWords (now (tables .entry)) (now (program .entry)) (now (configuration .entry)) (stepOf verb i n)
-        r (now (configuration .exit)) ⌝ }
+    ensures { λ r. ⌜ LeftWords (now (tables .entry)) (now (program .entry)) (now (configuration .entry) .words) (stepOf verb i n)
+        r (now (configuration .exit) .words) ⌝ }
 {
     let m = hall_step(tables, program, *configuration, verb, i, n);
-    let answered = m.answered;
-    if answered.refused != 0 {
-        return answered;
+    if m.answered.refused == 0 {
+        *configuration = m.configuration;
     }
-    let after = m.configuration;
-    *configuration = after;
-    answered
+    m.answered
 }

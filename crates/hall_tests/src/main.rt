@@ -4,6 +4,8 @@ mod lent;
 mod lines;
 mod shown;
 
+use hall::LentConfiguration;
+use hall::Moved;
 use hall::hall;
 use hall::lent_step;
 use lent::BYTES;
@@ -25,6 +27,9 @@ use step_ports::Answered;
 use words::ProgramWords;
 use words::StateWords;
 use words::TableWords;
+ghost use mathlib.Core.Path.{_≡_};
+ghost use Rattle.words.specs.Parts.{stepOf};
+ghost use Rattle.hall.specs.Words.{LeftWords};
 
 // The use port's number, and one past them all for none.
 fn port_of(answered: Answered) -> u32 {
@@ -48,6 +53,32 @@ fn same_words(a: &StateWords, b: &StateWords) -> bool {
     true
 }
 
+fn moved(answered: Answered, configuration: LentConfiguration) -> Moved
+    ensures { λ r. ⌜ r ≡ record { answered = answered; configuration = configuration } ⌝ }
+{
+    Moved {
+        answered,
+        configuration,
+    }
+}
+
+// Lends a configuration of its own. Its proof is a walk by hand.
+fn lend(
+    tables: &TableWords,
+    program: &ProgramWords,
+    before: LentConfiguration,
+    verb: u32,
+    i: u32,
+    n: u32,
+) -> Moved
+    ensures { λ r. ⌜ LeftWords (now (tables .entry)) (now (program .entry)) (before .words) (stepOf verb i n)
+        (r .answered) (r .configuration .words) ⌝ }
+{
+    let mut lent = before;
+    let answered = hall(tables, program, &mut lent, verb, i, n);
+    moved(answered, lent)
+}
+
 // The lean door is tried on a configuration of its own, and says nothing where it answers and leaves what `hall` does.
 fn run_case(name: &[u8; 64], size: usize, bytes: &[u8; BYTES]) {
     let mut tables: TableWords = [0; 2002];
@@ -56,15 +87,17 @@ fn run_case(name: &[u8; 64], size: usize, bytes: &[u8; BYTES]) {
     fill_program(&mut program, bytes);
     let mut state: StateWords = [0; 930];
     fill_state(&mut state, bytes);
-    let before = state;
+    let before = LentConfiguration { words: state };
     let verb = byte_at(bytes, 7018);
     let id = byte_at(bytes, 7019);
     let number = byte_at(bytes, 7020);
+    let after = lend(&tables, &program, before, verb, id, number);
     let mut lean = state;
-    let answered = hall(&tables, &program, &mut state, verb, id, number);
     let again = lent_step(&tables, &program, &mut lean, verb, id, number);
-    show(name, size, answered, &before, &state);
-    if !same_answer(again, answered) | !same_words(&lean, &state) {
+    let answered = after.answered;
+    let left = after.configuration.words;
+    show(name, size, answered, &state, &left);
+    if !same_answer(again, answered) | !same_words(&lean, &left) {
         io::write_all(STDOUT_FILENO, b"the lean door differs\n");
     }
 }
