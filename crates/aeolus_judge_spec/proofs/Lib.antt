@@ -3,5 +3,6 @@
 pub mod Cases
 pub mod Bound
 pub mod Room
+pub mod OnTexts
 pub mod Shams
 pub mod Once

@@ -1,9 +1,9 @@
 -- Whatever the two texts are, the report has at most 1,811 bytes, and 6 never occurs in a room of 8,192.
 -- Assumes nothing.
-use Prim.Native.Nat.{ℕ, zero, suc, _-_, _^_, _≤_, _<_}
+use Prim.Native.Nat.{ℕ, suc, _≤_, _<_}
 use mathlib.Core.List.{List, [], _∷_, map}
 use mathlib.Core.Bool.{Bool, true, false, true≢false}
-use mathlib.Core.Path.{_≡_, refl, sym, ap, _∙_}
+use mathlib.Core.Path.{_≡_, refl, sym, _∙_}
 use mathlib.Core.Logic.{_≢_, _↔_, _⊎_, ⊎-elim, inl, inr, by-cases}
 use native.Mathlib.Omega.{arith}
 use native.Mathlib.Decide.{decLt}
@@ -11,22 +11,20 @@ use lib.Dec.{leb}
 use lib.ListN.{length, getD, take, length-take, length-map}
 use lib.Seq.{getD-take}
 use borrow.Author.Tests.{leb-true, leb-false}
-use Rattle.sets.specs.Mask.{member}
 use Rattle.sets.proofs.Laws.{member-past}
 use Rattle.item_spec.proofs.Tests.{by-test}
 use Rattle.model.specs.declared.Text.{Text}
 use Rattle.model.specs.declared.Text.the-variants as text
-use Rattle.read_spec.specs.Lines.{on}
 use Rattle.judge_spec.specs.Course.{Course, faulty, reached}
 use Rattle.judge_spec.proofs.Read.{Ends, faults, reaches, ends-then, short-ends, read-ends}
-use Rattle.aeolus_model.specs.Model.{Universe, Configuration, nothing, noType, typeOf, nameOf, toOf, weak}
+use Rattle.aeolus_model.specs.Model.{Universe, Configuration, nothing, typeOf, toOf, weak}
 use Rattle.aeolus_model.specs.declared.Step.{Step}
-use Rattle.aeolus_model.specs.Action.{Plan, Action, new, del, change, bind, unbind, noStep, stepOf, actionOf, actionsOf}
+use Rattle.aeolus_model.specs.Action.{Plan, Action, new, del, change, bind, unbind, noStep, actionOf, actionsOf}
 use Rattle.aeolus_read_spec.specs.Texts.{sheet, plan}
-use Rattle.aeolus_read_spec.specs.Lawful.{UniverseLawful, UniversesAreLawful, ActionLawful, PlanLawful, PlansAreLawful}
-use Rattle.aeolus_read_spec.proofs.Lawful.{universes-are-lawful, plans-are-lawful, sheet-stops, plan-stops}
+use Rattle.aeolus_read_spec.specs.Lawful.{UniverseLawful, UniversesAreLawful, NamesOfUniversesDiffer, ActionLawful, PlanLawful, PlansAreLawful}
+use Rattle.aeolus_read_spec.proofs.Lawful.{universes-are-lawful, names-of-universes-differ, plans-are-lawful, sheet-stops, plan-stops}
 use Rattle.aeolus_rules_spec.specs.Correct.{holds}
-use Rattle.aeolus_rules_spec.specs.Definition1.{Named, Lawful}
+use Rattle.aeolus_rules_spec.specs.Definition1.{Lawful}
 use Rattle.aeolus_rules_spec.specs.Definition2.{Known, AllKnown}
 use Rattle.aeolus_rules_spec.specs.Action.{effect}
 use Rattle.aeolus_rules_spec.specs.Run.{Ran, oneMore, lastCheck, run}
@@ -41,8 +39,8 @@ use Rattle.aeolus_judge_spec.proofs.Bound.{report-le}
 
 -- ---- what was read is what the rules ask for
 
-lawful-of : (u : Universe) → UniverseLawful u → Lawful u
-unfolding Named
+pub lawful-of : (u : Universe) → UniverseLawful u → Lawful u
+unfolding NamesOfUniversesDiffer
 lawful-of u l = record {
   types = l .few;
   states = λ k h. l .types k h .states;
@@ -50,10 +48,7 @@ lawful-of u l = record {
   interfaces = λ k. by-cases (decLt k (u .count)) (λ h. l .types k h .interfaces) (λ h. rw (l .rest k (omega arith)) (omega arith));
   changes = λ k q s h hq e. by-cases (decLt s (typeOf u k .states)) (λ g. g)
       (λ g. absurd (true≢false (sym e ∙ member-past (typeOf u k .states) s (toOf u k q) (omega arith) (l .types k h .to q (omega (arith, l .types k h .states))))));
-  named = λ k i j hi hj e. by-cases (decLt k (u .count))
-      (λ h. by-cases (decLt i j) (λ g. absurd (omega (arith, l .types k h .ascend i j g hj)))
-      (λ g. by-cases (decLt j i) (λ f. absurd (omega (arith, l .types k h .ascend j i f hi))) (λ f. omega arith)))
-      (λ h. absurd (let z = rw (l .rest k (omega arith)) at hi in omega arith));
+  named = names-of-universes-differ u l;
 }
 
 action-known : (u : Universe) (a : Action) → ActionLawful (u .count) a → Known u a
@@ -67,18 +62,18 @@ steps-known : (u : Universe) (xs : List Step) → ((j : ℕ) → j < length xs �
 steps-known u [] h = tt
 steps-known u (x ∷ xs) h = (action-known u (actionOf x) (h 0 (omega arith)), steps-known u xs (λ j l. h (suc j) (omega arith)))
 
-all-known : (u : Universe) (p : Plan) → PlanLawful (u .count) p → AllKnown u (actionsOf p)
+pub all-known : (u : Universe) (p : Plan) → PlanLawful (u .count) p → AllKnown u (actionsOf p)
 all-known u p l =
     steps-known u (take (p .count) (p .steps))
     (λ j h. let g : j < p .count = omega (arith, length-take (p .count) (p .steps)) in rw (getD-take (p .count) (p .steps) j noStep g) (l .steps j g))
 
 -- ---- what two texts come to
 
-record Said (s a : List ℕ) (x : Universe × Plan) : Type 0 where
-  universe : UniverseLawful (x .0)
-  steps : PlanLawful (x .0 .count) (x .1)
+pub record Said (s a : List ℕ) (x : Universe × Plan) : Type 0 where
+  pub universe : UniverseLawful (x .0)
+  pub steps : PlanLawful (x .0 .count) (x .1)
 
-both-ends : (s a : List ℕ) → Ends (Said s a) (both s a)
+pub both-ends : (s a : List ℕ) → Ends (Said s a) (both s a)
 unfolding both UniversesAreLawful PlansAreLawful
 both-ends s a =
     ends-then _ (short-ends text.Sheet s) (λ _ _.

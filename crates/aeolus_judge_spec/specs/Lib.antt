@@ -4,5 +4,6 @@ pub mod Course
 pub mod Judged
 pub mod Cases
 pub mod Room
+pub mod OnTexts
 pub mod Shams
 pub mod Once

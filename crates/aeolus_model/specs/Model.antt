@@ -1,7 +1,8 @@
 -- Universe and configuration (003's Definitions 1 and 2), and how the rules look at them. What lies past an array's end is 0.
 use mathlib.Core.Bool.{Bool, not, cond, _&&_}
 use mathlib.Core.List.{List}
-use Prim.Native.Nat.{ℕ, zero, suc, _+_, _*_}
+use mathlib.Core.Path.{_≡_}
+use Prim.Native.Nat.{ℕ, zero, suc, _+_, _*_, _<_}
 use lib.Dec.{eqb}
 use lib.ListN.{getD, set, replicate}
 use Rattle.sets.specs.Test.{anyBelow}
@@ -58,6 +59,10 @@ typeOf u k = getD (u .types) k noType
 -- the name of interface j of type k
 abbrev pub nameOf : Universe → ℕ → ℕ → ℕ
 nameOf u k j = getD (u .names) (k * 16 + j) 0
+
+-- the names of one type differ
+unfoldable pub NamesDiffer : Universe → Type 0
+NamesDiffer u = (k i j : ℕ) → i < typeOf u k .interfaces → j < typeOf u k .interfaces → nameOf u k i ≡ nameOf u k j → i ≡ j
 
 -- the states that state q of type k may change to
 abbrev pub toOf : Universe → ℕ → ℕ → ℕ

@@ -19,12 +19,12 @@ use Rattle.read_spec.specs.Lines.{Run, Lines, stop}
 use Rattle.read_spec.proofs.Rests.{Runs, runs-then, runs-give, runs-line, runs-each, runs-end, Went, goes, stops, StopsAt, run-stops, run-gives}
 use Rattle.read_spec.proofs.Kept.{reads-due, reads-count}
 use Rattle.aeolus_model.specs.declared.Step.{Step}
-use Rattle.aeolus_model.specs.Model.{ResourceType, Universe, noType, noUniverse, typeOf, nameOf, toOf, numberPlace, numberAt, withType, withCount, withStates, withInitial, withInterfaces, withProvides, withRequires, withName, withTo, withNumber}
+use Rattle.aeolus_model.specs.Model.{ResourceType, Universe, noType, noUniverse, typeOf, nameOf, NamesDiffer, toOf, numberPlace, numberAt, withType, withCount, withStates, withInitial, withInterfaces, withProvides, withRequires, withName, withTo, withNumber}
 use Rattle.aeolus_model.specs.Action.{Plan, noStep, noPlan, stepOf, withStep, withSteps}
 use Rattle.aeolus_read_spec.specs.Limits.{typesOk, statesOk, stateOk, interfacesOk, activeOk, stepsOk}
 use Rattle.aeolus_read_spec.specs.Kinds.{provideKind, requireKind}
 use Rattle.aeolus_read_spec.specs.Texts.{typesAt, statesAt, initialAt, interfacesAt, inProvides, inRequires, withInterface, interfaceAt, toAt, rowAt, rowsAt, stateAt, typeHead, typeAt, sheet, stepAt, stepsAt, plan}
-use Rattle.aeolus_read_spec.specs.Lawful.{PortLawful, TypeLawful, UniverseLawful, UniversesAreLawful, NamesDiffer, PlanLawful, PlansAreLawful}
+use Rattle.aeolus_read_spec.specs.Lawful.{PortLawful, TypeLawful, UniverseLawful, UniversesAreLawful, NamesOfUniversesDiffer, PlanLawful, PlansAreLawful}
 use Rattle.aeolus_read_spec.proofs.Kept.{Named, reads-interface, reads-to, Ported, reads-row, Lawfully, reads-step}
 use Rattle.aeolus_read_spec.proofs.Away.{Sized, Away, away-none, away-then, type-away, type-own, name-away, to-away, number-away, lawful-away, Blank, blank-away, blank-first, sized-first, set-either, with-lt}
 
@@ -385,9 +385,9 @@ universes-are-lawful s r u e = run-gives runs-sheet s u r e
 pub sheet-stops : (s : List ℕ) (n : ℕ) (r : List ℕ) → sheet s ≡ stop n r → StopsAt s n r
 sheet-stops = run-stops runs-sheet
 
-pub names-differ : (u : Universe) → UniverseLawful u → NamesDiffer u
-unfolding NamesDiffer
-names-differ u w k i j a b e =
+pub names-of-universes-differ : NamesOfUniversesDiffer
+unfolding NamesOfUniversesDiffer NamesDiffer
+names-of-universes-differ u w k i j a b e =
     by-cases (decLt k (u .count))
     (λ h.
     let t = w .types k h in

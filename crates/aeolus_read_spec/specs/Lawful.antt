@@ -7,7 +7,7 @@ use mathlib.Core.Path.{_≡_}
 use lib.Dec.{eqb}
 use Rattle.sets.specs.Mask.{member}
 use Rattle.read_spec.specs.Lines.{on}
-use Rattle.aeolus_model.specs.Model.{ResourceType, Universe, noType, provision, strong, typeOf, nameOf, toOf, numberAt}
+use Rattle.aeolus_model.specs.Model.{ResourceType, Universe, noType, provision, strong, typeOf, nameOf, NamesDiffer, toOf, numberAt}
 use Rattle.aeolus_model.specs.Action.{Plan, Action, new, del, change, bind, unbind, stepOf, actionOf}
 use Rattle.aeolus_read_spec.specs.Texts.{sheet, plan}
 
@@ -43,9 +43,9 @@ pub record UniverseLawful (u : Universe) : Type 0 where
 unfoldable pub UniversesAreLawful : Type 0
 UniversesAreLawful = (s r : List ℕ) (u : Universe) → sheet s ≡ on u r → UniverseLawful u
 
--- the names of one type differ
-unfoldable pub NamesDiffer : Universe → Type 0
-NamesDiffer u = (k i j : ℕ) → i < typeOf u k .interfaces → j < typeOf u k .interfaces → nameOf u k i ≡ nameOf u k j → i ≡ j
+-- "the two names differ": 4 otherwise
+unfoldable pub NamesOfUniversesDiffer : Type 0
+NamesOfUniversesDiffer = (u : Universe) → UniverseLawful u → NamesDiffer u
 
 -- an action, in a sheet of n types
 abbrev pub ActionLawful : ℕ → Action → Type 0

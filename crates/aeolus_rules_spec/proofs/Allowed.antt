@@ -22,7 +22,6 @@ use Rattle.aeolus_rules_spec.specs.Unbind.{unbindCheck}
 use Rattle.aeolus_model.specs.Action.{Action, new, del, change, bind, unbind}
 use Rattle.aeolus_rules_spec.specs.Action.{check, effect, reachedCheck, number}
 use Rattle.aeolus_rules_spec.specs.Run.{lastCheck}
-use Rattle.aeolus_rules_spec.specs.Definition1.{Named}
 use Rattle.aeolus_rules_spec.specs.Definition3.{StrongCorrect, StrongExactly}
 use Rattle.aeolus_rules_spec.specs.Definition7.{Own, AllowedExactly}
 use Rattle.aeolus_rules_spec.proofs.Exactly.{strong-exactly}

@@ -12,9 +12,8 @@ use lib.ListN.{length, getD}
 use borrow.Author.Tests.{eq-eqb, ne-eqb, eqb-true, eqb-false, not-true, not-false, leb-true, le-leb}
 use Rattle.sets.proofs.Laws.{any-hit, any-some, any-none, all-at, all-of, below-cases}
 use Rattle.sets.specs.Test.{anyBelow, allBelow, tally}
-use Rattle.aeolus_model.specs.Model.{Universe, Configuration, provision, weak, strong, kindOf, stateOf, deployed, numberIn, numberOf, numberAt, isActive, bound, typeOf, nameOf, find, placeOf, lists}
+use Rattle.aeolus_model.specs.Model.{Universe, Configuration, provision, weak, strong, kindOf, stateOf, deployed, numberIn, numberOf, numberAt, isActive, bound, typeOf, nameOf, find, placeOf, lists, NamesDiffer}
 use Rattle.aeolus_rules_spec.specs.Correct.{provides, serves, employs, required, provided, asked, portHolds, componentHolds, holds}
-use Rattle.aeolus_rules_spec.specs.Definition1.{Named}
 use Rattle.aeolus_rules_spec.specs.Definition3.{Each, Distinct, Other, Serves, Employs, Required, Provided, Provisions, Demands, StrongCorrect, Correct, StrongExactly, WeakExactly, SixtyFourIsUnbounded}
 use Rattle.item_spec.proofs.Tests.{by-test}
 use Rattle.aeolus_rules_spec.proofs.Sizes.{each-map, Passes, distinct-few, Some, some-of, tally-none, none-tally, tally-le}
@@ -101,10 +100,10 @@ find-is (suc n) p e =
     by-test (anyBelow n p) (λ q. rw q (let (h, f) = find-is n p q in (le-step h, f)))
     (λ q. by-test (p n) (λ r. rw (q, r) (omega arith, r)) (λ r. absurd (true≢false′ (sym e ∙ rw (q, r)))))
 
-module _ (u : Universe) (named : Named u) (c : Configuration) (m z : ℕ) where
+module _ (u : Universe) (named : NamesDiffer u) (c : Configuration) (m z : ℕ) where
   -- of the interface at place j
   at-place : (j : ℕ) → j < typeOf u (kindOf c z) .interfaces → numberIn u c m z (nameOf u (kindOf c z) j) ≡ numberAt u (kindOf c z) (stateOf c z) m j
-  unfolding numberOf Named
+  unfolding numberOf NamesDiffer
   at-place j h =
       let k = kindOf c z in
       let test : ℕ → Bool = λ i. eqb (nameOf u k i) (nameOf u k j) in
@@ -137,7 +136,7 @@ module _ (u : Universe) (named : Named u) (c : Configuration) (m z : ℕ) where
       go j l zero e f = rw e
       go j l (suc n) e f = rw e (exactly (nameOf u (kindOf c z) j) n .1 (f (nameOf u (kindOf c z) j) n (at-place j l ∙ e)))
 
-holds-exactly : (u : Universe) → Named u → (c : Configuration) (m : ℕ) (P : ℕ → ℕ → ℕ → Type 0) → ((z r n : ℕ) → (asked u c m z r (suc n) ≡ true) ↔ P z r n)
+holds-exactly : (u : Universe) → NamesDiffer u → (c : Configuration) (m : ℕ) (P : ℕ → ℕ → ℕ → Type 0) → ((z r n : ℕ) → (asked u c m z r (suc n) ≡ true) ↔ P z r n)
     → (holds u c m ≡ true) ↔ ((z r n : ℕ) → z < 32 → deployed c z ≡ true → numberIn u c m z r ≡ suc n → P z r n)
 unfolding holds componentHolds
 holds-exactly u named c m P exactly = (

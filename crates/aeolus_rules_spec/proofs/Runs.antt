@@ -13,12 +13,11 @@ use borrow.Author.Tests.{eq-eqb, ne-eqb}
 use Rattle.sets.specs.Mask.{member}
 use Rattle.sets.proofs.Laws.{all-of, member-past}
 use Rattle.item_spec.proofs.Tests.{by-test}
-use Rattle.aeolus_model.specs.Model.{Universe, Configuration, nothing, provision, weak, strong, deployed}
+use Rattle.aeolus_model.specs.Model.{Universe, Configuration, nothing, provision, weak, strong, deployed, NamesDiffer}
 use Rattle.aeolus_rules_spec.specs.Correct.{componentHolds, holds}
 use Rattle.aeolus_model.specs.Action.{Action}
 use Rattle.aeolus_rules_spec.specs.Action.{effect, number, Acted, act}
 use Rattle.aeolus_rules_spec.specs.Run.{Ran, oneMore, lastCheck, run}
-use Rattle.aeolus_rules_spec.specs.Definition1.{Named}
 use Rattle.aeolus_rules_spec.specs.Definition3.{StrongCorrect, Correct, StrongExactly, WeakExactly}
 use Rattle.aeolus_rules_spec.specs.Definition7.{Own, AllowedExactly, Reaches, DeploymentRun, PointsAreCorrect, ZeroIsADeploymentRun, SeventyExactly}
 use Rattle.aeolus_rules_spec.specs.Refused.{RefusedChangesNothing, RunIsItsAcceptedPart}
@@ -96,7 +95,7 @@ pub run-is-its-accepted-part : RunIsItsAcceptedPart
 unfolding RunIsItsAcceptedPart
 run-is-its-accepted-part u c acts = run-part u acts c
 
-module _ (u : Universe) (named : Named u) where
+module _ (u : Universe) (named : NamesDiffer u) where
   start-correct : Correct u nothing
   unfolding StrongExactly WeakExactly
   start-correct = record {

@@ -3,11 +3,7 @@ use mathlib.Core.Bool.{true}
 use mathlib.Core.Path.{_≡_}
 use Prim.Native.Nat.{ℕ, _≤_, _<_}
 use Rattle.sets.specs.Mask.{member}
-use Rattle.aeolus_model.specs.Model.{Universe, typeOf, nameOf, toOf}
-
--- "the two names differ": 4 otherwise
-unfoldable pub Named : Universe → Type 0
-Named u = (k i j : ℕ) → i < typeOf u k .interfaces → j < typeOf u k .interfaces → nameOf u k i ≡ nameOf u k j → i ≡ j
+use Rattle.aeolus_model.specs.Model.{Universe, typeOf, NamesDiffer, toOf}
 
 pub record Lawful (u : Universe) : Type 0 where
   pub types : u .count ≤ 16
@@ -15,4 +11,4 @@ pub record Lawful (u : Universe) : Type 0 where
   pub initial : (k : ℕ) → k < u .count → typeOf u k .initial < typeOf u k .states
   pub interfaces : (k : ℕ) → typeOf u k .interfaces ≤ 16
   pub changes : (k q s : ℕ) → k < u .count → q < typeOf u k .states → member s (toOf u k q) ≡ true → s < typeOf u k .states
-  pub named : Named u
+  pub named : NamesDiffer u

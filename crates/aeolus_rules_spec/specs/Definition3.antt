@@ -5,8 +5,7 @@ use mathlib.Core.Path.{_≡_}
 use mathlib.Core.Logic.{_≢_, _⊎_, _↔_}
 use Prim.Native.Nat.{ℕ, zero, suc, _≤_, _<_}
 use lib.ListN.{length}
-use Rattle.aeolus_model.specs.Model.{Universe, Configuration, provision, weak, strong, deployed, numberIn, isActive, bound}
-use Rattle.aeolus_rules_spec.specs.Definition1.{Named}
+use Rattle.aeolus_model.specs.Model.{Universe, Configuration, provision, weak, strong, deployed, numberIn, isActive, bound, NamesDiffer}
 use Rattle.aeolus_rules_spec.specs.Correct.{holds}
 
 abbrev pub Each : (ℕ → Type 0) → List ℕ → Type 0
@@ -64,10 +63,10 @@ pub record Correct (u : Universe) (c : Configuration) : Type 0 where
   pub weak-demands : Demands u c weak
 
 unfoldable pub StrongExactly : Type 0
-StrongExactly = (u : Universe) (c : Configuration) → Named u → ((holds u c provision ≡ true) × (holds u c strong ≡ true)) ↔ StrongCorrect u c
+StrongExactly = (u : Universe) (c : Configuration) → NamesDiffer u → ((holds u c provision ≡ true) × (holds u c strong ≡ true)) ↔ StrongCorrect u c
 
 unfoldable pub WeakExactly : Type 0
-WeakExactly = (u : Universe) (c : Configuration) → Named u → (holds u c weak ≡ true) ↔ Demands u c weak
+WeakExactly = (u : Universe) (c : Configuration) → NamesDiffer u → (holds u c weak ≡ true) ↔ Demands u c weak
 
 -- "64 serves for an unbounded provision, since no more than 64 bindings can stand"
 unfoldable pub SixtyFourIsUnbounded : Type 0

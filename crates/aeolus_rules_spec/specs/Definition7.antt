@@ -5,12 +5,11 @@ use mathlib.Core.Path.{_≡_}
 use mathlib.Core.Logic.{_↔_}
 use Prim.Native.Nat.{ℕ, _<_}
 use Rattle.sets.specs.Mask.{member}
-use Rattle.aeolus_model.specs.Model.{Universe, Configuration, nothing, kindOf, stateOf, deployed, bound, toOf}
+use Rattle.aeolus_model.specs.Model.{Universe, Configuration, nothing, kindOf, stateOf, deployed, bound, toOf, NamesDiffer}
 use Rattle.aeolus_rules_spec.specs.Bind.{requires, offers, bindings}
 use Rattle.aeolus_model.specs.Action.{Action, new, del, change, bind, unbind}
 use Rattle.aeolus_rules_spec.specs.Action.{effect, number}
 use Rattle.aeolus_rules_spec.specs.Run.{run}
-use Rattle.aeolus_rules_spec.specs.Definition1.{Named}
 use Rattle.aeolus_rules_spec.specs.Definition3.{StrongCorrect, Correct}
 
 -- Definition 5, and for `bind` that fewer than 64 bindings stand
@@ -25,7 +24,7 @@ Own u c (unbind r z y) = bound u c r z y ≡ true
 -- nothing lawful is refused, and nothing unlawful let through
 unfoldable pub AllowedExactly : Type 0
 AllowedExactly =
-    (u : Universe) (c : Configuration) (a : Action) → Named u → (number u c a ≡ 0) ↔ (Own u c a × StrongCorrect u (effect u c a))
+    (u : Universe) (c : Configuration) (a : Action) → NamesDiffer u → (number u c a ≡ 0) ↔ (Own u c a × StrongCorrect u (effect u c a))
 
 -- "C = C₀, C(j-1) → Cj for every j", each of them strong correct, to d
 abbrev pub Reaches : Universe → Configuration → List Action → Configuration → Type 0
@@ -40,16 +39,16 @@ pub record DeploymentRun (u : Universe) (c : Configuration) (acts : List Action)
 
 -- at every accepted point, and so in every configuration that a report shows
 unfoldable pub PointsAreCorrect : Type 0
-PointsAreCorrect = (u : Universe) → Named u → (acts : List Action) → StrongCorrect u (run u nothing acts .configuration)
+PointsAreCorrect = (u : Universe) → NamesDiffer u → (acts : List Action) → StrongCorrect u (run u nothing acts .configuration)
 
 -- 0 is given just for a deployment run
 unfoldable pub ZeroIsADeploymentRun : Type 0
 ZeroIsADeploymentRun =
-    (u : Universe) → Named u → (acts : List Action)
+    (u : Universe) → NamesDiffer u → (acts : List Action)
     → (run u nothing acts .refused ≡ 0) ↔ ((d : Configuration) × DeploymentRun u nothing acts d)
 
 -- 70 just where all actions are allowed and the last configuration is not correct
 unfoldable pub SeventyExactly : Type 0
 SeventyExactly =
-    (u : Universe) → Named u → (acts : List Action)
+    (u : Universe) → NamesDiffer u → (acts : List Action)
     → (run u nothing acts .refused ≡ 70) ↔ ((d : Configuration) × Reaches u nothing acts d × (Correct u d → ⊥))
