@@ -1,57 +1,77 @@
--- Each of the four shams is told from the judge: by an answer of no step, and one whose second step is refused.
+-- No sham keeps the promise. Three answers catch them: of no step, one whose second step is refused, and one that a second sheet refuses.
 -- Assumes nothing.
 use Prim.Native.Nat.{ℕ}
 use mathlib.Core.List.{List}
-use mathlib.Core.Bool.{Bool, true, false, cond}
-use mathlib.Core.Path.{sym, ap, _∙_}
-use mathlib.Core.Logic.{_≢_, by-cases}
+use mathlib.Core.Path.{_≡_, refl, sym, ap, _∙_}
+use mathlib.Core.Logic.{by-cases}
 use native.Mathlib.Omega.{arith}
 use native.Mathlib.Decide.{ℕ-discrete}
-use lib.ListN.{length}
+use lib.ListN.{length, getD}
 use Rattle.aeolus_judge_spec.specs.declared.Verdict.{Verdict}
-use Rattle.aeolus_judge_spec.specs.Cases.{W}
-use Rattle.aeolus_judge_spec.specs.Judged.{Judgement, judged}
-use Rattle.aeolus_judge_spec.specs.Shams.{RefusesAll, FixedReport, CountsOn, InventsCount, FixedCount}
-use Rattle.aeolus_judge_spec.proofs.Cases.{nothingDone, twice, Told, computed}
+use Rattle.aeolus_judge_spec.specs.Cases.{W, L}
+use Rattle.aeolus_judge_spec.specs.Judged.{judged}
+use Rattle.aeolus_judge_spec.specs.Shams.{Judge, Keeps, Caught, counting, OneKeeps, RefusesAll, FixedReport, FixedPrint, CountsOn, InventsCount, InventsSteps, InventsOneMore}
+use Rattle.aeolus_judge_spec.proofs.Cases.{nothingDone, twice, moving, Told, computed}
 
--- of two numbers that differ, one is not n
-one-differs : (f : Bool → ℕ) → f true ≢ f false → (n : ℕ) → (b : Bool) × (f b ≢ n)
-one-differs f h n = by-cases (ℕ-discrete (f true) n) (λ e. (false, λ q. h (e ∙ sym q))) (λ e. (true, e))
+pub one-keeps : OneKeeps
+unfolding OneKeeps
+one-keeps s a old = record { verdict-is = refl; buffer-is = refl; place-is = refl }
 
-abbrev answers : Bool → List ℕ
-answers true = twice
-answers false = nothingDone
+-- what a judge that keeps its promise gives for two texts of which it is told what comes of them
+module _ (j : Judge) {old : List ℕ} (long : length old ≡ 8192) {s a : List ℕ} where
+  accepts : {n : ℕ} → judged s a 8192 .verdict .accepted ≡ n → Keeps j s a old → j s a old .verdict .accepted ≡ n
+  accepts is k = ap (λ (v : Verdict). v .accepted) (k .verdict-is) ∙ rw long is
 
--- no number is right everywhere, where the two answers differ in it
-number-differs : (f : Judgement → ℕ) → f (judged W twice 8192) ≢ f (judged W nothingDone 8192) → (n : ℕ) → (s : List ℕ) × (a : List ℕ) × (f (judged s a 8192) ≢ n)
-number-differs f h n = let (b, g) = one-differs (λ b. f (judged W (answers b) 8192)) h n in (W, answers b, g)
+  refuses : {n r d : ℕ} → Told s a n r d → Keeps j s a old → j s a old .verdict .refused ≡ r
+  refuses t k = ap (λ (v : Verdict). v .refused) (k .verdict-is) ∙ rw long (t .refused-is)
+
+  begins : {n r d : ℕ} → Told s a n r d → Keeps j s a old → getD (j s a old .after) 9 0 ≡ d
+  begins t k = ap (λ (l : List ℕ). getD l 9 0) (k .buffer-is) ∙ rw long (t .digit-is old)
 
 pub refuses-all : RefusesAll
 unfolding RefusesAll
-refuses-all = number-differs (λ j. j .verdict .refused) (omega (arith, computed .two-steps, computed .none))
-
-pub fixed-count : FixedCount
-unfolding FixedCount
-fixed-count = number-differs (λ j. j .verdict .accepted) (omega (arith, computed .two-steps, computed .none))
-
--- by the length of the bytes: both prints and both reports differ in it
-told : (b : Bool) → Told (answers b) (cond b 1 0) (cond b 61 0) (cond b 62 45)
-told true = computed .two-steps
-told false = computed .none
+refuses-all j never old long = (W, nothingDone, λ k. never W nothingDone old (refuses j long (computed .none) k))
 
 pub fixed-report : FixedReport
 unfolding FixedReport
-fixed-report r =
-    let (b, h) = one-differs (λ b. cond b 62 45) (omega arith) (length r) in
-    (W, answers b, λ q. h (sym (told b .prints) ∙ ap length q), λ q. h (sym (told b .written) ∙ ap length q))
+fixed-report j same old long =
+    by-cases (ℕ-discrete (getD (j W twice old .after) 9 0) 49)
+    (λ e. (W, nothingDone, λ k. omega (arith, e, begins j long (computed .none) k, ap (λ (l : List ℕ). getD l 9 0) (same W nothingDone W twice old))))
+    (λ e. (W, twice, λ k. e (begins j long (computed .two-steps) k)))
+
+pub fixed-print : FixedPrint
+unfolding FixedPrint
+fixed-print r =
+    by-cases (ℕ-discrete (getD r 9 0) 49)
+    (λ e. (W, nothingDone, λ q. omega (arith, e, computed .none .prints, ap (λ (l : List ℕ). getD l 9 0) q)))
+    (λ e. (W, twice, λ q. e (sym (ap (λ (l : List ℕ). getD l 9 0) q) ∙ computed .two-steps .prints)))
 
 pub counts-on : CountsOn
 unfolding CountsOn
-counts-on =
-    let j = computed .two-steps in
-    let k = computed .counted in
-    (W, twice, omega arith, omega arith, λ q. omega (arith, ap length q))
+counts-on old long =
+    let counted : counting W twice old .verdict .accepted ≡ 2 = rw long (computed .counted) in
+    (W, twice, λ k. omega (arith, accepts counting long (computed .two-steps .accepted-is) k, counted))
 
 pub invents-count : InventsCount
 unfolding InventsCount
-invents-count count s a v h e q = h (sym e ∙ ap (λ (x : Verdict). x .accepted) q)
+invents-count count j = (sheet, answer)
+  where
+    sheet : ((s a old : List ℕ) → j s a old .verdict .accepted ≡ count s) → Caught j
+    sheet is old long =
+        by-cases (ℕ-discrete (count W) 1)
+        (λ e. (W, nothingDone, λ k. omega (arith, e, is W nothingDone old, accepts j long (computed .none .accepted-is) k)))
+        (λ e. (W, twice, λ k. e (sym (is W twice old) ∙ accepts j long (computed .two-steps .accepted-is) k)))
+
+    answer : ((s a old : List ℕ) → j s a old .verdict .accepted ≡ count a) → Caught j
+    answer is old long =
+        by-cases (ℕ-discrete (count moving) 1)
+        (λ e. (W, moving, λ k. omega (arith, e, is W moving old, accepts j long (computed .moves) k)))
+        (λ e. (L, moving, λ k. e (sym (is L moving old) ∙ accepts j long (computed .moves-not) k)))
+
+pub invents-steps : InventsSteps
+unfolding InventsSteps
+invents-steps j is old long = (W, twice, λ k. omega (arith, computed .said, is W twice old, accepts j long (computed .two-steps .accepted-is) k))
+
+pub invents-one-more : InventsOneMore
+unfolding InventsOneMore
+invents-one-more j is old long = (W, nothingDone, λ k. omega (arith, is W nothingDone old, ap (λ (v : Verdict). v .accepted) (k .verdict-is)))
