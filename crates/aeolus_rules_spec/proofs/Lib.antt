@@ -6,3 +6,5 @@ pub mod Allowed
 pub mod Runs
 pub mod Bindings
 pub mod Kept
+pub mod Effects
+pub mod Counted
