@@ -15,14 +15,16 @@ use Rattle.model.specs.declared.Stepped.{Stepped}
 use Rattle.model.specs.declared.Concerned.the-variants.{NoPort}
 use Rattle.model.proofs.View.{length-list}
 use Rattle.read_spec.specs.Lawful.{tablesLawful, programLawful}
-use Rattle.rules_spec.specs.Step.{isNext, action, step}
+use Rattle.rules_spec.specs.Step.{isNext, action}
 use Rattle.judge_spec.specs.Course.{defaultDepth}
 use Rattle.words.specs.Words.{tablesIn, programIn, stateIn}
 use Rattle.words.proofs.Whole.{state-words}
 use Rattle.step_ports.specs.declared.Answered.{Answered}
 use Rattle.step_walk.specs.Reached.{stepped}
 use Rattle.step_walk.specs.Fits.{PortsFit, LawfulPortsFit}
+use Rattle.step_walk.specs.Held.{heldStep, HeldStepIsTheStep}
 use Rattle.step_walk.proofs.Fits.{lawful-ports-fit}
+use Rattle.step_walk.proofs.Held.{held-step-is-the-step}
 use Rattle.hall.specs.Screen.{limitBroken, lentLawful, hallStep, Left}
 use Rattle.hall.specs.Agree.{RefusedLeaves}
 use Rattle.hall.specs.Slots.{slots, Holds, Whole, EverySlot}
@@ -41,11 +43,12 @@ module _ (t : Tables) (p : Program) (c : Configuration) (s : Step) where
     unfolding lentLawful LawfulPortsFit
     fit e = lawful-ports-fit (t .count) p (and-left (programLawful (t .count) p) _ (and-right (tablesLawful t) _ (sym says ∙ not-false lawful e)))
 
-    pub ruled-left : not lawful ≡ false → (a : Answered) (d : Configuration) → (PortsFit p → stepped a d ≡ step defaultDepth t p c s) → Left t p c s a d
-    unfolding hallStep
+    pub ruled-left : not lawful ≡ false → (a : Answered) (d : Configuration) → stepped a d ≡ heldStep defaultDepth t p c s → Left t p c s a d
+    unfolding hallStep HeldStepIsTheStep
     ruled-left e a d is =
+        let steps = is ∙ held-step-is-the-step defaultDepth t p c s (fit e) in
         rw (sym says ∙ not-false lawful e)
-        (ap (λ (m : Stepped). m .refused) (is (fit e)), ap (λ (m : Stepped). m .port) (is (fit e)), ap (λ (m : Stepped). m .configuration) (is (fit e)))
+        (ap (λ (m : Stepped). m .refused) steps, ap (λ (m : Stepped). m .port) steps, ap (λ (m : Stepped). m .configuration) steps)
 
 -- what is left after a refusal is what was lent, so that to store it or not is one
 module _ (t : Tables) (p : Program) (c d : Configuration) (s : Step) (a : Answered) (left : Left t p c s a d) where

@@ -36,7 +36,9 @@ use Rattle.words.specs.Words.{stateIn}
 use Rattle.step_walk.specs.declared.Passed.{Passed}
 use Rattle.step_walk.specs.Reached.{walked}
 use Rattle.step_walk.specs.Fits.{PortsFit, LawfulPortsFit}
+use Rattle.step_walk.specs.Held.{heldWalk, HeldWalkIsTheWalk}
 use Rattle.step_walk.proofs.Fits.{lawful-ports-fit}
+use Rattle.step_walk.proofs.Held.{held-walk-is-the-walk}
 use Rattle.judge_lib.specs.declared.pairs.Outcome.{Outcome}
 use Rattle.judge_lib.specs.declared.pairs.Outcome.the-variants.{InSheet, InAnswer, Reached}
 use Rattle.judge_lib.specs.Came.{answered, outcomeOf, came, reportIn}
@@ -148,11 +150,11 @@ module _ (s a : List ℕ) where
 
   -- the course goes on with the walk of what they say
   pub outcome-walks : (o : Outcome) (t : Tables) (p : Program) (y : Answer) {w : Walked} → came o (t, p, y) ≡ both s a
-      → (PortsFit p → w ≡ walkAnswer defaultDepth t p y) → came o w ≡ course s a
-  unfolding course
+      → w ≡ heldWalk defaultDepth t p start (stepsOf y) → came o w ≡ course s a
+  unfolding course walkAnswer HeldWalkIsTheWalk
   outcome-walks (InSheet n at) t p y e f = rw (← e)
   outcome-walks (InAnswer n at) t p y e f = rw (← e)
-  outcome-walks Reached t p y e f = rw (← e, f (ports-fit t p y e))
+  outcome-walks Reached t p y e f = rw (← e, f, held-walk-is-the-walk defaultDepth t p start (stepsOf y) (ports-fit t p y e))
 
 -- ---- what is known of a walk, and of a fault
 

@@ -6,8 +6,10 @@ use words::state::put_server;
 use words::state::server;
 use words::state::server_of;
 ghost use mathlib.Core.Path.{_≡_};
-ghost use mathlib.Core.Bool.{_&&_};
-ghost use Prim.Native.Nat.{ℕ, _<_};
+ghost use mathlib.Core.Bool.{cond, _&&_};
+ghost use Prim.Native.Nat.{ℕ};
+ghost use lib.Dec.{ltb};
+ghost use Rattle.model.specs.Empty.{noServer};
 ghost use Rattle.model.specs.View.{portNumber, serverNumber, isServed, connectionAt};
 ghost use Rattle.rules_spec.specs.Standing.{someConnection};
 ghost use Rattle.rules_spec.specs.Del.{namedBy};
@@ -53,17 +55,18 @@ pub fn is_named(state: &StateWords, i: u32) -> bool
     found
 }
 
-// The number of provide port p of instance v as a server, where that is a word.
+// The number of provide port p of instance v as a server: none where that is no word.
 fn server_number(v: u32, p: u32) -> u32
-    ensures { λ r. ⌜ (portNumber v p < 4294967295 → r ≡ serverNumber v p) ⌝ }
+    ensures { λ r. ⌜ r ≡ cond (ltb (portNumber v p) 4294967295) (serverNumber v p) noServer ⌝ }
 {
     let n = (v as usize) * 16 + p as usize;
     if n < 4294967295 { n as u32 + 1 } else { 0 }
 }
 
+// Where no word holds the server's number, the use port is left without one.
 pub fn connect(state: &mut StateWords, u: u32, q: u32, v: u32, p: u32)
-    ensures { λ r. ⌜ (portNumber v p < 4294967295
-        → stateIn (now (state .exit)) ≡ connected (stateIn (now (state .entry))) (connectionOfWords u q v p)) ⌝ }
+    ensures { λ r. ⌜ stateIn (now (state .exit)) ≡ cond (ltb (portNumber v p) 4294967295)
+        (connected (stateIn (now (state .entry))) (connectionOfWords u q v p)) (disconnected (stateIn (now (state .entry))) (connectionOfWords u q v p)) ⌝ }
 {
     let x = server_number(v, p);
     put_server(state, (u as usize) * 16 + q as usize, x);

@@ -20,7 +20,6 @@ use rules_spec::refuse_if;
 use step_ports::instance::active;
 use words::StateWords;
 use words::TableWords;
-use words::more;
 use words::state::entries;
 use words::state::kind;
 use words::state::present;
@@ -35,7 +34,8 @@ use words::tables::is_use;
 use words::tables::ports_of;
 ghost use mathlib.Core.Path.{_≡_};
 ghost use mathlib.Core.Bool.{cond};
-ghost use Prim.Native.Nat.{_*_, _<_};
+ghost use Prim.Native.Nat.{suc, _*_, _<_};
+ghost use lib.Dec.{ltb};
 ghost use Rattle.model.specs.View.{instance, withQueue};
 ghost use Rattle.rules_spec.specs.Closing.{zeroed, renewed};
 ghost use Rattle.rules_spec.specs.Standing.{standing};
@@ -116,13 +116,21 @@ pub fn pushb_check(default: u32, tables: &TableWords, state: &StateWords, i: u32
     refuse_if(!here, ID_ABSENT, refuse_if(!exists, NO_SUCH, late))
 }
 
+// One more, and past the last word the same.
+fn one_more(n: u32) -> u32
+    ensures { λ r. ⌜ r ≡ cond (ltb n 4294967295) (suc n) n ⌝ }
+{
+    if n < 4294967295 { n + 1 } else { n }
+}
+
+// Where a word counts them no longer, nothing changes.
 pub fn push_to(state: &mut StateWords, i: u32, b: u32)
-    ensures { λ r. ⌜ (instance (stateIn (now (state .entry))) i .queued < 4294967295
-        → stateIn (now (state .exit)) ≡ pushed (stateIn (now (state .entry))) i b) ⌝ }
+    ensures { λ r. ⌜ stateIn (now (state .exit))
+        ≡ cond (ltb (instance (stateIn (now (state .entry))) i .queued) 4294967295) (pushed (stateIn (now (state .entry))) i b) (stateIn (now (state .entry))) ⌝ }
 {
     let n = queued(state, i);
     put_slot(state, (i as usize) * 8 + n as usize, b);
-    put_queued(state, i, more(n));
+    put_queued(state, i, one_more(n));
 }
 
 // Port q of instance i exists and is a use port, or a provide port.
@@ -142,9 +150,8 @@ pub fn is_port(tables: &TableWords, state: &StateWords, i: u32, q: u32, used: bo
 }
 
 pub fn con_check(tables: &TableWords, state: &StateWords, u: u32, uq: u32, v: u32, vq: u32) -> u32
-    ensures value { λ r. ⌜ r ≡ conCheck (tablesIn (now (tables .entry))) (standing (stateIn (now (state .entry)))) (stateIn (now (state .entry)))
+    ensures { λ r. ⌜ r ≡ conCheck (tablesIn (now (tables .entry))) (standing (stateIn (now (state .entry)))) (stateIn (now (state .entry)))
         (connectionOfWords u uq v vq) ⌝ }
-    ensures known { λ r. ⌜ (r ≡ 0 → v < 32) ⌝ }
 {
     let user = present(state, u);
     let provider = present(state, v);

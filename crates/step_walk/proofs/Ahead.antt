@@ -18,8 +18,8 @@ use Rattle.model.specs.declared.Walked.{Walked}
 use Rattle.model.specs.declared.Concerned.the-variants.{NoPort}
 use Rattle.model.specs.Empty.{noStep}
 use Rattle.model.specs.View.{stepsOf}
-use Rattle.rules_spec.specs.Step.{step}
-use Rattle.rules_spec.specs.Walk.{oneMore, walkBy, walk}
+use Rattle.rules_spec.specs.Walk.{oneMore, walkBy}
+use Rattle.step_walk.specs.Held.{heldStep, heldWalk}
 
 -- the steps that are left at step i: none, or the one that is due and those after it
 module _ (a : Answer) (full : length (a .steps) ≡ 1024) (i : ℕ) where
@@ -39,24 +39,24 @@ ahead i w = record { accepted = i + w .accepted; refused = w .refused; port = w 
 
 -- what is left from step i on, where the walk has come to c
 unfoldable pub rest : ℕ → Tables → Program → Answer → ℕ → Configuration → Walked
-rest default t p a i c = ahead i (walk default t p c (drop i (stepsOf a)))
+rest default t p a i c = ahead i (heldWalk default t p c (drop i (stepsOf a)))
 
 module _ (default : ℕ) (t : Tables) (p : Program) (a : Answer) (c : Configuration) where
-  pub walk-start : walk default t p c (stepsOf a) ≡ rest default t p a 0 c
+  pub walk-start : heldWalk default t p c (stepsOf a) ≡ rest default t p a 0 c
   unfolding rest
   walk-start = rw zero-add
 
   module _ (full : length (a .steps) ≡ 1024) (i : ℕ) where
     pub walk-end : min (a .count) 1024 ≤ i → rest default t p a i c ≡ record { accepted = i; refused = 0; port = NoPort; configuration = c }
-    unfolding rest walk
+    unfolding rest heldWalk
     walk-end h = rw (none-left a full i h, add-zero)
 
-    module _ (m : Stepped) (within : i < min (a .count) 1024) (is : m ≡ step default t p c (getD (a .steps) i noStep)) where
+    module _ (m : Stepped) (within : i < min (a .count) 1024) (is : m ≡ heldStep default t p c (getD (a .steps) i noStep)) where
       pub walk-refused : m .refused ≢ 0
           → rest default t p a i c ≡ record { accepted = i; refused = m .refused; port = m .port; configuration = m .configuration }
-      unfolding rest walk
+      unfolding rest heldWalk
       walk-refused d = rw (one-left a full i within, walkBy, ← is, ne-eqb (m .refused) 0 d, ← is, add-zero)
 
       pub walk-more : m .refused ≡ 0 → rest default t p a i c ≡ rest default t p a (i + 1) (m .configuration)
-      unfolding rest walk oneMore
+      unfolding rest heldWalk oneMore
       walk-more e = rw (one-left a full i within, walkBy, ← is, eq-eqb (m .refused) 0 e, ← is, add-suc, add-one, suc-add)

@@ -8,7 +8,7 @@ use lib.Dec.{eqb}
 use lib.ListN.{getD}
 use borrow.Author.Tests.{leb-true}
 use Rattle.sets.proofs.Laws.{all-at}
-use Rattle.item_spec.proofs.Tests.{by-test, and-right}
+use Rattle.item_spec.proofs.Tests.{by-test, and-left, and-right}
 use Rattle.model.specs.declared.Instruction.{Instruction}
 use Rattle.model.specs.Empty.{noInstruction}
 use Rattle.model.specs.Verb.{addVerb, delVerb, pushbVerb, conVerb, dconVerb}
@@ -24,7 +24,7 @@ verb-fits n x e =
     by-test (eqb (x .verb) addVerb) (λ a. rw a tt)
     (λ a. by-test (eqb (x .verb) delVerb) (λ b. rw (a, b) tt)
     (λ b. by-test (eqb (x .verb) pushbVerb) (λ d. rw (a, b, d) tt)
-    (λ d. by-test (eqb (x .verb) conVerb) (λ f. rw (a, b, d, f) (omega (arith, leb-true (x .provideport) 15 (and-right (idOk (x .provider)) _ (and-right (portOk (x .number)) _ (rw (a, d, f) at e))))))
+    (λ d. by-test (eqb (x .verb) conVerb) (λ f. rw (a, b, d, f) (let g = and-right (portOk (x .number)) _ (rw (a, d, f) at e) in omega (arith, leb-true (x .provider) 31 (and-left (idOk (x .provider)) _ g), leb-true (x .provideport) 15 (and-right (idOk (x .provider)) _ g))))
     (λ f. by-test (eqb (x .verb) dconVerb) (λ g. rw (a, b, d, f, g) tt) (λ g. rw (a, b, d, f, g) tt)))))
 
 pub lawful-ports-fit : LawfulPortsFit

@@ -20,8 +20,10 @@ use Rattle.model.specs.View.{withDone}
 use Rattle.item_spec.proofs.Tests.{by-test}
 use Rattle.rules_spec.specs.Standing.{Standing, standing}
 use Rattle.rules_spec.specs.Action.{instructionAction, moveAction, effect, concern}
-use Rattle.rules_spec.specs.Step.{actionAt, action, checkAt, stepCheckWith, stepTo, step}
+use Rattle.rules_spec.specs.Step.{actionAt, action, checkAt, stepCheckWith}
 use Rattle.step_ports.specs.declared.Answered.{Answered}
+use Rattle.step_walk.specs.Held.{held, heldTo, heldStep}
+use Rattle.step_walk.proofs.Held.{held-fits, moves-fit}
 use Rattle.step_walk.specs.Reached.{answerAt, stepped}
 
 -- an instruction asks no port
@@ -43,26 +45,26 @@ module _ (default : ℕ) (t : Tables) (p : Program) (c : Configuration) (s : Ste
     number : x .refused ≡ checkAt default t c (moveAction s)
     number = ap (λ (y : Answered). y .refused) e
 
-    pub move-refused : x .refused ≢ 0 → stepped x c ≡ step default t p c s
-    unfolding step stepCheckWith action
+    pub move-refused : x .refused ≢ 0 → stepped x c ≡ heldStep default t p c s
+    unfolding heldStep stepCheckWith action
     move-refused d = rw (ne-eqb _ _ is, ne-eqb (checkAt default t c (moveAction s)) 0 (λ z. d (number ∙ z)), e)
 
-    pub move-made : x .refused ≡ 0 → (d : Configuration) → d ≡ effect t c (moveAction s) → settled 0 NoPort d ≡ step default t p c s
-    unfolding step stepCheckWith stepTo action
-    move-made z d f = rw (ne-eqb _ _ is, eq-eqb (checkAt default t c (moveAction s)) 0 (sym number ∙ z), f)
+    pub move-made : x .refused ≡ 0 → (d : Configuration) → d ≡ effect t c (moveAction s) → settled 0 NoPort d ≡ heldStep default t p c s
+    unfolding heldStep stepCheckWith heldTo action
+    move-made z d f = rw (ne-eqb _ _ is, eq-eqb (checkAt default t c (moveAction s)) 0 (sym number ∙ z), f, held-fits t c (moveAction s) (moves-fit s))
 
   module _ (is : s .verb ≡ 0) where
-    pub none-left : p .count ≤ c .done → settled 10 NoPort c ≡ step default t p c s
-    unfolding step stepCheckWith action
+    pub none-left : p .count ≤ c .done → settled 10 NoPort c ≡ heldStep default t p c s
+    unfolding heldStep stepCheckWith action
     none-left h =
         rw (eq-eqb _ _ is, le-leb _ _ h) (ap (λ (q : Concerned). settled 10 q c) (sym (unasked t (standing c) c p (c .done) 10)))
 
     module _ (n : ℕ) (left : c .done < p .count) (e : n ≡ checkAt default t c (actionAt p (c .done))) where
-      pub next-refused : n ≢ 0 → settled n NoPort c ≡ step default t p c s
-      unfolding step stepCheckWith action
+      pub next-refused : n ≢ 0 → settled n NoPort c ≡ heldStep default t p c s
+      unfolding heldStep stepCheckWith action
       next-refused d =
           rw (eq-eqb _ _ is, lt-leb _ _ left, ← e, ne-eqb n 0 d) (ap (λ (q : Concerned). settled n q c) (sym (unasked t (standing c) c p (c .done) n)))
 
-      pub next-made : n ≡ 0 → (d : Configuration) → d ≡ withDone (effect t c (actionAt p (c .done))) (c .done + 1) → settled 0 NoPort d ≡ step default t p c s
-      unfolding step stepCheckWith stepTo action
+      pub next-made : n ≡ 0 → (d : Configuration) → d ≡ withDone (held t c (actionAt p (c .done))) (c .done + 1) → settled 0 NoPort d ≡ heldStep default t p c s
+      unfolding heldStep stepCheckWith heldTo action
       next-made z d f = rw (eq-eqb _ _ is, lt-leb _ _ left, ← e, eq-eqb n 0 z, f, add-one (c .done))

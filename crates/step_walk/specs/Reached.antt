@@ -4,7 +4,7 @@ use Rattle.model.specs.declared.Tables.{Tables}
 use Rattle.model.specs.declared.Configuration.{Configuration}
 use Rattle.model.specs.declared.Stepped.{Stepped}
 use Rattle.model.specs.declared.Walked.{Walked}
-use Rattle.model.specs.View.{instance, portNumber}
+use Rattle.model.specs.View.{instance}
 use Rattle.rules_spec.specs.Standing.{standing}
 use Rattle.rules_spec.specs.Action.{Action, concern}
 use Rattle.rules_spec.specs.Step.{checkAt}
@@ -25,10 +25,10 @@ passed n a = record { accepted = n; refused = a .refused; port = a .port }
 abbrev pub walked : Passed → Configuration → Walked
 walked w c = record { accepted = w .accepted; refused = w .refused; port = w .port; configuration = c }
 
--- the number that an instruction makes one more, where it has one: of the behaviors queued, of the provide port that is to serve
+-- the number that an instruction makes one more, where it has one: of the behaviors queued
 abbrev pub tally : Configuration → Action → ℕ
 tally c (Action.pushb i b) = instance c i .queued
-tally c (Action.con k) = portNumber (k .provider) (k .provideport)
+tally c (Action.con k) = 0
 tally c (Action.add i k) = 0
 tally c (Action.del i) = 0
 tally c (Action.dcon k) = 0

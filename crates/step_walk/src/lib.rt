@@ -1,6 +1,6 @@
 // One step by its verb, and the walk of an answer, in place.
-// Promised: what each leaves in the state and answers is the step and the walk of rules/specs, of every program whose `con` lines name ports
-// up to 15, as lawful ones do: a word does not hold every server's number.
+// Promised, of every program: what each leaves in the state and answers is the step and the walk of rules/specs, but that a use port which is to
+// get a server whose number no word holds is left without one (specs/Held).
 use model::Concerned;
 use rules_spec::NO_INSTRUCTION_LEFT;
 use step_instructions::add_check;
@@ -41,12 +41,11 @@ ghost use mathlib.Core.Path.{_≡_};
 ghost use Prim.Native.Nat.{ℕ, _<_, min};
 ghost use Rattle.model.specs.View.{stepsOf};
 ghost use Rattle.rules_spec.specs.Action.{instructionAction, moveAction, effect};
-ghost use Rattle.rules_spec.specs.Step.{checkAt, step};
-ghost use Rattle.rules_spec.specs.Walk.{walk};
+ghost use Rattle.rules_spec.specs.Step.{checkAt};
 ghost use Rattle.words.specs.Words.{tablesIn, programIn, answerIn, stateIn};
 ghost use Rattle.words.specs.Parts.{said, stepOf};
 ghost use Rattle.step_walk.specs.Reached.{tally, answerAt, stepped, passed, walked};
-ghost use Rattle.step_walk.specs.Fits.{PortFits, PortsFit};
+ghost use Rattle.step_walk.specs.Held.{held, heldStep, heldWalk};
 
 // How far a walk came: the steps allowed, the number of the refusal, or 0, and the use port concerned.
 pub struct Passed {
@@ -81,8 +80,7 @@ fn move_to(tables: &TableWords, state: &mut StateWords, verb: u32, i: u32, n: u3
 // The number of an instruction, by its verb: an unknown one counts as the last. Where it is 0 there is room for one more.
 fn line_check(default: u32, tables: &TableWords, state: &StateWords, line: InstructionWords) -> u32
     ensures value { λ r. ⌜ r ≡ checkAt default (tablesIn (now (tables .entry))) (stateIn (now (state .entry))) (instructionAction (said line)) ⌝ }
-    ensures room { λ r. ⌜ (PortFits (instructionAction (said line)) → r ≡ 0
-        → tally (stateIn (now (state .entry))) (instructionAction (said line)) < 4294967295) ⌝ }
+    ensures room { λ r. ⌜ (r ≡ 0 → tally (stateIn (now (state .entry))) (instructionAction (said line)) < 4294967295) ⌝ }
 {
     let verb = line.verb;
     let i = line.id;
@@ -99,7 +97,7 @@ fn line_check(default: u32, tables: &TableWords, state: &StateWords, line: Instr
 
 fn line_to(tables: &TableWords, state: &mut StateWords, line: InstructionWords)
     ensures { λ r. ⌜ (tally (stateIn (now (state .entry))) (instructionAction (said line)) < 4294967295
-        → stateIn (now (state .exit)) ≡ effect (tablesIn (now (tables .entry))) (stateIn (now (state .entry))) (instructionAction (said line))) ⌝ }
+        → stateIn (now (state .exit)) ≡ held (tablesIn (now (tables .entry))) (stateIn (now (state .entry))) (instructionAction (said line))) ⌝ }
 {
     let verb = line.verb;
     let i = line.id;
@@ -124,8 +122,8 @@ pub fn step(
     i: u32,
     n: u32,
 ) -> Answered
-    ensures { λ r. ⌜ (PortsFit (programIn (now (program .entry))) → stepped r (stateIn (now (state .exit)))
-        ≡ step default (tablesIn (now (tables .entry))) (programIn (now (program .entry))) (stateIn (now (state .entry))) (stepOf verb i n)) ⌝ }
+    ensures { λ r. ⌜ stepped r (stateIn (now (state .exit)))
+        ≡ heldStep default (tablesIn (now (tables .entry))) (programIn (now (program .entry))) (stateIn (now (state .entry))) (stepOf verb i n) ⌝ }
 {
     if verb != 0 {
         let answered = move_check(tables, state, verb, i, n);
@@ -176,9 +174,9 @@ pub fn walk(
     answer: &AnswerWords,
     state: &mut StateWords,
 ) -> Passed
-    ensures { λ r. ⌜ (PortsFit (programIn (now (program .entry))) → walked r (stateIn (now (state .exit)))
-        ≡ walk default (tablesIn (now (tables .entry))) (programIn (now (program .entry))) (stateIn (now (state .entry)))
-        (stepsOf (answerIn (now (answer .entry))))) ⌝ }
+    ensures { λ r. ⌜ walked r (stateIn (now (state .exit)))
+        ≡ heldWalk default (tablesIn (now (tables .entry))) (programIn (now (program .entry))) (stateIn (now (state .entry)))
+        (stepsOf (answerIn (now (answer .entry)))) ⌝ }
 {
     let n = step_count(answer);
     let mut k: u32 = 0;

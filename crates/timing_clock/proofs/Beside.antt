@@ -15,14 +15,14 @@ use Rattle.model.specs.declared.Stepped.{Stepped}
 use Rattle.model.specs.declared.Concerned.the-variants.{NoPort}
 use Rattle.model.specs.Empty.{noStep, start}
 use Rattle.model.specs.View.{stepsOf}
-use Rattle.rules_spec.specs.Step.{step}
-use Rattle.rules_spec.specs.Walk.{besideBy, walkAnswer}
+use Rattle.rules_spec.specs.Walk.{besideBy}
+use Rattle.step_walk.specs.Held.{heldStep, heldWalk}
 use Rattle.step_walk.proofs.Ahead.{rest, walk-start, walk-more, walk-refused, walk-end, none-left, one-left}
 use Rattle.times_spec.specs.declared.Times.{Times}
-use Rattle.timing_spec.specs.Clock.{Clock, atStart, tick, clockFrom, clockOf}
+use Rattle.timing_spec.specs.Clock.{Clock, atStart, tick}
 use Rattle.timing_spec.specs.Mark.{markOf, markAfter}
 use Rattle.timing_clock.specs.Paced.{mostSeconds, Past, Paced}
-use Rattle.timing_clock.specs.Once.{Promised}
+use Rattle.timing_clock.specs.Once.{heldClock, Promised}
 use Rattle.timing_clock.proofs.Pace.{start-past}
 
 -- after i steps the clock has kept its pace, whatever the program
@@ -40,19 +40,18 @@ kept-more h g = record { slow = omega (arith, h .slow, g .slow); past = g .past 
 module _ (default : ℕ) (t : Tables) (p : Program) (a : Answer) (ts : Times) where
   -- the walk has come to step i and to c, and the clock to k
   pub record Beside (i : ℕ) (c : Configuration) (k : Clock) : Type 0 where
-    pub walk-is : walkAnswer default t p a ≡ rest default t p a i c
-    pub clock-is : clockOf default t p a ts ≡ clockFrom default t p ts c (drop i (stepsOf a)) k .now
+    pub walk-is : heldWalk default t p start (stepsOf a) ≡ rest default t p a i c
+    pub clock-is : heldClock default t p ts start (stepsOf a) atStart .now ≡ heldClock default t p ts c (drop i (stepsOf a)) k .now
 
   pub at-start : Beside 0 start atStart
-  unfolding walkAnswer clockOf
   at-start = record { walk-is = walk-start default t p a start; clock-is = refl }
 
   module _ (full : length (a .steps) ≡ 1024) {i : ℕ} {c : Configuration} {k : Clock} (here : Beside i c k) where
-    module _ (m : Stepped) (within : i < min (a .count) 1024) (is : m ≡ step default t p c (getD (a .steps) i noStep)) where
+    module _ (m : Stepped) (within : i < min (a .count) 1024) (is : m ≡ heldStep default t p c (getD (a .steps) i noStep)) where
       clock-more : m .refused ≡ 0
-          → clockFrom default t p ts c (drop i (stepsOf a)) k
-          ≡ clockFrom default t p ts (m .configuration) (drop (i + 1) (stepsOf a)) (tick ts c (m .configuration) (getD (a .steps) i noStep) k)
-      unfolding clockFrom
+          → heldClock default t p ts c (drop i (stepsOf a)) k
+          ≡ heldClock default t p ts (m .configuration) (drop (i + 1) (stepsOf a)) (tick ts c (m .configuration) (getD (a .steps) i noStep) k)
+      unfolding heldClock
       clock-more e = rw (one-left a full i within, besideBy, ← is, eq-eqb (m .refused) 0 e, ← is, add-one)
 
       pub one-further : m .refused ≡ 0 → (l : Clock) → l ≡ tick ts c (m .configuration) (getD (a .steps) i noStep) k → Beside (i + 1) (m .configuration) l
@@ -70,7 +69,7 @@ module _ (default : ℕ) (t : Tables) (p : Program) (a : Answer) (ts : Times) wh
 
     pub at-end : min (a .count) 1024 ≤ i
         → Promised default t p a ts (record { passed = record { accepted = i; refused = 0; port = NoPort }; mark = markOf (ts .par) (k .now) }) c
-    unfolding markAfter clockFrom
+    unfolding markAfter heldClock
     at-end h =
         let e = here .walk-is ∙ walk-end default t p a c full i h in
         record { walked-is = sym e; mark-is = rw (e, here .clock-is, none-left a full i h) }

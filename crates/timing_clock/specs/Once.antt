@@ -7,23 +7,40 @@ use Rattle.model.specs.declared.Tables.{Tables}
 use Rattle.model.specs.declared.Program.{Program}
 use Rattle.model.specs.declared.Answer.{Answer}
 use Rattle.model.specs.declared.Configuration.{Configuration}
-use Rattle.rules_spec.specs.Walk.{walkAnswer}
+use Rattle.model.specs.declared.Step.{Step}
+use Rattle.model.specs.Empty.{start}
+use Rattle.model.specs.View.{stepsOf}
+use Rattle.rules_spec.specs.Walk.{besideBy, walkAnswer}
 use Rattle.times_spec.specs.declared.Times.{Times}
-use Rattle.timing_spec.specs.Clock.{clockOf}
+use Rattle.timing_spec.specs.Clock.{Clock, atStart, tick, clockOf}
 use Rattle.timing_spec.specs.Mark.{markAfter}
 use Rattle.words.specs.Rows.{word}
 use Rattle.words.specs.Words.{stateIn}
 use Rattle.step_walk.specs.Reached.{walked}
+use Rattle.step_walk.specs.Fits.{PortsFit}
+use Rattle.step_walk.specs.Held.{heldStep, heldWalk}
 use Rattle.timing_clock.specs.declared.TimedWalk.{TimedWalk}
 
 -- times with this par, these pairs listed and these seconds
 abbrev pub timesIn : ℕ → List ℕ → List ℕ → Times
 timesIn par listed seconds = record { par = par; listed = listed; seconds = seconds }
 
--- what the timed walk promises: the walk of the rules, and its mark
+-- the clock beside a walk in words (step_walk's Held)
+unfoldable pub heldClock : ℕ → Tables → Program → Times → Configuration → List Step → Clock → Clock
+heldClock default t p ts c ss k = besideBy (heldStep default t p) (tick ts) c ss k
+
+-- what the timed walk promises, of every program: the walk in words, and its mark
 pub record Promised (default : ℕ) (t : Tables) (p : Program) (a : Answer) (ts : Times) (r : TimedWalk) (c : Configuration) : Type 0 where
-  pub walked-is : walked (r .passed) c ≡ walkAnswer default t p a
-  pub mark-is : r .mark ≡ markAfter (walkAnswer default t p a .refused) (ts .par) (clockOf default t p a ts)
+  pub walked-is : walked (r .passed) c ≡ heldWalk default t p start (stepsOf a)
+  pub mark-is : r .mark ≡ markAfter (heldWalk default t p start (stepsOf a) .refused) (ts .par) (heldClock default t p ts start (stepsOf a) atStart .now)
+
+-- where the numbers are words that is the walk of the rules, and its mark
+unfoldable pub TimedAsRuled : Type 0
+TimedAsRuled =
+    (default : ℕ) (t : Tables) (p : Program) (a : Answer) (ts : Times) (r : TimedWalk) (c : Configuration)
+    → PortsFit p
+    → Promised default t p a ts r c
+    → (walked (r .passed) c ≡ walkAnswer default t p a) × (r .mark ≡ markAfter (walkAnswer default t p a .refused) (ts .par) (clockOf default t p a ts))
 
 -- and no other words of the state: so many, each of 32 bits
 unfoldable pub NoOtherTimedWalk : Type 0

@@ -29,7 +29,6 @@ ghost use Rattle.timing_spec.specs.Clock.{started, notes};
 ghost use Rattle.timing_spec.specs.Mark.{markOf};
 ghost use Rattle.words.specs.Words.{tablesIn, programIn, answerIn, stateIn};
 ghost use Rattle.words.specs.Parts.{stepOf};
-ghost use Rattle.step_walk.specs.Fits.{PortsFit};
 ghost use Rattle.timing_clock.specs.Once.{Promised, timesIn};
 ghost use Rattle.timing_clock.specs.Paced.{clockAt, longest, InTime, Ticks};
 
@@ -141,7 +140,7 @@ pub fn walk_timed(
     par: u32,
     seconds: &[u32; 1024],
 ) -> TimedWalk
-    ensures { λ r. ⌜ ((listed : List ℕ) → PortsFit (programIn (now (program .entry)))
+    ensures { λ r. ⌜ ((listed : List ℕ)
         → Promised default (tablesIn (now (tables .entry))) (programIn (now (program .entry)))
         (answerIn (now (answer .entry))) (timesIn par listed (now (seconds .entry))) r (stateIn (now (state .exit)))) ⌝ }
 {

@@ -7,7 +7,7 @@ pub mod tables;
 
 use model::mask_at;
 ghost use mathlib.Core.Path.{_≡_};
-ghost use Prim.Native.Nat.{suc, _-_, _<_};
+ghost use Prim.Native.Nat.{_-_, _<_};
 ghost use lib.ListN.{set};
 ghost use Rattle.words.specs.Rows.{word, rowAt, putsIn, puts, Laid, Stands};
 
@@ -82,11 +82,4 @@ pub fn fewer(a: u32, b: u32) -> u32
     ensures { λ r. ⌜ r ≡ a - b ⌝ }
 {
     if b < a { a - b } else { 0 }
-}
-
-// One more, where that is a word.
-pub fn more(n: u32) -> u32
-    ensures { λ r. ⌜ (n < 4294967295 → r ≡ suc n) ⌝ }
-{
-    if n < 4294967295 { n + 1 } else { n }
 }

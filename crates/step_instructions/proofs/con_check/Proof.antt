@@ -1,18 +1,9 @@
-use mathlib.Core.Path.{_≡_, sym, _∙_}
-use mathlib.Core.Logic.{by-cases}
-use mathlib.Core.Bool.{true, false≢true}
-use mathlib.Core.List.{List}
-use Prim.Native.Nat.{ℕ, _<_}
-use native.Mathlib.Decide.{decLt}
-use native.Mathlib.Omega.{arith}
+use mathlib.Core.Path.{_≡_}
 use borrow.Author.Needs.{needs}
-use Rattle.model.specs.View.{instance}
 use Rattle.rules_spec.specs.Standing.{standing}
 use Rattle.rules_spec.specs.Con.{conCheck}
-use Rattle.rules_spec.proofs.Allowed.{con-facts}
 use Rattle.words.specs.Words.{tablesIn, stateIn}
 use Rattle.words.specs.Parts.{connectionOfWords}
-use Rattle.words.proofs.InState.{present-past}
 use Rattle.step_instructions.proofs.con_check.Statement.{statement}
 use Rattle.step_instructions.proofs.con_check.Tie as tie
 
@@ -25,14 +16,5 @@ value c =
     let q = l .before .before .before in
     rw (← q .before .before .before .present .ensures, ← q .before .before .present2 .ensures, ← q .before .is-port .ensures, ← q .is-port2 .ensures, ← l .before .before .has-server .ensures, ← l .before .entries .ensures .0, ← l .refuse-if .ensures, ← c .before .before .before .before .before .refuse-if2 .ensures, ← c .before .before .before .before .refuse-if3 .ensures, ← c .before .before .before .refuse-if4 .ensures, ← c .before .before .refuse-if5 .ensures, ← c .before .refuse-if6 .ensures) (c .refuse-if7 .ensures)
 
-present-small : (ws : List ℕ) (i : ℕ) → instance (stateIn ws) i .present ≡ true → i < 32
-present-small ws i here = by-cases (decLt i 32) (λ h. h) (λ h. absurd (false≢true (sym (present-past ws i (omega arith)) ∙ here)))
-
-returns : tie.Need-returns
-returns c =
-    let s = c .before .before .before .before .before .before .before .before .before .before .before .before .before .args in
-    let facts = con-facts (tablesIn (s .tables .now)) (stateIn (s .state .now)) (connectionOfWords (s .u) (s .uq) (s .v) (s .vq)) in
-    (value c, λ e. present-small (s .state .now) (s .v) (facts (sym (value c) ∙ e) .provider))
-
 pub con-check-spec : {M : Type 1} → statement M
-con-check-spec = tie.close (tie.spec (λ c κs. search needs) (λ c κs. search needs) (λ c κs. search needs) (λ c κs. search needs) (λ c κs. search needs) (λ c κs. search needs) (λ c κs. search needs) (λ c κs. search needs) (λ c κs. search needs) (λ c κs. search needs) (λ c κs. search needs) (λ c κs. search needs) (λ c κs. search needs) returns)
+con-check-spec = tie.close (tie.spec (λ c κs. search needs) (λ c κs. search needs) (λ c κs. search needs) (λ c κs. search needs) (λ c κs. search needs) (λ c κs. search needs) (λ c κs. search needs) (λ c κs. search needs) (λ c κs. search needs) (λ c κs. search needs) (λ c κs. search needs) (λ c κs. search needs) (λ c κs. search needs) value)

@@ -10,9 +10,9 @@ unfolding instructionAction actionCheck
 line-check-spec =
     tie.close
     (tie.spec (λ c κs. search needs) (λ c κs. search needs) (λ c κs. search needs) (λ c κs. search needs) (λ c κs. search needs) (λ c κs. search needs)
-    (λ c. (rw (c .before .match .keys1) (c .add-check .ensures), λ fits e. rw (c .before .match .keys1) (omega arith)))
-    (λ c. (rw (c .before .match .keys2) (c .del-check .ensures), λ fits e. rw (c .before .match .keys2) (omega arith)))
-    (λ c. (rw (c .before .match .keys3) (c .pushb-check .ensures .0), λ fits e. rw (c .before .match .keys3) (c .pushb-check .ensures .1 e)))
-    (λ c. (rw (c .before .match .keys4) (c .con-check .ensures .0), λ fits e. rw (c .before .match .keys4) (omega (arith, c .con-check .ensures .1 e, rw (c .before .match .keys4) at fits))))
-    (λ c. (rw (c .before .match .keys5) (c .dcon-check .ensures), λ fits e. rw (c .before .match .keys5) (omega arith)))
-    (λ c. let r = c .before .match .rest in (rw (ne-eqb _ _ (r .0 .0 .0 .0 .1), ne-eqb _ _ (r .0 .0 .0 .1), ne-eqb _ _ (r .0 .0 .1), ne-eqb _ _ (r .0 .1), ne-eqb _ _ (r .1)) (c .wait-check .ensures), λ fits e. rw (ne-eqb _ _ (r .0 .0 .0 .0 .1), ne-eqb _ _ (r .0 .0 .0 .1), ne-eqb _ _ (r .0 .0 .1), ne-eqb _ _ (r .0 .1), ne-eqb _ _ (r .1)) (omega arith))))
+    (λ c. (rw (c .before .match .keys1) (c .add-check .ensures), λ e. rw (c .before .match .keys1) (omega arith)))
+    (λ c. (rw (c .before .match .keys2) (c .del-check .ensures), λ e. rw (c .before .match .keys2) (omega arith)))
+    (λ c. (rw (c .before .match .keys3) (c .pushb-check .ensures .0), λ e. rw (c .before .match .keys3) (c .pushb-check .ensures .1 e)))
+    (λ c. (rw (c .before .match .keys4) (c .con-check .ensures), λ e. rw (c .before .match .keys4) (omega arith)))
+    (λ c. (rw (c .before .match .keys5) (c .dcon-check .ensures), λ e. rw (c .before .match .keys5) (omega arith)))
+    (λ c. let r = c .before .match .rest in (rw (ne-eqb _ _ (r .0 .0 .0 .0 .1), ne-eqb _ _ (r .0 .0 .0 .1), ne-eqb _ _ (r .0 .0 .1), ne-eqb _ _ (r .0 .1), ne-eqb _ _ (r .1)) (c .wait-check .ensures), λ e. rw (ne-eqb _ _ (r .0 .0 .0 .0 .1), ne-eqb _ _ (r .0 .0 .0 .1), ne-eqb _ _ (r .0 .0 .1), ne-eqb _ _ (r .0 .1), ne-eqb _ _ (r .1)) (omega arith))))

@@ -10,18 +10,18 @@ use Rattle.step_walk.proofs.step.Statement.{statement}
 use Rattle.step_walk.proofs.step.Tie as tie
 
 returns : tie.Need-returns
-returns c = λ fits.
+returns c =
     let m = c .before .before in
     move-refused _ _ _ _ _ (m .before .before .if1 .taken) _ (m .move-check .ensures (m .before .before .before .args .default)) (c .if2 .taken)
 
 returns-2 : tie.Need-returns-2
-returns-2 c = λ fits.
+returns-2 c =
     let e = c .before .before .before in
     let m = e .before .before in
     rw (c .about-none .ensures) (move-made _ _ _ _ _ (m .before .before .if1 .taken) _ (m .move-check .ensures (m .before .before .before .args .default)) (e .if2 .left) _ (c .before .move-to .ensures))
 
 returns-3 : tie.Need-returns-3
-returns-3 c = λ fits.
+returns-3 c =
     let i = c .before .before in
     let d = i .before in
     rw (c .about-none2 .ensures) (none-left _ _ _ _ _ (d .before .before .if1 .left) (omega (arith, i .instructions .ensures, d .done .ensures, c .before .if3 .taken)))
@@ -34,7 +34,7 @@ unfolding actionAt
 due n = rw (n .instruction .ensures, n .before .before .before .done .ensures)
 
 returns-4 : tie.Need-returns-4
-returns-4 c = λ fits.
+returns-4 c =
     let o = c .before .before in
     let n = o .before .before in
     let i = n .before .before in
@@ -44,17 +44,16 @@ returns-4 c = λ fits.
 
 returns-5 : tie.Need-returns-5
 unfolding actionAt
-returns-5 c = λ fits.
+returns-5 c =
     let t = c .before .before .before in
     let f = t .before .before in
     let o = f .before in
     let n = o .before .before in
     let i = n .before .before in
     let d = i .before in
-    let room = fits (d .done .result) (omega (arith, i .instructions .ensures, n .before .if3 .left)) in
     rw (c .about-none4 .ensures)
     (next-made _ _ _ _ _ (d .before .before .if1 .left) _ (omega (arith, i .instructions .ensures, d .done .ensures, n .before .if3 .left)) (rw (due n) at (o .line-check .ensures .0)) (f .if4 .left) _
-    (c .before .put-done .ensures ∙ rw (t .line-to .ensures (o .line-check .ensures .1 (rw (n .instruction .ensures) room) (f .if4 .left)), due n, d .done .ensures)))
+    (c .before .put-done .ensures ∙ rw (t .line-to .ensures (o .line-check .ensures .1 (f .if4 .left)), due n, d .done .ensures)))
 
 pub step-spec : {M : Type 1} → statement M
 step-spec =

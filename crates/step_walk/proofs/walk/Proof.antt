@@ -6,14 +6,12 @@ use Rattle.model.specs.View.{stepsOf}
 use Rattle.words.specs.Rows.{row}
 use Rattle.words.specs.Words.{tablesIn, stateIn, programIn, answerIn, stepIn}
 use Rattle.model.specs.Empty.{noStep}
-use Rattle.rules_spec.specs.Step.{step}
-use Rattle.step_walk.specs.Fits.{PortsFit}
+use Rattle.step_walk.specs.Held.{heldStep, heldWalk}
 use Rattle.step_walk.specs.Reached.{stepped}
 use Rattle.step_walk.proofs.Ahead.{rest, walk-start, walk-end, walk-refused, walk-more}
 use Rattle.model.specs.declared.Step.{Step}
 use Rattle.model.specs.declared.Stepped.{Stepped}
 use Rattle.model.proofs.View.{length-list}
-use Rattle.rules_spec.specs.Walk.{walk}
 use mathlib.Core.List.{List}
 use borrow.Author.Needs.{needs}
 use Rattle.step_walk.proofs.walk.Statement.{statement}
@@ -21,13 +19,13 @@ use Rattle.step_walk.proofs.walk.Tie as tie
 
 abbrev Inv-loop : tie.InvT-loop
 Inv-loop default tables program answer state₀ n k₀ state k =
-    (k ≤ n) × (PortsFit (programIn program) → walk default (tablesIn tables) (programIn program) (stateIn state₀) (stepsOf (answerIn answer)) ≡ rest default (tablesIn tables) (programIn program) (answerIn answer) k (stateIn state))
+    (k ≤ n) × (heldWalk default (tablesIn tables) (programIn program) (stateIn state₀) (stepsOf (answerIn answer)) ≡ rest default (tablesIn tables) (programIn program) (answerIn answer) k (stateIn state))
 
 abbrev μ-loop : tie.MeasureT-loop
 μ-loop default tables program answer state₀ n k₀ state k = n - k
 
 loop-holds : tie.Need-loop-holds Inv-loop μ-loop
-loop-holds c = (search needs, λ fits. walk-start _ _ _ _ _)
+loop-holds c = (search needs, walk-start _ _ _ _ _)
 
 full : (ws : List ℕ) → length (answerIn ws .steps) ≡ 1024
 unfolding answerIn
@@ -50,20 +48,19 @@ read n = rw (n .step-number .ensures, n .before .step-id .ensures, n .before .be
 due : (s : tie.After-step Inv-loop μ-loop)
     → let l = turn s .before in
     let a = l .before .before .args in
-    PortsFit (programIn (a .program .now))
-    → came s ≡ step (a .default) (tablesIn (a .tables .now)) (programIn (a .program .now)) (stateIn (l .loop .state)) (getD (answerIn (a .answer .now) .steps) (l .loop .k) noStep)
-due s fits =
+    came s ≡ heldStep (a .default) (tablesIn (a .tables .now)) (programIn (a .program .now)) (stateIn (l .loop .state)) (getD (answerIn (a .answer .now) .steps) (l .loop .k) noStep)
+due s =
     let l = turn s .before in
     let a = l .before .before .args in
-    s .step .ensures fits ∙ ap (step (a .default) (tablesIn (a .tables .now)) (programIn (a .program .now)) (stateIn (l .loop .state))) (read (s .before .before))
+    s .step .ensures ∙ ap (heldStep (a .default) (tablesIn (a .tables .now)) (programIn (a .program .now)) (stateIn (l .loop .state))) (read (s .before .before))
 
 returns : tie.Need-returns Inv-loop μ-loop
-returns c = λ fits.
+returns c =
     let s = c .before .before .before in
     let l = turn s .before in
     let a = l .before .before .args in
-    rw (c .come-to .ensures) (sym (l .loop .inv .1 fits
-    ∙ walk-refused (a .default) (tablesIn (a .tables .now)) (programIn (a .program .now)) (answerIn (a .answer .now)) (stateIn (l .loop .state)) (full (a .answer .now)) (l .loop .k) (came s) (omega (arith, l .before .step-count .ensures, turn s .loop-test .taken)) (due s fits) (c .before .if1 .taken)))
+    rw (c .come-to .ensures) (sym (l .loop .inv .1
+    ∙ walk-refused (a .default) (tablesIn (a .tables .now)) (programIn (a .program .now)) (answerIn (a .answer .now)) (stateIn (l .loop .state)) (full (a .answer .now)) (l .loop .k) (came s) (omega (arith, l .before .step-count .ensures, turn s .loop-test .taken)) (due s) (c .before .if1 .taken)))
 
 loop-again : tie.Need-loop-again Inv-loop μ-loop
 loop-again c =
@@ -71,17 +68,16 @@ loop-again c =
     let l = turn s .before in
     let a = l .before .before .args in (
       search needs,
-      λ fits.
-          l .loop .inv .1 fits
-          ∙ walk-more (a .default) (tablesIn (a .tables .now)) (programIn (a .program .now)) (answerIn (a .answer .now)) (stateIn (l .loop .state)) (full (a .answer .now)) (l .loop .k) (came s) (omega (arith, l .before .step-count .ensures, turn s .loop-test .taken)) (due s fits) (c .if1 .left),
+      l .loop .inv .1
+          ∙ walk-more (a .default) (tablesIn (a .tables .now)) (programIn (a .program .now)) (answerIn (a .answer .now)) (stateIn (l .loop .state)) (full (a .answer .now)) (l .loop .k) (came s) (omega (arith, l .before .step-count .ensures, turn s .loop-test .taken)) (due s) (c .if1 .left),
     )
 
 returns-2 : tie.Need-returns-2 Inv-loop μ-loop
-returns-2 c = λ fits.
+returns-2 c =
     let t = c .before .before in
     let l = t .before in
     let a = l .before .before .args in
-    rw (c .come-to2 .ensures, c .before .about-none .ensures) (sym (l .loop .inv .1 fits
+    rw (c .come-to2 .ensures, c .before .about-none .ensures) (sym (l .loop .inv .1
     ∙ walk-end (a .default) (tablesIn (a .tables .now)) (programIn (a .program .now)) (answerIn (a .answer .now)) (stateIn (l .loop .state)) (full (a .answer .now)) (l .loop .k) (omega (arith, l .before .step-count .ensures, t .loop-test .left))))
 
 pub walk-spec : {M : Type 1} → statement M

@@ -8,7 +8,6 @@ use Rattle.model.specs.declared.Step.{Step}
 use Rattle.model.specs.declared.Stepped.{Stepped}
 use Rattle.model.specs.Empty.{noStep}
 use Rattle.model.proofs.View.{length-list}
-use Rattle.rules_spec.specs.Step.{step}
 use Rattle.timing_spec.specs.Clock.{atStart, started, tick}
 use Rattle.words.specs.Rows.{row}
 use Rattle.words.specs.Words.{tablesIn, programIn, answerIn, stateIn, stepIn}
@@ -16,7 +15,7 @@ use Rattle.words.specs.Parts.{stepOf}
 use Rattle.timing_clock.specs.Once.{timesIn}
 use Rattle.timing_clock.specs.Paced.{clockAt}
 use Rattle.step_walk.specs.Reached.{stepped}
-use Rattle.step_walk.specs.Fits.{PortsFit}
+use Rattle.step_walk.specs.Held.{heldStep}
 use Rattle.timing_clock.proofs.Beside.{Kept, kept-start, kept-more, Beside, at-start, one-further, at-refusal, at-end}
 use borrow.Author.Needs.{needs}
 use Rattle.timing_clock.proofs.walk_timed.Statement.{statement}
@@ -25,7 +24,7 @@ use Rattle.timing_clock.proofs.walk_timed.Tie as tie
 abbrev Inv-loop : tie.InvT-loop
 Inv-loop default tables program answer state₀ par seconds n noted₀ clock₀ k₀ state noted clock k =
     (k ≤ n) × (length noted ≡ 1024) × Kept k (clockAt clock noted)
-    × ((listed : List ℕ) → PortsFit (programIn program)
+    × ((listed : List ℕ)
     → Beside default (tablesIn tables) (programIn program) (answerIn answer) (timesIn par listed seconds) k (stateIn state) (clockAt clock noted))
 
 abbrev μ-loop : tie.MeasureT-loop
@@ -37,7 +36,7 @@ full ws = length-list 1024 (λ k. stepIn k (row ws 0 3 k))
 
 loop-holds : tie.Need-loop-holds Inv-loop μ-loop
 unfolding atStart
-loop-holds c = (search needs, search needs, kept-start, λ listed fits. rw (c .before .clear-state .ensures) (at-start _ _ _ _ _))
+loop-holds c = (search needs, search needs, kept-start, λ listed. rw (c .before .clear-state .ensures) (at-start _ _ _ _ _))
 
 -- the step that the turn reads
 read : (n : tie.After-step-number Inv-loop μ-loop)
@@ -53,22 +52,21 @@ came s = stepped (s .step .result) (stateIn (s .step .last .1 .1 .1 .0))
 due : (s : tie.After-step Inv-loop μ-loop)
     → let l = s .before .before .before .before .before .before .before .before in
     let a = l .before .before .before .before .args in
-    PortsFit (programIn (a .program .now))
-    → came s ≡ step (a .default) (tablesIn (a .tables .now)) (programIn (a .program .now)) (stateIn (l .loop .state)) (getD (answerIn (a .answer .now) .steps) (l .loop .k) noStep)
-due s fits =
+    came s ≡ heldStep (a .default) (tablesIn (a .tables .now)) (programIn (a .program .now)) (stateIn (l .loop .state)) (getD (answerIn (a .answer .now) .steps) (l .loop .k) noStep)
+due s =
     let l = s .before .before .before .before .before .before .before .before in
     let a = l .before .before .before .before .args in
-    s .step .ensures fits ∙ ap (step (a .default) (tablesIn (a .tables .now)) (programIn (a .program .now)) (stateIn (l .loop .state))) (read (s .before .before .before .before))
+    s .step .ensures ∙ ap (heldStep (a .default) (tablesIn (a .tables .now)) (programIn (a .program .now)) (stateIn (l .loop .state))) (read (s .before .before .before .before))
 
 within : (t : tie.In-loop Inv-loop μ-loop) → t .before .loop .k < min (answerIn (t .before .before .before .before .before .args .answer .now) .count) 1024
 within t = omega (arith, t .before .before .step-count .ensures, t .loop-test .taken)
 
 returns : tie.Need-returns Inv-loop μ-loop
-returns c listed fits =
+returns c listed =
     let s = c .before in
     let l = s .before .before .before .before .before .before .before .before in
     let a = l .before .before .before .before .args in
-    at-refusal (a .default) (tablesIn (a .tables .now)) (programIn (a .program .now)) (answerIn (a .answer .now)) (timesIn (a .par) listed (a .seconds .now)) (full (a .answer .now)) (l .loop .inv .3 listed fits) (came s) (within (s .before .before .before .before .before .before .before)) (due s fits) (c .if1 .taken)
+    at-refusal (a .default) (tablesIn (a .tables .now)) (programIn (a .program .now)) (answerIn (a .answer .now)) (timesIn (a .par) listed (a .seconds .now)) (full (a .answer .now)) (l .loop .inv .3 listed) (came s) (within (s .before .before .before .before .before .before .before)) (due s) (c .if1 .taken)
 
 tick-requires : tie.Need-tick-requires Inv-loop μ-loop
 tick-requires c κs =
@@ -90,9 +88,9 @@ loop-again c =
       omega (arith, s .before .before .before .before .before .before .before .loop-test .taken),
       search needs,
       kept-more (l .loop .inv .2) (e .pace),
-      λ listed fits.
+      λ listed.
           let ts = timesIn (a .par) listed (a .seconds .now) in
-          one-further (a .default) (tablesIn (a .tables .now)) (programIn (a .program .now)) (answerIn (a .answer .now)) ts (full (a .answer .now)) (l .loop .inv .3 listed fits) (came s) (within (s .before .before .before .before .before .before .before)) (due s fits) (c .before .before .before .before .before .before .before .if1 .left) _
+          one-further (a .default) (tablesIn (a .tables .now)) (programIn (a .program .now)) (answerIn (a .answer .now)) ts (full (a .answer .now)) (l .loop .inv .3 listed) (came s) (within (s .before .before .before .before .before .before .before)) (due s) (c .before .before .before .before .before .before .before .if1 .left) _
           (e .value ∙ ap (λ (x : Step). tick ts before after x (clockAt (l .loop .clock) (l .loop .noted))) (read (s .before .before .before .before))),
     )
 
@@ -102,11 +100,11 @@ mark-requires c κs =
     omega (arith, h .2 .slow, h .0, c .before .before .step-count .ensures)
 
 returns-2 : tie.Need-returns-2 Inv-loop μ-loop
-returns-2 c listed fits =
+returns-2 c listed =
     let g = c .before in
     let l = g .before in
     let a = l .before .before .before .before .args in
-    let met = at-end (a .default) (tablesIn (a .tables .now)) (programIn (a .program .now)) (answerIn (a .answer .now)) (timesIn (a .par) listed (a .seconds .now)) (full (a .answer .now)) (l .loop .inv .3 listed fits) (omega (arith, l .before .step-count .ensures, g .loop-test .left)) in
+    let met = at-end (a .default) (tablesIn (a .tables .now)) (programIn (a .program .now)) (answerIn (a .answer .now)) (timesIn (a .par) listed (a .seconds .now)) (full (a .answer .now)) (l .loop .inv .3 listed) (omega (arith, l .before .step-count .ensures, g .loop-test .left)) in
     record { walked-is = met .walked-is; mark-is = c .mark .ensures ∙ met .mark-is }
 
 pub walk-timed-spec : {M : Type 1} → statement M

@@ -11,7 +11,7 @@ returns c =
     let given = come .before .before .before in
     outcome-walks _ _ (come .read-sheet .result) _ _ _
     (outcome-comes _ _ (come .read-sheet .ensures .0) (come .read-sheet .ensures .1) (given .fill-answer .ensures))
-    (λ fits. rw (given .before .before .clear-state .ensures) at (c .walk .ensures fits))
+    (rw (given .before .before .clear-state .ensures) at (c .walk .ensures))
 
 pub walk-texts-spec : {M : Type 1} → statement M
 walk-texts-spec = tie.close (tie.spec (λ c κs. search needs) (λ c κs. search needs) (λ c κs. search needs) (λ c. search needs) (λ c κs. search needs) returns)
