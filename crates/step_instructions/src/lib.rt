@@ -17,7 +17,7 @@ use rules_spec::QUEUE_NOT_EMPTY;
 use rules_spec::STILL_CONNECTED;
 use rules_spec::USE_PORT_ACTIVE;
 use rules_spec::refuse_if;
-use step_ports::instance::active;
+use step_instance::active;
 use words::StateWords;
 use words::TableWords;
 use words::state::entries;

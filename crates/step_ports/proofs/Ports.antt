@@ -15,7 +15,6 @@ use Rattle.sets.specs.Test.{anyBelow}
 use Rattle.sets.specs.Mask.{member, collect, with, overlaps, joined, without}
 use Rattle.sets.proofs.Laws.{any-none, any-same, member-none, member-collect, collect-is, collect-same, member-joined, member-without, none-overlaps}
 use Rattle.sets.proofs.Searches.{any-alike}
-use Rattle.sets.proofs.Members.{members-low}
 use Rattle.item_spec.proofs.Tests.{by-test}
 use Rattle.model.specs.declared.Tables.{Tables}
 use Rattle.model.specs.declared.Instance.{Instance}
@@ -26,9 +25,8 @@ use Rattle.model.specs.Empty.{absent}
 use Rattle.model.specs.View.{isUse, instance, groupPlaces, groupTransitions}
 use Rattle.rules_spec.specs.Refusal.{_⇒_∣_, allowed, unconnected, unserved, providerRefusing, serviceInUse}
 use Rattle.rules_spec.specs.Standing.{standing, someConnection}
-use Rattle.rules_spec.specs.Instance.{held, active, leaving, portsOf}
-use Rattle.rules_spec.specs.Finish.{mayLeave}
-use Rattle.rules_spec.specs.Ports.{wouldLeave, isOf, serves, blocks, employs, failsUnconnected, failsUnserved, failsRefusing, failsInUse, inUse, portCheck, concerned}
+use Rattle.rules_spec.specs.Instance.{held, active, portsOf}
+use Rattle.rules_spec.specs.Ports.{isOf, serves, blocks, employs, failsUnconnected, failsUnserved, failsRefusing, failsInUse, inUse, portCheck, concerned}
 use Rattle.rules_spec.proofs.Connections.{Stands, some-stands}
 use Rattle.model.proofs.View.{past-end, length-list}
 use Rattle.words.specs.Rows.{column}
@@ -39,15 +37,8 @@ use Rattle.step_ports.specs.declared.Sets.{Sets}
 use Rattle.step_ports.specs.declared.Answered.{Answered}
 use Rattle.step_ports.proofs.Told.{told, unconnected-told, unserved-told, refusing-told, ending-told, use-told}
 use Rattle.step_ports.proofs.Lowest.{lowest-same}
-use Rattle.step_ports.specs.Turns.{activeIn, leavesBy, leftBy, refusingAt, useRefusal, portRefusal, setsOf, gets, endingBelow, isUnconnected, aboutOf, answered, portsRefusal, checked, changed, turned, turnAnswer}
-
--- ---- places that would leave
-
-pub marked-leaves : (t : Tables) (v : Instance) (m : ℕ) (any : Bool) (q : ℕ)
-    → anyBelow 32 (λ p. member p (v .marked) && leavesBy t v m any q p) ≡ anyBelow 16 (leftBy t v m any q)
-unfolding leavesBy mayLeave wouldLeave
-marked-leaves t v m true q = members-low (v .marked) (λ p. not (eqb (leaving t (v .kind) m p) 0) && true) 16 (omega arith) ∙ any-same 16 _ _ (λ p _. ap (_&&_ (member p (v .marked))) (and-true (not (eqb (leaving t (v .kind) m p) 0))))
-marked-leaves t v m false q = members-low (v .marked) _ 16 (omega arith)
+use Rattle.step_instance.specs.Alone.{refusingAt}
+use Rattle.step_ports.specs.Turns.{activeIn, useRefusal, portRefusal, setsOf, gets, endingBelow, isUnconnected, aboutOf, answered, portsRefusal, checked, changed, turned, turnAnswer}
 
 -- ---- one look
 

@@ -1,5 +1,5 @@
 // Which provide ports of an instance an active use port is connected to.
-use crate::instance::active;
+use step_instance::active;
 use words::StateWords;
 use words::TableWords;
 use words::state::provideport;

@@ -1,19 +1,18 @@
-// Active and refusing ports and the port check 38, 34, 35, 36, on words.
+// The port check 38, 34, 35, 36, on words.
 // Promised: each function answers what rules/specs say of the tables and the configuration that the words are.
 mod in_use;
-pub mod instance;
 
 use in_use::in_use;
-use instance::active;
-use instance::active_with;
-use instance::held;
-use instance::refusing;
 use model::Concerned;
 use rules_spec::PROVIDER_REFUSING;
 use rules_spec::SERVICE_IN_USE;
 use rules_spec::UNCONNECTED;
 use rules_spec::UNSERVED;
 use rules_spec::refuse_if;
+use step_instance::active;
+use step_instance::active_with;
+use step_instance::held;
+use step_instance::refusing;
 use words::StateWords;
 use words::TableWords;
 use words::state::kind;

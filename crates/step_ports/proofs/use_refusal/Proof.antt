@@ -11,7 +11,8 @@ use Rattle.rules_spec.specs.Instance.{active}
 use Rattle.words.specs.Words.{tablesIn, stateIn}
 use Rattle.words.specs.Parts.{serverOf}
 use Rattle.words.proofs.InState.{servers-length}
-use Rattle.step_ports.specs.Turns.{refusingAt, useRefusal}
+use Rattle.step_instance.specs.Alone.{refusingAt}
+use Rattle.step_ports.specs.Turns.{useRefusal}
 use Rattle.step_ports.proofs.Ports.{use-looked}
 use Rattle.step_ports.proofs.use_refusal.Statement.{statement}
 use Rattle.step_ports.proofs.use_refusal.Tie as tie

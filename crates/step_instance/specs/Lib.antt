@@ -1,0 +1,2 @@
+-- What an instance has and may do by itself (Alone).
+pub mod Alone
