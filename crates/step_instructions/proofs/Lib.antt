@@ -1,3 +1,2 @@
--- Slots zeroed one by one (Slots), and a use port looked up by its server (Looks).
+-- Slots zeroed one by one (Slots).
 pub mod Slots
-pub mod Looks

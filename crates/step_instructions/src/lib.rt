@@ -1,10 +1,5 @@
 // The six instructions on words: add, del, pushb, con, dcon and wait, each a check and a change made in place.
 // Promised: for every tables, state and number, each check answers the number of rules/specs, and each change is that of rules/specs.
-pub mod connections;
-
-use connections::has_server;
-use connections::is_named;
-use connections::stands;
 use rules_spec::ALREADY_CONNECTED;
 use rules_spec::ID_ABSENT;
 use rules_spec::ID_PRESENT;
@@ -17,6 +12,9 @@ use rules_spec::QUEUE_NOT_EMPTY;
 use rules_spec::STILL_CONNECTED;
 use rules_spec::USE_PORT_ACTIVE;
 use rules_spec::refuse_if;
+use step_connections::has_server;
+use step_connections::is_named;
+use step_connections::stands;
 use step_instance::active;
 use words::StateWords;
 use words::TableWords;

@@ -3,11 +3,11 @@
 // get a server whose number no word holds is left without one (specs/Held).
 use model::Concerned;
 use rules_spec::NO_INSTRUCTION_LEFT;
+use step_connections::connect;
+use step_connections::disconnect;
 use step_instructions::add_check;
 use step_instructions::add_to;
 use step_instructions::con_check;
-use step_instructions::connections::connect;
-use step_instructions::connections::disconnect;
 use step_instructions::dcon_check;
 use step_instructions::del_check;
 use step_instructions::del_to;

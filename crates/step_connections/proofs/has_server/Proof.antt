@@ -1,8 +1,8 @@
 use mathlib.Core.Path.{sym}
-use Rattle.step_instructions.proofs.Looks.{taken-looked}
+use Rattle.step_connections.proofs.Looks.{taken-looked}
 use borrow.Author.Needs.{needs}
-use Rattle.step_instructions.proofs.connections.has_server.Statement.{statement}
-use Rattle.step_instructions.proofs.connections.has_server.Tie as tie
+use Rattle.step_connections.proofs.has_server.Statement.{statement}
+use Rattle.step_connections.proofs.has_server.Tie as tie
 
 returns : tie.Need-returns
 returns c = rw (c .server-of .ensures) (sym (taken-looked _ _ _))

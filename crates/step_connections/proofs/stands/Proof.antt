@@ -1,8 +1,8 @@
 use mathlib.Core.Path.{sym}
-use Rattle.step_instructions.proofs.Looks.{same-looked}
+use Rattle.step_connections.proofs.Looks.{same-looked}
 use borrow.Author.Needs.{needs}
-use Rattle.step_instructions.proofs.connections.stands.Statement.{statement}
-use Rattle.step_instructions.proofs.connections.stands.Tie as tie
+use Rattle.step_connections.proofs.stands.Statement.{statement}
+use Rattle.step_connections.proofs.stands.Tie as tie
 
 returns : tie.Need-returns
 returns c = rw (c .provideport .ensures, c .before .provider .ensures, c .before .before .server-of .ensures) (sym (same-looked _ _ _ _ _))

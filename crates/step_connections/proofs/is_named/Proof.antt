@@ -9,8 +9,8 @@ use Rattle.rules_spec.specs.Standing.{inTable}
 use Rattle.rules_spec.specs.Del.{namedBy}
 use Rattle.words.specs.Words.{stateIn}
 use borrow.Author.Needs.{needs}
-use Rattle.step_instructions.proofs.connections.is_named.Statement.{statement}
-use Rattle.step_instructions.proofs.connections.is_named.Tie as tie
+use Rattle.step_connections.proofs.is_named.Statement.{statement}
+use Rattle.step_connections.proofs.is_named.Tie as tie
 
 abbrev Inv-loop : tie.InvT-loop
 Inv-loop state i found₀ s₀ found s =

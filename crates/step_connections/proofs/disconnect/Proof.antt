@@ -1,7 +1,7 @@
 use Rattle.rules_spec.specs.DCon.{disconnected}
 use borrow.Author.Needs.{needs}
-use Rattle.step_instructions.proofs.connections.disconnect.Statement.{statement}
-use Rattle.step_instructions.proofs.connections.disconnect.Tie as tie
+use Rattle.step_connections.proofs.disconnect.Statement.{statement}
+use Rattle.step_connections.proofs.disconnect.Tie as tie
 
 returns : tie.Need-returns
 unfolding disconnected

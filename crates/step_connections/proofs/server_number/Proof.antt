@@ -2,8 +2,8 @@ use mathlib.Core.Path.{refl}
 use native.Mathlib.Omega.{arith}
 use borrow.Author.Needs.{needs}
 use borrow.Author.Tests.{lt-ltb, le-ltb}
-use Rattle.step_instructions.proofs.connections.server_number.Statement.{statement}
-use Rattle.step_instructions.proofs.connections.server_number.Tie as tie
+use Rattle.step_connections.proofs.server_number.Statement.{statement}
+use Rattle.step_connections.proofs.server_number.Tie as tie
 
 returns : tie.Need-returns
 returns c = rw (lt-ltb _ _ (c .if1 .taken)) (omega arith)

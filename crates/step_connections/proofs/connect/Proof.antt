@@ -7,8 +7,8 @@ use Rattle.model.specs.View.{portNumber}
 use Rattle.rules_spec.specs.Con.{connected}
 use Rattle.rules_spec.specs.DCon.{disconnected}
 use borrow.Author.Needs.{needs}
-use Rattle.step_instructions.proofs.connections.connect.Statement.{statement}
-use Rattle.step_instructions.proofs.connections.connect.Tie as tie
+use Rattle.step_connections.proofs.connect.Statement.{statement}
+use Rattle.step_connections.proofs.connect.Tie as tie
 
 returns : tie.Need-returns
 unfolding connected disconnected

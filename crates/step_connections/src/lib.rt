@@ -1,4 +1,5 @@
 // Connections by use port: which stand, one more and one fewer.
+// Promised: each answers what rules_spec/specs say of the configuration that the words are, and each change is that of the rule, on all inputs.
 use words::StateWords;
 use words::state::provideport;
 use words::state::provider;

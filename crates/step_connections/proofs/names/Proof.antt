@@ -1,8 +1,8 @@
 use Rattle.model.specs.View.{isServed}
 use Rattle.rules_spec.specs.Del.{namedBy}
 use borrow.Author.Needs.{needs}
-use Rattle.step_instructions.proofs.connections.names.Statement.{statement}
-use Rattle.step_instructions.proofs.connections.names.Tie as tie
+use Rattle.step_connections.proofs.names.Statement.{statement}
+use Rattle.step_connections.proofs.names.Tie as tie
 
 returns : tie.Need-returns
 unfolding namedBy isServed

@@ -1,0 +1,2 @@
+-- A use port looked up by its server (Looks).
+pub mod Looks
