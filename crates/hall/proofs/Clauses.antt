@@ -12,7 +12,7 @@ use Rattle.rules_spec.specs.Instance.{active, current, endsAt, leaving, enterin
 use Rattle.rules_spec.specs.Ports.{isOf, wouldLeave, wouldEnter, refusing, serves, blocks, employs, failsUnconnected, failsUnserved, failsRefusing, failsInUse, portCheck}
 use Rattle.rules_spec.specs.Standing.{entries, inTable}
 use Rattle.rules_spec.specs.Step.{action, stepCheckWith, stepTo, step}
-use Rattle.hall_lawful.specs.Lawful.{queuedLawful, numbersLawful, instanceLawful, endsLawful, connectionLawful, lawfulFrom, connectionsLawful, configurationLawful}
+use Rattle.hall_configuration.specs.Lawful.{queuedLawful, numbersLawful, instanceLawful, endsLawful, connectionLawful, lawfulFrom, connectionsLawful, configurationLawful}
 use Rattle.hall.specs.Screen.{lentLawful, hallStep}
 use Rattle.hall.specs.Clauses.{every, ClausesBreak}
 

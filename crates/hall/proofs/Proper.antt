@@ -22,8 +22,8 @@ use Rattle.rules_spec.specs.Con.{isUsePort, isProvidePort}
 use Rattle.rules_spec.specs.Proper.{ProperInstance, Joins, Proper, SlotIsItsPort}
 use Rattle.rules_spec.proofs.Connections.{slot-is-its-port}
 use Rattle.judge_spec.specs.Course.{defaultDepth}
-use Rattle.hall_lawful.specs.Lawful.{queuedLawful, numbersLawful, instanceLawful, endsLawful, connectionLawful, connectionsLawful, configurationLawful}
-use Rattle.hall_lawful.proofs.Servers.{lawful-all}
+use Rattle.hall_configuration.specs.Lawful.{queuedLawful, numbersLawful, instanceLawful, endsLawful, connectionLawful, connectionsLawful, configurationLawful}
+use Rattle.hall_configuration.proofs.Servers.{lawful-all}
 use Rattle.hall.specs.Agree.{ProperIsLawful, NoUsePortTwice}
 
 -- a set whose members lie below n, as a mask

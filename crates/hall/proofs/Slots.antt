@@ -30,7 +30,7 @@ use Rattle.rules_spec.proofs.Tables.{facts}
 use Rattle.rules_spec.proofs.Proper.{Lawfully, step-lawfully}
 use Rattle.rules_spec.proofs.Walks.{step-on, number-facts, after-cases, after-done}
 use Rattle.judge_spec.specs.Course.{defaultDepth}
-use Rattle.hall_lawful.specs.Lawful.{numbersLawful, instanceLawful, configurationLawful}
+use Rattle.hall_configuration.specs.Lawful.{numbersLawful, instanceLawful, configurationLawful}
 use Rattle.hall.specs.Screen.{lentLawful, hallStep}
 use Rattle.hall.specs.Slots.{Whole, Holds, inInstance, servedBy, gapClosed, slots, EverySlot}
 use Rattle.hall.proofs.Screen.{step-number}

@@ -18,7 +18,7 @@ use Rattle.read_spec.specs.Lawful.{stepLawful}
 use Rattle.rules_spec.specs.Proper.{Proper}
 use Rattle.rules_spec.specs.Walk.{walkBy, walkAnswer}
 use Rattle.judge_spec.specs.Course.{defaultDepth}
-use Rattle.hall_lawful.specs.Lawful.{configurationLawful}
+use Rattle.hall_configuration.specs.Lawful.{configurationLawful}
 use Rattle.hall.specs.Screen.{limitBroken, lentLawful, hallStep}
 
 -- a screen's own walk: the steps one after the other on the one lent configuration, to the first that it refuses

@@ -14,7 +14,7 @@ use Rattle.read_spec.specs.Lawful.{tablesLawful, programLawful, stepLawful}
 use Rattle.rules_spec.specs.Step.{step}
 use Rattle.step_ports.specs.declared.Answered.{Answered}
 use Rattle.judge_spec.specs.Course.{defaultDepth}
-use Rattle.hall_lawful.specs.Lawful.{configurationLawful}
+use Rattle.hall_configuration.specs.Lawful.{configurationLawful}
 
 -- hall screen only: the lent tables, configuration or step break a limit
 abbrev pub limitBroken : ℕ

@@ -1,7 +1,7 @@
 // The screen in the hall: one step on lent tables, program and configuration, with number 7 before all of 10 to 38. It has two doors:
 // `hall` is over the step by value, `lent_step` moves the lent words on in place, for terminals with a small stack.
 // Promised of both: the number, the use port concerned and every word of the configuration after it, for all that can be lent; a refusal leaves it untouched.
-use hall_lawful::configuration_lawful;
+use hall_configuration::configuration_lawful;
 use hall_lawful::program_lawful;
 use hall_lawful::step_lawful;
 use hall_lawful::tables_lawful;

@@ -1,4 +1,3 @@
--- Loops that look for a number that fails a test (Loops), the head of the tables (Heads), and the use ports of a table one by one (Servers).
+-- Loops that look for a number that fails a test (Loops), and the head of the tables (Heads).
 pub mod Loops
 pub mod Heads
-pub mod Servers

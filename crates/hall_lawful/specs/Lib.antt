@@ -1,3 +1,2 @@
--- The clauses of number 7 on a configuration (Lawful), and the parts of clauses that a function says by itself (Parts).
-pub mod Lawful
+-- The parts of clauses of number 7 that a function says by itself (Parts).
 pub mod Parts

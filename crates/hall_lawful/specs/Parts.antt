@@ -1,20 +1,11 @@
--- Parts of the clauses of number 7 that a function says by itself: the rows of a type by their kind, and a queue.
+-- Parts of the clauses of number 7 that a function says by itself: the rows of a type by their kind.
 use Prim.Native.Nat.{ℕ}
-use mathlib.Core.Bool.{Bool, _&&_}
-use lib.Dec.{leb}
-use Rattle.sets.specs.Test.{allBelow}
+use mathlib.Core.Bool.{Bool}
 use Rattle.model.specs.declared.Tables.{Tables}
-use Rattle.model.specs.declared.Configuration.{Configuration}
-use Rattle.model.specs.View.{instance}
 use Rattle.read_spec.specs.Lawful.{transitionLawful, behaviorLawful, portLawful}
-use Rattle.rules_spec.specs.PushB.{depthOf}
 use Rattle.hall_lawful.specs.declared.types.Part.{Part}
-use Rattle.hall_lawful.specs.Lawful.{queuedLawful}
 
 unfoldable pub partLawful : Part → Tables → ℕ → ℕ → Bool
 partLawful Part.Transition = transitionLawful
 partLawful Part.Behavior = behaviorLawful
 partLawful Part.Port = portLawful
-
-abbrev pub queueLawful : ℕ → Tables → Configuration → ℕ → Bool
-queueLawful default t c i = leb (instance c i .queued) (depthOf default t) && allBelow (instance c i .queued) (queuedLawful t c i)

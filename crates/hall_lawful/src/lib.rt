@@ -1,26 +1,20 @@
-// The tests behind number 7: whether lent tables, program, step and configuration break a rule of a sheet, an answer or a configuration.
-// Promised: each answers its definition (reading/specs/Lawful, specs/Lawful) for all that can be lent; what is past a count is not looked at.
-mod configurations;
+// The tests behind number 7: whether lent tables, program and step break a rule of a sheet or an answer.
+// Promised: each answers its definition (read_spec/specs/Lawful) for all that can be lent; what is past a count is not looked at.
 mod types;
 
-use configurations::connections_lawful;
-use configurations::instances_lawful;
 use types::types_lawful;
 use words::ProgramWords;
-use words::StateWords;
 use words::TableWords;
 use words::program::instruction;
 use words::program::instructions;
-use words::state::done;
 use words::tables::depth;
 use words::tables::types;
 ghost use mathlib.Core.Path.{_≡_};
 ghost use lib.ListN.{getD};
 ghost use Rattle.model.specs.Empty.{noInstruction};
 ghost use Rattle.read_spec.specs.Lawful.{tablesLawful, verbLawful, instructionLawful, programLawful, stepLawful};
-ghost use Rattle.words.specs.Words.{tablesIn, programIn, stateIn};
+ghost use Rattle.words.specs.Words.{tablesIn, programIn};
 ghost use Rattle.words.specs.Parts.{instructionOf, stepOf};
-ghost use Rattle.hall_lawful.specs.Lawful.{configurationLawful};
 
 // Every type counts, also one that no instance has; more than 16 are not looked at.
 pub fn tables_lawful(tables: &TableWords) -> bool
@@ -85,18 +79,4 @@ pub fn step_lawful(verb: u32, id: u32, number: u32) -> bool
         4 => id <= 31,
         _ => false,
     }
-}
-
-pub fn configuration_lawful(
-    default: u32,
-    tables: &TableWords,
-    program: &ProgramWords,
-    state: &StateWords,
-) -> bool
-    ensures { λ r. ⌜ r ≡ configurationLawful default (tablesIn (now (tables .entry))) (programIn (now (program .entry)))
-        (stateIn (now (state .entry))) ⌝ }
-{
-    let instances = instances_lawful(default, tables, state);
-    let due = done(state) <= instructions(program);
-    instances & (due & connections_lawful(tables, state))
 }

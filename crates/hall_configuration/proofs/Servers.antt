@@ -11,7 +11,7 @@ use Rattle.sets.proofs.Laws.{all-same}
 use Rattle.model.specs.declared.Tables.{Tables}
 use Rattle.model.specs.declared.Configuration.{Configuration}
 use Rattle.model.specs.View.{server}
-use Rattle.hall_lawful.specs.Lawful.{connectionLawful, lawfulFrom}
+use Rattle.hall_configuration.specs.Lawful.{connectionLawful, lawfulFrom}
 
 -- the first one apart
 all-first : (n : ℕ) (p : ℕ → Bool) → allBelow (suc n) p ≡ (p 0 && allBelow n (λ i. p (suc i)))

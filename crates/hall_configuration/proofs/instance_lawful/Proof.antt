@@ -1,8 +1,8 @@
 use borrow.Author.Tests.{not-true, not-false}
-use Rattle.hall_lawful.specs.Lawful.{instanceLawful}
+use Rattle.hall_configuration.specs.Lawful.{instanceLawful}
 use borrow.Author.Needs.{needs}
-use Rattle.hall_lawful.proofs.configurations.instance_lawful.Statement.{statement}
-use Rattle.hall_lawful.proofs.configurations.instance_lawful.Tie as tie
+use Rattle.hall_configuration.proofs.instance_lawful.Statement.{statement}
+use Rattle.hall_configuration.proofs.instance_lawful.Tie as tie
 
 returns : tie.Need-returns
 unfolding instanceLawful

@@ -1,8 +1,8 @@
 use borrow.Author.Tests.{eq-eqb, ne-eqb}
 use borrow.Author.Needs.{needs}
-use Rattle.hall_lawful.specs.Lawful.{connectionLawful}
-use Rattle.hall_lawful.proofs.configurations.connection_lawful.Statement.{statement}
-use Rattle.hall_lawful.proofs.configurations.connection_lawful.Tie as tie
+use Rattle.hall_configuration.specs.Lawful.{connectionLawful}
+use Rattle.hall_configuration.proofs.connection_lawful.Statement.{statement}
+use Rattle.hall_configuration.proofs.connection_lawful.Tie as tie
 
 pub connection-lawful-spec : {M : Type 1} → statement M
 unfolding connectionLawful

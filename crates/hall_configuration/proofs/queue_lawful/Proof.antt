@@ -1,11 +1,11 @@
 use Prim.Native.Nat.{_-_}
 use borrow.Author.Tests.{lt-leb, le-leb}
 use Rattle.words.specs.Words.{tablesIn, stateIn}
-use Rattle.hall_lawful.specs.Lawful.{queuedLawful}
+use Rattle.hall_configuration.specs.Lawful.{queuedLawful}
 use Rattle.hall_lawful.proofs.Loops.{Passed, none-yet, one-fails, one-more, all-passed}
 use borrow.Author.Needs.{needs}
-use Rattle.hall_lawful.proofs.configurations.queue_lawful.Statement.{statement}
-use Rattle.hall_lawful.proofs.configurations.queue_lawful.Tie as tie
+use Rattle.hall_configuration.proofs.queue_lawful.Statement.{statement}
+use Rattle.hall_configuration.proofs.queue_lawful.Tie as tie
 
 abbrev Inv-loop : tie.InvT-loop
 Inv-loop default tables state i n r₀ r = Passed n (queuedLawful (tablesIn tables) (stateIn state) i) r

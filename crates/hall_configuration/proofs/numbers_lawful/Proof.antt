@@ -1,7 +1,7 @@
-use Rattle.hall_lawful.specs.Lawful.{numbersLawful}
+use Rattle.hall_configuration.specs.Lawful.{numbersLawful}
 use borrow.Author.Needs.{needs}
-use Rattle.hall_lawful.proofs.configurations.numbers_lawful.Statement.{statement}
-use Rattle.hall_lawful.proofs.configurations.numbers_lawful.Tie as tie
+use Rattle.hall_configuration.proofs.numbers_lawful.Statement.{statement}
+use Rattle.hall_configuration.proofs.numbers_lawful.Tie as tie
 
 pub numbers-lawful-spec : {M : Type 1} → statement M
 unfolding numbersLawful

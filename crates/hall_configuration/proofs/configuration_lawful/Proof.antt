@@ -1,7 +1,7 @@
-use Rattle.hall_lawful.specs.Lawful.{configurationLawful}
+use Rattle.hall_configuration.specs.Lawful.{configurationLawful}
 use borrow.Author.Needs.{needs}
-use Rattle.hall_lawful.proofs.configuration_lawful.Statement.{statement}
-use Rattle.hall_lawful.proofs.configuration_lawful.Tie as tie
+use Rattle.hall_configuration.proofs.configuration_lawful.Statement.{statement}
+use Rattle.hall_configuration.proofs.configuration_lawful.Tie as tie
 
 returns : tie.Need-returns
 unfolding configurationLawful

@@ -5,12 +5,12 @@ use borrow.Author.Tests.{lt-leb, le-leb}
 use Rattle.sets.specs.Test.{allBelow}
 use Rattle.words.specs.Words.{tablesIn, stateIn}
 use Rattle.words.proofs.InState.{servers-length}
-use Rattle.hall_lawful.specs.Lawful.{connectionsLawful}
+use Rattle.hall_configuration.specs.Lawful.{connectionsLawful}
 use Rattle.hall_lawful.proofs.Loops.{Passed, none-yet, one-fails, one-more, all-passed}
-use Rattle.hall_lawful.proofs.Servers.{lawfulAt, lawful-all}
+use Rattle.hall_configuration.proofs.Servers.{lawfulAt, lawful-all}
 use borrow.Author.Needs.{needs}
-use Rattle.hall_lawful.proofs.configurations.connections_lawful.Statement.{statement}
-use Rattle.hall_lawful.proofs.configurations.connections_lawful.Tie as tie
+use Rattle.hall_configuration.proofs.connections_lawful.Statement.{statement}
+use Rattle.hall_configuration.proofs.connections_lawful.Tie as tie
 
 abbrev Inv-loop : tie.InvT-loop
 Inv-loop tables state s₀ s = Passed 512 (lawfulAt (tablesIn tables) (stateIn state) (stateIn state .servers)) s

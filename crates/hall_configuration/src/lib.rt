@@ -1,9 +1,13 @@
-// Every present instance of the configuration, and every use port, present or not.
+// The tests behind number 7 on a lent configuration: every present instance, and every use port, present or not.
+// Promised: each answers its definition (specs/Lawful) for all that can be lent; what is past a count is not looked at.
 use sets::mask_ok;
 use step_instructions::depth_of;
 use step_instructions::is_port;
+use words::ProgramWords;
 use words::StateWords;
 use words::TableWords;
+use words::program::instructions;
+use words::state::done;
 use words::state::ended;
 use words::state::entries;
 use words::state::kind;
@@ -22,10 +26,10 @@ use words::tables::types;
 ghost use mathlib.Core.Path.{_≡_};
 ghost use Rattle.sets.specs.Test.{allBelow};
 ghost use Rattle.model.specs.View.{server};
-ghost use Rattle.words.specs.Words.{tablesIn, stateIn};
+ghost use Rattle.words.specs.Words.{tablesIn, programIn, stateIn};
 ghost use Rattle.words.specs.Parts.{connectionOfWords};
-ghost use Rattle.hall_lawful.specs.Parts.{queueLawful};
-ghost use Rattle.hall_lawful.specs.Lawful.{queuedLawful, numbersLawful, instanceLawful, endsLawful, connectionLawful, connectionsLawful};
+ghost use Rattle.hall_configuration.specs.Parts.{queueLawful};
+ghost use Rattle.hall_configuration.specs.Lawful.{queuedLawful, numbersLawful, instanceLawful, endsLawful, connectionLawful, connectionsLawful, configurationLawful};
 
 fn queued_lawful(tables: &TableWords, state: &StateWords, i: u32, r: u32) -> bool
     ensures { λ b. ⌜ b ≡ queuedLawful (tablesIn (now (tables .entry))) (stateIn (now (state .entry))) i r ⌝ }
@@ -72,7 +76,7 @@ fn instance_lawful(default: u32, tables: &TableWords, state: &StateWords, i: u32
     numbers_lawful(default, tables, state, i)
 }
 
-pub fn instances_lawful(default: u32, tables: &TableWords, state: &StateWords) -> bool
+fn instances_lawful(default: u32, tables: &TableWords, state: &StateWords) -> bool
     ensures { λ r. ⌜ r ≡ allBelow 32 (instanceLawful default (tablesIn (now (tables .entry))) (stateIn (now (state .entry)))) ⌝ }
 {
     let mut i: u32 = 0;
@@ -107,7 +111,7 @@ fn connection_lawful(tables: &TableWords, state: &StateWords, s: u32) -> bool
     ends_lawful(tables, state, s / 16, s % 16, provider(x), provideport(x))
 }
 
-pub fn connections_lawful(tables: &TableWords, state: &StateWords) -> bool
+fn connections_lawful(tables: &TableWords, state: &StateWords) -> bool
     ensures { λ r. ⌜ r ≡ connectionsLawful (tablesIn (now (tables .entry))) (stateIn (now (state .entry))) ⌝ }
 {
     if 64 < entries(state) {
@@ -121,4 +125,18 @@ pub fn connections_lawful(tables: &TableWords, state: &StateWords) -> bool
         s += 1;
     }
     true
+}
+
+pub fn configuration_lawful(
+    default: u32,
+    tables: &TableWords,
+    program: &ProgramWords,
+    state: &StateWords,
+) -> bool
+    ensures { λ r. ⌜ r ≡ configurationLawful default (tablesIn (now (tables .entry))) (programIn (now (program .entry)))
+        (stateIn (now (state .entry))) ⌝ }
+{
+    let instances = instances_lawful(default, tables, state);
+    let due = done(state) <= instructions(program);
+    instances & (due & connections_lawful(tables, state))
 }

@@ -1,10 +1,10 @@
 use Prim.Native.Nat.{_-_}
 use Rattle.words.specs.Words.{tablesIn, stateIn}
-use Rattle.hall_lawful.specs.Lawful.{instanceLawful}
+use Rattle.hall_configuration.specs.Lawful.{instanceLawful}
 use Rattle.hall_lawful.proofs.Loops.{Passed, none-yet, one-fails, one-more, all-passed}
 use borrow.Author.Needs.{needs}
-use Rattle.hall_lawful.proofs.configurations.instances_lawful.Statement.{statement}
-use Rattle.hall_lawful.proofs.configurations.instances_lawful.Tie as tie
+use Rattle.hall_configuration.proofs.instances_lawful.Statement.{statement}
+use Rattle.hall_configuration.proofs.instances_lawful.Tie as tie
 
 abbrev Inv-loop : tie.InvT-loop
 Inv-loop default tables state i₀ i = Passed 32 (instanceLawful default (tablesIn tables) (stateIn state)) i

@@ -1,7 +1,7 @@
-use Rattle.hall_lawful.specs.Lawful.{endsLawful}
+use Rattle.hall_configuration.specs.Lawful.{endsLawful}
 use borrow.Author.Needs.{needs}
-use Rattle.hall_lawful.proofs.configurations.ends_lawful.Statement.{statement}
-use Rattle.hall_lawful.proofs.configurations.ends_lawful.Tie as tie
+use Rattle.hall_configuration.proofs.ends_lawful.Statement.{statement}
+use Rattle.hall_configuration.proofs.ends_lawful.Tie as tie
 
 returns : tie.Need-returns
 unfolding endsLawful

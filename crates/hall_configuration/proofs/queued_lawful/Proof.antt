@@ -1,7 +1,7 @@
-use Rattle.hall_lawful.specs.Lawful.{queuedLawful}
+use Rattle.hall_configuration.specs.Lawful.{queuedLawful}
 use borrow.Author.Needs.{needs}
-use Rattle.hall_lawful.proofs.configurations.queued_lawful.Statement.{statement}
-use Rattle.hall_lawful.proofs.configurations.queued_lawful.Tie as tie
+use Rattle.hall_configuration.proofs.queued_lawful.Statement.{statement}
+use Rattle.hall_configuration.proofs.queued_lawful.Tie as tie
 
 returns : tie.Need-returns
 unfolding queuedLawful
