@@ -1,3 +1,2 @@
--- A line by its key and its numbers (Keys), and that no other outcome fits (Once).
-pub mod Keys
+-- That no other outcome fits (Once).
 pub mod Once

@@ -2,7 +2,6 @@
 // starts with it.
 // Promised: for every text `fill_universe` answers the one number and place that `whole` gives of the paper's sheet, and the words say the
 // universe that it gives, whatever they held before.
-mod kinds;
 mod types;
 
 use aeolus_model::Universe;

@@ -1,7 +1,7 @@
 // The lines of the types, each put into what was read so far.
-use crate::kinds::Kind;
-use crate::kinds::kind_line;
 use aeolus_model::Universe;
+use aeolus_read_lines::Kind;
+use aeolus_read_lines::kind_line;
 use read_chain::LinesRead;
 use read_chain::NumberRead;
 use read_items::numbers::Four;
@@ -14,7 +14,7 @@ ghost use Rattle.read_chain.specs.Chain.{After};
 ghost use Rattle.aeolus_model.specs.Model.{typeOf, withProvides, withRequires};
 ghost use Rattle.aeolus_model.specs.Words.{universeIn};
 ghost use Rattle.aeolus_read_spec.specs.Texts.{withInterface, stateAt, typeAt};
-ghost use Rattle.aeolus_read_sheet.specs.Kinds.{value, putIn, lineAt};
+ghost use Rattle.aeolus_read_lines.specs.Kinds.{value, putIn, lineAt};
 
 // The codes of the interfaces' kinds.
 const PROVIDE: u32 = 0;

@@ -3,8 +3,8 @@ use native.Mathlib.Omega.{arith}
 use Rattle.read_chain.proofs.Chain.{after-stopped, after-went}
 use Rattle.read_chain.proofs.Laws.{put-line, put-refused}
 use Rattle.aeolus_model.specs.Words.{universeIn}
-use Rattle.aeolus_read_sheet.specs.Kinds.{lineOf, lineSays, putIn, lineAt}
-use Rattle.aeolus_read_sheet.proofs.Keys.{same-refusal}
+use Rattle.aeolus_read_lines.specs.Kinds.{lineOf, lineSays, putIn, lineAt}
+use Rattle.aeolus_read_lines.proofs.Keys.{same-refusal}
 use borrow.Author.Needs.{needs}
 use Rattle.aeolus_read_sheet.proofs.types.then_line.Statement.{statement}
 use Rattle.aeolus_read_sheet.proofs.types.then_line.Tie as tie

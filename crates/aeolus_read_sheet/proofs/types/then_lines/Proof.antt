@@ -5,7 +5,7 @@ use native.Mathlib.Nat.{zero-add}
 use native.Mathlib.Omega.{arith}
 use Rattle.read_chain.proofs.Turns.{Turns, no-turn, one-turn, all-turns}
 use Rattle.aeolus_model.specs.Words.{universeIn}
-use Rattle.aeolus_read_sheet.specs.Kinds.{lineAt}
+use Rattle.aeolus_read_lines.specs.Kinds.{lineAt}
 use borrow.Author.Needs.{needs}
 use Rattle.aeolus_read_sheet.proofs.types.then_lines.Statement.{statement}
 use Rattle.aeolus_read_sheet.proofs.types.then_lines.Tie as tie

@@ -1,6 +1,6 @@
 use Rattle.read_chain.proofs.Chain.{after-then}
 use Rattle.aeolus_read_spec.specs.Texts.{toAt, rowAt, rowsAt, stateAt}
-use Rattle.aeolus_read_sheet.specs.Kinds.{lineAt}
+use Rattle.aeolus_read_lines.specs.Kinds.{lineAt}
 use borrow.Author.Needs.{needs}
 use Rattle.aeolus_read_sheet.proofs.types.then_state.Statement.{statement}
 use Rattle.aeolus_read_sheet.proofs.types.then_state.Tie as tie

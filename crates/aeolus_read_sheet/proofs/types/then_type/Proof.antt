@@ -1,6 +1,6 @@
 use Rattle.read_chain.proofs.Chain.{after-then, after-give}
 use Rattle.aeolus_read_spec.specs.Texts.{statesAt, initialAt, interfacesAt, interfaceAt, typeHead, typeAt}
-use Rattle.aeolus_read_sheet.specs.Kinds.{lineAt}
+use Rattle.aeolus_read_lines.specs.Kinds.{lineAt}
 use borrow.Author.Needs.{needs}
 use Rattle.aeolus_read_sheet.proofs.types.then_type.Statement.{statement}
 use Rattle.aeolus_read_sheet.proofs.types.then_type.Tie as tie

@@ -13,8 +13,8 @@ use Rattle.aeolus_model.specs.Model.{Universe, typeOf, withInitial, withTo, wit
 use Rattle.aeolus_read_spec.specs.Limits.{stateOk}
 use Rattle.aeolus_read_spec.specs.Kinds.{interfaceLine, toLine, rowLine}
 use Rattle.aeolus_read_spec.specs.Texts.{withInterface}
-use Rattle.aeolus_read_sheet.specs.declared.kinds.Kind.{Kind}
-use Rattle.aeolus_read_sheet.specs.declared.kinds.Kind.the-variants as kind
+use Rattle.aeolus_read_lines.specs.declared.Kind.{Kind}
+use Rattle.aeolus_read_lines.specs.declared.Kind.the-variants as kind
 
 -- the number of the key that stands here, of three
 unfoldable pub whichOf : List ℕ → List ℕ → List ℕ → Reader ℕ

@@ -5,10 +5,10 @@ use Rattle.read_items.proofs.Laws.{told}
 use Rattle.read_items.proofs.Limits.{form-fault, form-then, limit-fault, limit-kept}
 use native.Mathlib.Numerals.{add-one}
 use native.Mathlib.Omega.{arith}
-use Rattle.aeolus_read_sheet.proofs.Keys.{row-numbers, row-few}
+use Rattle.aeolus_read_lines.proofs.Keys.{row-numbers, row-few}
 use borrow.Author.Needs.{needs}
-use Rattle.aeolus_read_sheet.proofs.kinds.row_line.Statement.{statement}
-use Rattle.aeolus_read_sheet.proofs.kinds.row_line.Tie as tie
+use Rattle.aeolus_read_lines.proofs.row_line.Statement.{statement}
+use Rattle.aeolus_read_lines.proofs.row_line.Tie as tie
 
 pub row-line-spec : {M : Type 1} → statement M
 row-line-spec =

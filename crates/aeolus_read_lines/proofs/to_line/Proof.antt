@@ -5,8 +5,8 @@ use Rattle.read_items.proofs.Laws.{told}
 use Rattle.read_items.proofs.Limits.{form-fault, limit-fault, limit-kept, whole-line}
 use Rattle.aeolus_read_spec.specs.Kinds.{toLine}
 use borrow.Author.Needs.{needs}
-use Rattle.aeolus_read_sheet.proofs.kinds.to_line.Statement.{statement}
-use Rattle.aeolus_read_sheet.proofs.kinds.to_line.Tie as tie
+use Rattle.aeolus_read_lines.proofs.to_line.Statement.{statement}
+use Rattle.aeolus_read_lines.proofs.to_line.Tie as tie
 
 pub to-line-spec : {M : Type 1} → statement M
 unfolding toLine

@@ -1,4 +1,5 @@
-// The kinds of line that are held to what was read so far, each read from the part of the text that starts with it.
+// The kinds of line of a sheet of the Aeolus paper that are held to what was read so far, each read from the part of the text that starts with it.
+// Promised: for every part and every universe, the value and the next place that the line's definition gives, or its refusal.
 use aeolus_model::Universe;
 use item_spec::BAD_CLAUSE;
 use item_spec::BAD_FORM;
@@ -17,8 +18,8 @@ ghost use Rattle.read_items.specs.declared.numbers.Numbers.the-variants.{Got};
 ghost use Rattle.read_items.specs.Within.{four, numbersSays};
 ghost use Rattle.aeolus_model.specs.Words.{universeIn};
 ghost use Rattle.aeolus_read_spec.specs.Limits.{aboveOk, listedOk, clausesOk};
-ghost use Rattle.aeolus_read_sheet.specs.declared.kinds.Kind.the-variants.{Initial, To, Interface, Row};
-ghost use Rattle.aeolus_read_sheet.specs.Kinds.{whichOf, lineOf, lineSays};
+ghost use Rattle.aeolus_read_lines.specs.declared.Kind.the-variants.{Initial, To, Interface, Row};
+ghost use Rattle.aeolus_read_lines.specs.Kinds.{whichOf, lineOf, lineSays};
 
 // The initial state of a type, an interface, and of a state where it may change to and a row.
 pub enum Kind {
@@ -161,7 +162,7 @@ fn row_line(s: &[u8], k: u32, q: u32, universe: &Universe) -> Numbers
 }
 
 // The line of a kind in type k, of interfaces the one with number j.
-pub(crate) fn kind_line(s: &[u8], kind: Kind, k: u32, j: u32, universe: &Universe) -> Numbers
+pub fn kind_line(s: &[u8], kind: Kind, k: u32, j: u32, universe: &Universe) -> Numbers
     ensures { λ r. ⌜ Reads (now (s .entry)) (lineSays kind r) (lineOf kind k j (universeIn (now (universe .entry))) (now (s .entry))) ⌝ }
 {
     match kind {

@@ -1,7 +1,7 @@
 use borrow.Author.Tests.{eq-eqb, ne-eqb}
 use borrow.Author.Needs.{needs}
-use Rattle.aeolus_read_sheet.proofs.kinds.listed.Statement.{statement}
-use Rattle.aeolus_read_sheet.proofs.kinds.listed.Tie as tie
+use Rattle.aeolus_read_lines.proofs.listed.Statement.{statement}
+use Rattle.aeolus_read_lines.proofs.listed.Tie as tie
 
 pub listed-spec : {M : Type 1} → statement M
 listed-spec =

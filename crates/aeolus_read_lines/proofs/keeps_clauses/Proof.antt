@@ -1,6 +1,6 @@
 use borrow.Author.Needs.{needs}
-use Rattle.aeolus_read_sheet.proofs.kinds.keeps_clauses.Statement.{statement}
-use Rattle.aeolus_read_sheet.proofs.kinds.keeps_clauses.Tie as tie
+use Rattle.aeolus_read_lines.proofs.keeps_clauses.Statement.{statement}
+use Rattle.aeolus_read_lines.proofs.keeps_clauses.Tie as tie
 
 pub keeps-clauses-spec : {M : Type 1} → statement M
 keeps-clauses-spec =

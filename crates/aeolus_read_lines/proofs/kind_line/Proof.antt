@@ -1,6 +1,6 @@
 use borrow.Author.Needs.{needs}
-use Rattle.aeolus_read_sheet.proofs.kinds.kind_line.Statement.{statement}
-use Rattle.aeolus_read_sheet.proofs.kinds.kind_line.Tie as tie
+use Rattle.aeolus_read_lines.proofs.kind_line.Statement.{statement}
+use Rattle.aeolus_read_lines.proofs.kind_line.Tie as tie
 
 pub kind-line-spec : {M : Type 1} → statement M
 kind-line-spec =

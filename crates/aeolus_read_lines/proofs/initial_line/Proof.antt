@@ -3,10 +3,10 @@ use Rattle.read_items.specs.Says.{dueSays}
 use Rattle.read_items.proofs.Laws.{told}
 use Rattle.read_items.proofs.Limits.{form-fault, form-then}
 use Rattle.read_spec.specs.Kinds.{countLineIn}
-use Rattle.aeolus_read_sheet.proofs.Keys.{state-numbers}
+use Rattle.aeolus_read_lines.proofs.Keys.{state-numbers}
 use borrow.Author.Needs.{needs}
-use Rattle.aeolus_read_sheet.proofs.kinds.initial_line.Statement.{statement}
-use Rattle.aeolus_read_sheet.proofs.kinds.initial_line.Tie as tie
+use Rattle.aeolus_read_lines.proofs.initial_line.Statement.{statement}
+use Rattle.aeolus_read_lines.proofs.initial_line.Tie as tie
 
 pub initial-line-spec : {M : Type 1} → statement M
 unfolding countLineIn

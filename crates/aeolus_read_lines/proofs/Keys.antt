@@ -23,9 +23,9 @@ use Rattle.read_items.proofs.Within.{one-within, two-within, got-within}
 use Rattle.aeolus_model.specs.Model.{Universe, placeOf}
 use Rattle.aeolus_read_spec.specs.Limits.{nameOk, numberOk, stateOk, aboveOk, clausesOk}
 use Rattle.aeolus_read_spec.specs.Kinds.{interfaceName, interfaceLine, rowPort, rowLine}
-use Rattle.aeolus_read_sheet.specs.declared.kinds.Kind.{Kind}
-use Rattle.aeolus_read_sheet.specs.declared.kinds.Kind.the-variants as kind
-use Rattle.aeolus_read_sheet.specs.Kinds.{whichOf, lineSays}
+use Rattle.aeolus_read_lines.specs.declared.Kind.{Kind}
+use Rattle.aeolus_read_lines.specs.declared.Kind.the-variants as kind
+use Rattle.aeolus_read_lines.specs.Kinds.{whichOf, lineSays}
 
 -- the reader of the key that stands here
 by-key : {A : Type 0} (a b c : List ℕ) (m : ℕ → Reader A) (s : List ℕ) → upon a (m 0) (upon b (m 1) (upon c (m 2) noLine)) s ≡ readOn (whichOf a b c s) m

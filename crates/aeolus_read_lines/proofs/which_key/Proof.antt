@@ -3,11 +3,11 @@ use mathlib.Core.Path.{refl}
 use Rattle.read_items.specs.Says.{dueSays}
 use Rattle.read_items.proofs.Laws.{told}
 use Rattle.read_items.proofs.Limits.{verb-other}
-use Rattle.aeolus_read_sheet.specs.Kinds.{whichOf}
-use Rattle.aeolus_read_sheet.proofs.Keys.{key-here}
+use Rattle.aeolus_read_lines.specs.Kinds.{whichOf}
+use Rattle.aeolus_read_lines.proofs.Keys.{key-here}
 use borrow.Author.Needs.{needs}
-use Rattle.aeolus_read_sheet.proofs.kinds.which_key.Statement.{statement}
-use Rattle.aeolus_read_sheet.proofs.kinds.which_key.Tie as tie
+use Rattle.aeolus_read_lines.proofs.which_key.Statement.{statement}
+use Rattle.aeolus_read_lines.proofs.which_key.Tie as tie
 
 pub which-key-spec : {M : Type 1} → statement M
 unfolding whichOf

@@ -1,7 +1,7 @@
 use borrow.Author.Tests.{eq-eqb, ne-eqb}
 use borrow.Author.Needs.{needs}
-use Rattle.aeolus_read_sheet.proofs.kinds.above.Statement.{statement}
-use Rattle.aeolus_read_sheet.proofs.kinds.above.Tie as tie
+use Rattle.aeolus_read_lines.proofs.above.Statement.{statement}
+use Rattle.aeolus_read_lines.proofs.above.Tie as tie
 
 pub above-spec : {M : Type 1} → statement M
 above-spec =

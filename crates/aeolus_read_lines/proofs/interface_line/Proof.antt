@@ -3,10 +3,10 @@ use Rattle.read_items.specs.Says.{numberSays}
 use Rattle.read_items.specs.Within.{numbersSays}
 use Rattle.read_items.proofs.Laws.{told}
 use Rattle.read_items.proofs.Limits.{form-fault, form-then, limit-fault, limit-kept}
-use Rattle.aeolus_read_sheet.proofs.Keys.{interface-numbers}
+use Rattle.aeolus_read_lines.proofs.Keys.{interface-numbers}
 use borrow.Author.Needs.{needs}
-use Rattle.aeolus_read_sheet.proofs.kinds.interface_line.Statement.{statement}
-use Rattle.aeolus_read_sheet.proofs.kinds.interface_line.Tie as tie
+use Rattle.aeolus_read_lines.proofs.interface_line.Statement.{statement}
+use Rattle.aeolus_read_lines.proofs.interface_line.Tie as tie
 
 pub interface-line-spec : {M : Type 1} → statement M
 interface-line-spec =

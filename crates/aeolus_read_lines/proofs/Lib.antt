@@ -1,0 +1,2 @@
+-- A line by its key and its numbers (Keys).
+pub mod Keys
