@@ -25,7 +25,7 @@ use Rattle.aeolus_model.specs.Words.{configurationIn}
 use Rattle.aeolus_rules_spec.specs.Bind.{sizes}
 use Rattle.aeolus_rules_spec.specs.Del.{freed}
 use Rattle.aeolus_rules_spec.proofs.Bindings.{size, sizes-one, length-freed}
-use Rattle.aeolus_step.specs.Tests.{withRows, freedAt}
+use Rattle.aeolus_step.specs.Freed.{withRows, freedAt}
 
 pub rows-long : (ws : List ℕ) → length (configurationIn ws .bound) ≡ 512
 unfolding configurationIn

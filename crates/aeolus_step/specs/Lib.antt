@@ -1,3 +1,3 @@
--- The tests that are counted, as values, and rows of bindings freed one by one (Tests); no other outcome (Once).
-pub mod Tests
+-- Rows of bindings freed one by one (Freed); no other outcome (Once).
+pub mod Freed
 pub mod Once

@@ -25,7 +25,7 @@ ghost use Rattle.aeolus_rules_spec.specs.Del.{freed, deleted};
 ghost use Rattle.aeolus_rules_spec.specs.Bind.{joined};
 ghost use Rattle.aeolus_rules_spec.specs.Unbind.{parted};
 ghost use Rattle.aeolus_rules_spec.specs.Action.{effect};
-ghost use Rattle.aeolus_step.specs.Tests.{withRows, freedAt};
+ghost use Rattle.aeolus_step.specs.Freed.{withRows, freedAt};
 
 fn add_to(universe: &Universe, deployed: &mut Deployed, z: u32, k: u32)
     ensures { λ r. ⌜ configurationIn (now (deployed .exit))

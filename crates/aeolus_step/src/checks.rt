@@ -1,7 +1,7 @@
 // The actions' own conditions on lent words, and how many bindings stand.
 // Promised: each check answers the number of aeolus_rules/specs.
-use crate::correct::is_bound;
-use crate::correct::is_deployed;
+use aeolus_correct::is_bound;
+use aeolus_correct::is_deployed;
 use aeolus_model::Deployed;
 use aeolus_model::Step;
 use aeolus_model::Universe;

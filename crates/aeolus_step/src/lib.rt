@@ -2,8 +2,9 @@
 // Promised: an action and a run are those of aeolus_rules/specs, and a refused action changes nothing.
 mod changes;
 pub mod checks;
-pub mod correct;
 
+use aeolus_correct::last_check;
+use aeolus_correct::reached_check;
 use aeolus_model::Deployed;
 use aeolus_model::Plan;
 use aeolus_model::Step;
@@ -12,8 +13,6 @@ use aeolus_model::step_at;
 use aeolus_model::steps;
 use changes::carry_out;
 use checks::own_check;
-use correct::last_check;
-use correct::reached_check;
 ghost use mathlib.Core.Path.{_≡_};
 ghost use Prim.Native.Nat.{min};
 ghost use Rattle.aeolus_model.specs.Action.{actionOf, actionsOf};

@@ -1,5 +1,6 @@
 // The report of the Aeolus paper: each line is written into the part of the lent buffer that is still free, and its writer answers the bytes used.
 // Promised: every byte of the lent buffer and the bytes used, cut where there is no room, for every run's answer, reachable or not.
+use aeolus_correct::is_deployed;
 use aeolus_model::Deployed;
 use aeolus_model::Universe;
 use aeolus_model::bound_at;
@@ -11,7 +12,6 @@ use aeolus_model::state_of;
 use aeolus_step::Passed;
 use aeolus_step::checks::bindings;
 use aeolus_step::checks::size_of;
-use aeolus_step::correct::is_deployed;
 use write_items::write_byte;
 use write_items::write_key;
 use write_items::write_number;

@@ -1,7 +1,7 @@
 use mathlib.Core.Path.{_∙_}
 use Rattle.aeolus_model.specs.Model.{withPresent, withKind, withState}
 use Rattle.aeolus_rules_spec.specs.Del.{deleted}
-use Rattle.aeolus_step.specs.Tests.{withRows}
+use Rattle.aeolus_step.specs.Freed.{withRows}
 use borrow.Author.Needs.{needs}
 use Rattle.aeolus_step.proofs.changes.delete_to.Statement.{statement}
 use Rattle.aeolus_step.proofs.changes.delete_to.Tie as tie

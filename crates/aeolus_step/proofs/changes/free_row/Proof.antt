@@ -1,6 +1,6 @@
 use mathlib.Core.Path.{_∙_}
 use Rattle.aeolus_model.specs.Model.{withBound}
-use Rattle.aeolus_step.specs.Tests.{withRows}
+use Rattle.aeolus_step.specs.Freed.{withRows}
 use borrow.Author.Needs.{needs}
 use Rattle.aeolus_step.proofs.changes.free_row.Statement.{statement}
 use Rattle.aeolus_step.proofs.changes.free_row.Tie as tie

@@ -2,7 +2,7 @@ use Prim.Native.Nat.{_≤_, _-_}
 use mathlib.Core.Path.{_≡_, sym, ap, _∙_}
 use native.Mathlib.Omega.{arith}
 use Rattle.aeolus_model.specs.Words.{configurationIn}
-use Rattle.aeolus_step.specs.Tests.{withRows}
+use Rattle.aeolus_step.specs.Freed.{withRows}
 use Rattle.aeolus_step.proofs.Rows.{turned, turned-start, turned-more, turned-all}
 use borrow.Author.Needs.{needs}
 use Rattle.aeolus_step.proofs.changes.free_rows.Statement.{statement}

@@ -1,0 +1,2 @@
+-- What is asked of a number by cases (Numbers).
+pub mod Numbers

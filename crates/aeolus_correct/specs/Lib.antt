@@ -1,0 +1,2 @@
+-- The tests that are counted, as values (Tests).
+pub mod Tests
