@@ -1,5 +1,5 @@
 // A text of times read whole: its three first lines, then its rows, each from the part of the text that starts with it, into two lent arrays.
-// Promised: for every text `read_times` answers the one number, place and times that `timesRead` gives of it.
+// Promised: for every text `read_times` answers the one number, place and times that `timesRead` gives of it; `times_number` is that number by its name.
 use item_spec::BAD_CLAUSE;
 use item_spec::BAD_FORM;
 use read_items::Digits;
@@ -17,6 +17,7 @@ ghost use Prim.Native.Nat.{ℕ};
 ghost use lib.ListN.{replicate, length, drop};
 ghost use Rattle.read_spec.specs.Lines.{each};
 ghost use Rattle.read_lines.specs.Runs.{refusalOf, RunsTo};
+ghost use Rattle.times_spec.specs.Refusal.{timesNumber};
 ghost use Rattle.times_spec.specs.Text.{time, times};
 ghost use Rattle.read_times.specs.Onward.{fromRows};
 ghost use Rattle.read_times.specs.Says.{filled, lineWent, lineUsed, ReadsTo};
@@ -187,5 +188,16 @@ pub fn read_times(text: &[u8]) -> TimesRead
                 times,
             }
         }
+    }
+}
+
+// "40 bad row or key ..; 41 number beyond its limit; 42 pair listed twice"
+pub fn times_number(n: u8) -> u8
+    ensures { λ r. ⌜ r ≡ timesNumber n ⌝ }
+{
+    match n {
+        3 => 41,
+        4 => 42,
+        _ => 40,
     }
 }

@@ -2,12 +2,13 @@
 // Promised: the walk is that of rules/specs, and the mark that of timed/specs, for every table, answer and times, and every program of walks/specs/Fits.
 use model::Concerned;
 use model::mask_at;
-use model::smaller;
 use sets::member;
 use sets::without;
 use step_walk::Passed;
 use step_walk::step;
 use step_walk::step_count;
+use timing_mark::later;
+use timing_mark::mark;
 use words::AnswerWords;
 use words::ProgramWords;
 use words::StateWords;
@@ -20,34 +21,25 @@ use words::state::running;
 ghost use mathlib.Core.Path.{_≡_};
 ghost use mathlib.Core.Bool.{cond};
 ghost use mathlib.Core.List.{List};
-ghost use Prim.Native.Nat.{ℕ, _+_, _≤_, max};
+ghost use Prim.Native.Nat.{ℕ, _+_, max};
 ghost use lib.ListN.{getD, set};
 ghost use Rattle.sets.specs.Mask.{member};
 ghost use Rattle.model.specs.declared.Configuration.{Configuration};
 ghost use Rattle.times_spec.specs.View.{pairSlot};
 ghost use Rattle.timing_spec.specs.Clock.{started, notes};
-ghost use Rattle.timing_spec.specs.Mark.{markOf};
 ghost use Rattle.words.specs.Words.{tablesIn, programIn, answerIn, stateIn};
 ghost use Rattle.words.specs.Parts.{stepOf};
 ghost use Rattle.timing_clock.specs.Once.{Promised, timesIn};
-ghost use Rattle.timing_clock.specs.Paced.{clockAt, longest, InTime, Ticks};
+ghost use Rattle.timing_clock.specs.Paced.{clockAt, InTime, Ticks};
 
 const FIRE: u32 = 1;
 
 const END: u32 = 2;
 
-const FULL_MARK: usize = 1000;
-
 // How far a walk came, and the mark: 0 after a refused step.
 pub struct TimedWalk {
     pub passed: Passed,
     pub mark: usize,
-}
-
-fn later(a: usize, b: usize) -> usize
-    ensures { λ r. ⌜ r ≡ max a b ⌝ }
-{
-    if a < b { b } else { a }
 }
 
 fn pair_slot(id: u32, x: u32) -> usize
@@ -117,17 +109,6 @@ fn tick(
         END => end_at(seconds, noted, clock, pair_slot(id, number)),
         _ => clock,
     }
-}
-
-// 1,000 times par over the clock, to the nearest, halves down: one division.
-fn mark(par: u32, clock: usize) -> usize
-    requires { ⌜ clock ≤ longest ⌝ }
-    ensures { λ r. ⌜ r ≡ markOf par clock ⌝ }
-{
-    if clock == 0 {
-        return FULL_MARK;
-    }
-    smaller(FULL_MARK, (2000 * (par as usize) + clock - 1) / (2 * clock))
 }
 
 // The walk of an answer from the empty start, with the clock beside it, of times with this par and these seconds.

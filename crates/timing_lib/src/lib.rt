@@ -12,6 +12,7 @@ use model::Concerned;
 use model::Text;
 use step_walk::Passed;
 use timing_clock::TimedWalk;
+use timing_mark::unmarked;
 use timing_spec::Timed;
 use words::AnswerWords;
 use words::ProgramWords;
@@ -116,30 +117,12 @@ fn course(sheet: &[u8], answer: &[u8], times: &[u8], state: &mut StateWords) -> 
     }
 }
 
-// "40 bad row or key ..; 41 number beyond its limit; 42 pair listed twice"
-fn times_number(n: u8) -> u8
-    ensures { λ r. ⌜ r ≡ timesNumber n ⌝ }
-{
-    match n {
-        3 => 41,
-        4 => 42,
-        _ => 40,
-    }
-}
-
-// "after any refusal, 1 to 6 too, the mark is 0"
-fn unmarked(verdict: Verdict) -> Timed
-    ensures { λ r. ⌜ r ≡ record { verdict = verdict; mark = 0 } ⌝ }
-{
-    Timed { verdict, mark: 0 }
-}
-
 // "They act as 2 does, with `text=times`"
 fn after_times_fault(times: &[u8], n: u8, at: usize) -> Verdict
     ensures { λ r. ⌜ r ≡ numbered (timesNumber n) (afterFault text.Times n at (now (times .entry))) .verdict ⌝ }
 {
     let mut verdict = judge_verdicts::after_fault(Text::Times, times, n, at);
-    verdict.refused = times_number(n);
+    verdict.refused = read_times::times_number(n);
     verdict
 }
 

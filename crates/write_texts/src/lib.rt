@@ -9,21 +9,15 @@ mod rows;
 use faults::answer_fault;
 use faults::sheet_fault;
 use filled::put_text;
-use item_spec::BUFFER_SHORT;
-use item_spec::TOO_LONG;
 use lines_of::put_answer;
 use parts::Layout;
-use read_lines::LONGEST;
 use words::AnswerWords;
 use words::ProgramWords;
 use words::TableWords;
+use write_room::room_fault;
 ghost use mathlib.Core.Path.{_≡_};
-ghost use mathlib.Core.Bool.{not};
 ghost use Prim.Native.Nat.{min};
-ghost use lib.Dec.{leb};
 ghost use lib.ListN.{length};
-ghost use Rattle.read_spec.specs.Limits.{lengthOk};
-ghost use Rattle.rules_spec.specs.Refusal.{_⇒_∣_};
 ghost use Rattle.words.specs.Words.{tablesIn, programIn, answerIn};
 ghost use Rattle.write_spec.specs.Texts.{sheetText, sheetFault, answerText, answerFault};
 ghost use Rattle.write_spec.specs.Buffer.{writeNumber, Penned};
@@ -49,19 +43,6 @@ fn answer_length(answer: &AnswerWords) -> usize
 {
     let mut scratch = [0u8; 32769];
     put_answer(&mut scratch, answer)
-}
-
-// 1 before 6, of a text of so many bytes.
-fn room_fault(length: usize, room: usize) -> u8
-    ensures { λ r. ⌜ r ≡ (not (lengthOk length) ⇒ 1 ∣ not (leb length room) ⇒ 6 ∣ 0) ⌝ }
-{
-    if LONGEST < length {
-        return TOO_LONG;
-    }
-    if room < length {
-        return BUFFER_SHORT;
-    }
-    0
 }
 
 // No line is looked at past the first at fault, and nothing is measured before.

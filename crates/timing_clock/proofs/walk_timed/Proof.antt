@@ -94,11 +94,6 @@ loop-again c =
           (e .value ∙ ap (λ (x : Step). tick ts before after x (clockAt (l .loop .clock) (l .loop .noted))) (read (s .before .before .before .before))),
     )
 
-mark-requires : tie.Need-mark-requires Inv-loop μ-loop
-mark-requires c κs =
-    let h = c .before .loop .inv in
-    omega (arith, h .2 .slow, h .0, c .before .before .step-count .ensures)
-
 returns-2 : tie.Need-returns-2 Inv-loop μ-loop
 returns-2 c listed =
     let g = c .before in
@@ -113,4 +108,4 @@ walk-timed-spec =
     (tie.spec
     Inv-loop μ-loop (λ c κs. search needs) (λ c κs. search needs) loop-holds (λ c κs. search needs) (λ c κs. search needs)
     (λ c κs. search needs) (λ c κs. search needs) (λ c κs. search needs) returns (λ c κs. search needs) (λ c κs. search needs)
-    (λ c. search needs) tick-requires (λ c. search needs) (λ c. omega arith) loop-again mark-requires returns-2)
+    (λ c. search needs) tick-requires (λ c. search needs) (λ c. omega arith) loop-again returns-2)

@@ -1,7 +1,7 @@
 use borrow.Author.Tests.{le-leb, lt-leb}
 use borrow.Author.Needs.{needs}
-use Rattle.write_texts.proofs.room_fault.Statement.{statement}
-use Rattle.write_texts.proofs.room_fault.Tie as tie
+use Rattle.write_room.proofs.room_fault.Statement.{statement}
+use Rattle.write_room.proofs.room_fault.Tie as tie
 
 pub room-fault-spec : {M : Type 1} → statement M
 room-fault-spec =

@@ -1,7 +1,7 @@
 use borrow.Author.Tests.{ne-eqb}
 use Rattle.times_spec.specs.Refusal.{timesNumber}
-use Rattle.timing_lib.proofs.times_number.Statement.{statement}
-use Rattle.timing_lib.proofs.times_number.Tie as tie
+use Rattle.read_times.proofs.times_number.Statement.{statement}
+use Rattle.read_times.proofs.times_number.Tie as tie
 
 returns : tie.Need-returns
 unfolding timesNumber
