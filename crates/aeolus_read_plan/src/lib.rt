@@ -126,7 +126,7 @@ fn then_steps(text: &[u8], count: NumberRead, types: u32, words: &mut Plan) -> L
     let most = count.number;
     let mut read = read_chain::then_nothing(text, count.read);
     let mut i: u32 = 0;
-    while i < most {
+    while (i < most) & read_chain::goes_on(read) {
         read = then_step(text, read, types, i, words);
         i = i + 1;
     }

@@ -116,7 +116,7 @@ fn then_lines(
     let most = count.number;
     let mut read = read_chain::then_nothing(text, count.read);
     let mut i: u32 = 0;
-    while i < most {
+    while (i < most) & read_chain::goes_on(read) {
         read = then_line(text, read, kind, k, i, universe);
         i = i + 1;
     }
@@ -141,7 +141,7 @@ fn then_states(text: &[u8], count: NumberRead, k: u32, universe: &mut Universe) 
     let most = count.number;
     let mut read = read_chain::then_nothing(text, count.read);
     let mut q: u32 = 0;
-    while q < most {
+    while (q < most) & read_chain::goes_on(read) {
         read = then_state(text, read, k, q, universe);
         q = q + 1;
     }
@@ -175,7 +175,7 @@ pub(crate) fn then_types(text: &[u8], count: NumberRead, universe: &mut Universe
     let most = count.number;
     let mut read = read_chain::then_nothing(text, count.read);
     let mut k: u32 = 0;
-    while k < most {
+    while (k < most) & read_chain::goes_on(read) {
         read = then_type(text, read, k, universe);
         k = k + 1;
     }

@@ -23,7 +23,7 @@ use Rattle.read_lines.proofs.Runs.{stopped, went-on, run-refused, run-then, run
 use Rattle.read_chain.specs.declared.LinesRead.{LinesRead}
 use Rattle.read_chain.specs.declared.NumberRead.{NumberRead}
 use Rattle.read_chain.specs.Whole.{outcome, whole, kept}
-use Rattle.read_chain.specs.Chain.{After, Held, short, shortly, numberRun, numberAfter}
+use Rattle.read_chain.specs.Chain.{After, Held, short, shortly, numberRun}
 
 -- a reading either went on or stopped
 pub not-both : {k : ℕ} → On ≡ Stop k → ⊥
@@ -76,19 +76,13 @@ number-held a b s start (line.Got n to) l e = rw e (record { few = l .1; none = 
 number-held a b s start (line.Refused k) l e = rw e (record { few = zero-le; none = λ j g. refl })
 
 -- the same after what was read so far
-module _ (s : List ℕ) (a : LinesRead) (x : Line) {r : NumberRead} (e : r ≡ numberAfter (a .went) a (numberRun (min (a .at) (length s)) x)) where
-  by-went : (P : NumberRead → Type 0) → (a .went ≡ On → P (numberRun (min (a .at) (length s)) x)) → ((k : ℕ) → a .went ≡ Stop k → P (record { read = a; number = 0 })) → P r
-  by-went P f g = by (one-of (a .went))
-    where
-      by : (a .went ≡ On) ⊎ ((k : ℕ) × (a .went ≡ Stop k)) → P r
-      by (inl w) = rw (e ∙ ap (λ (v : Went). numberAfter v a (numberRun (min (a .at) (length s)) x)) w) (f w)
-      by (inr (k, w)) = rw (e ∙ ap (λ (v : Went). numberAfter v a (numberRun (min (a .at) (length s)) x)) w) (g k w)
+module _ (s : List ℕ) (a : LinesRead) (m : Reader ℕ) {g : ℕ} where
+  pub number-stopped : {k : ℕ} → a .went ≡ Stop k → After s a (line m) a 0 × Held g (record { read = a; number = 0 })
+  number-stopped w = (after-stopped w, record { few = zero-le; none = λ j _. refl })
 
-  pub number-follows : (m : Reader ℕ) {l g : ℕ} → CountsIn s l g x (m (drop (a .at) s)) → After s a (line m) (r .read) (r .number) × Held g r
-  number-follows m {l} {g} h =
-      by-went (λ (y : NumberRead). After s a (line m) (y .read) (y .number) × Held g y)
-      (λ w. (after-went w (number-read m s (a .at) x (h .reads) refl), number-held l g s (a .at) x (h .limited) refl))
-      (λ k w. (after-stopped w, record { few = zero-le; none = λ j _. refl }))
+  pub number-went : (x : Line) {l : ℕ} {r : NumberRead} → a .went ≡ On → CountsIn s l g x (m (drop (a .at) s)) → r ≡ numberRun (min (a .at) (length s)) x
+      → After s a (line m) (r .read) (r .number) × Held g r
+  number-went x {l} w h e = (after-went w (number-read m s (a .at) x (h .reads) e), number-held l g s (a .at) x (h .limited) e)
 
 -- ---- a whole text
 module _ (s : List ℕ) where

@@ -55,8 +55,3 @@ NoOtherNumber = (s : List ℕ) (a : LinesRead) (f : Lines ℕ) (n : ℕ) (r q : 
 abbrev pub numberRun : ℕ → Line → NumberRead
 numberRun at (line.Got n next) = record { read = record { went = On; at = next }; number = n }
 numberRun at (line.Refused k) = record { read = record { went = Stop k; at = at }; number = 0 }
-
--- what was read after a, which went w: nothing where it had stopped
-abbrev pub numberAfter : Went → LinesRead → NumberRead → NumberRead
-numberAfter On a r = r
-numberAfter (Stop k) a r = record { read = a; number = 0 }

@@ -16,7 +16,7 @@ ghost use Rattle.read_spec.specs.Kinds.{dueLine, countLine};
 ghost use Rattle.read_spec.specs.Lines.{line, atEnd};
 ghost use Rattle.read_lines.specs.Counts.{limitOk, greatest, inRange};
 ghost use Rattle.read_lines.specs.Runs.{RunsTo, refusalOf};
-ghost use Rattle.read_chain.specs.Chain.{After, Held, goesOn, nothing, short, numberRun, numberAfter};
+ghost use Rattle.read_chain.specs.Chain.{After, Held, goesOn, nothing, short, numberRun};
 
 // Whether a run of lines went on, and the place of the next line or of the line at fault.
 pub struct LinesRead {
@@ -108,24 +108,17 @@ pub fn then_due(text: &[u8], read: LinesRead, key: &[u8], number: u32) -> LinesR
     due_run(text, read.at, key, number)
 }
 
-// What the line comes to that was read where the next line is due.
-pub fn number_after(text: &[u8], read: LinesRead, line: Line) -> NumberRead
-    ensures { λ r. ⌜ r ≡ numberAfter (read .went) read (numberRun (min (read .at) (length (now (text .entry)))) line) ⌝ }
-{
-    let went = read.went;
-    let Went::On = went else {
-        return NumberRead { read, number: 0 };
-    };
-    number_run(text, read.at, line)
-}
-
 // The line of a key and a number within its limit.
 pub fn then_number(text: &[u8], read: LinesRead, key: &[u8], limit: Limit) -> NumberRead
     ensures reads { λ r. ⌜ After (now (text .entry)) read (line (countLine (now (key .entry)) (limitOk limit))) (r .read) (r .number) ⌝ }
     ensures held { λ r. ⌜ Held (greatest limit) r ⌝ }
 {
+    let went = read.went;
+    let Went::On = went else {
+        return NumberRead { read, number: 0 };
+    };
     let line = read_lines::count_at(text, read.at, key, limit);
-    number_after(text, read, line)
+    number_run(text, read.at, line)
 }
 
 // The line of a key and a number from the least to the greatest.
@@ -139,8 +132,12 @@ pub fn then_within(
     ensures reads { λ r. ⌜ After (now (text .entry)) read (line (countLine (now (key .entry)) (inRange least greatest))) (r .read) (r .number) ⌝ }
     ensures held { λ r. ⌜ Held greatest r ⌝ }
 {
+    let went = read.went;
+    let Went::On = went else {
+        return NumberRead { read, number: 0 };
+    };
     let line = read_lines::within_at(text, read.at, key, Digits::Five, least, greatest);
-    number_after(text, read, line)
+    number_run(text, read.at, line)
 }
 
 // No line yet: from there on a loop reads.

@@ -1,14 +1,19 @@
 use borrow.Author.Needs.{needs}
 use Rattle.read_spec.specs.Kinds.{countLine}
 use Rattle.read_lines.specs.Counts.{limitOk}
-use Rattle.read_chain.proofs.Chain.{number-follows}
+use Rattle.read_chain.proofs.Chain.{number-stopped, number-went}
 use Rattle.read_chain.proofs.then_number.Statement.{statement}
 use Rattle.read_chain.proofs.then_number.Tie as tie
 
 returns : tie.Need-returns
 returns c =
     let a = c .before .before .before .before .args in
-    number-follows (a .text .now) (a .read) _ (c .number-after .ensures) (countLine (a .key .now) (limitOk (a .limit))) (c .before .count-at .ensures)
+    number-stopped (a .text .now) (a .read) (countLine (a .key .now) (limitOk (a .limit))) (c .enum-told2 .given .1)
+
+returns-2 : tie.Need-returns-2
+returns-2 c =
+    let a = c .before .before .before .before .before .before .args in
+    number-went (a .text .now) (a .read) (countLine (a .key .now) (limitOk (a .limit))) _ (c .before .before .enum-told .given .1) (c .before .count-at .ensures) (c .number-run .ensures)
 
 pub then-number-spec : {M : Type 1} → statement M
-then-number-spec = tie.close (tie.spec (λ c κs. search needs) (λ c κs. search needs) returns)
+then-number-spec = tie.close (tie.spec (λ c. search needs) (λ c. search needs) returns (λ c κs. search needs) (λ c κs. search needs) returns-2)
