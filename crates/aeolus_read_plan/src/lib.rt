@@ -12,6 +12,7 @@ use read_items::Digits;
 use read_items::Due;
 use read_items::numbers::Limits;
 use read_items::numbers::Numbers;
+use read_items::numbers::refusal;
 use read_lines::Went;
 ghost use mathlib.Core.Path.{_≡_};
 ghost use lib.ListN.{drop};
@@ -48,21 +49,19 @@ fn step_numbers(s: &[u8], at: usize, verb: u32, limits: Limits) -> StepLine
     ensures { λ r. ⌜ Reads (now (s .entry)) (stepSays r) (stepNumbers verb limits (drop at (now (s .entry)))) ⌝ }
 {
     let line = read_items::numbers::numbers_within(s, at, Digits::Five, limits);
-    match line {
-        Numbers::Got(n, used) => {
-            if (BIND <= verb) & (n.second == n.third) {
-                return StepLine::Refused(BAD_CLAUSE);
-            }
-            let step = Step {
-                verb,
-                first: n.first,
-                second: n.second,
-                third: n.third,
-            };
-            StepLine::Got(step, used)
-        }
-        Numbers::Refused(k) => StepLine::Refused(k),
+    let Numbers::Got(n, used) = line else {
+        return StepLine::Refused(refusal(line));
+    };
+    if (BIND <= verb) & (n.second == n.third) {
+        return StepLine::Refused(BAD_CLAUSE);
     }
+    let step = Step {
+        verb,
+        first: n.first,
+        second: n.second,
+        third: n.third,
+    };
+    StepLine::Got(step, used)
 }
 
 // `step=`, in a sheet of so many types.

@@ -9,6 +9,7 @@ use read_items::Digits;
 use read_items::Due;
 use read_items::numbers::Limits;
 use read_items::numbers::Numbers;
+use read_items::numbers::refusal;
 use read_lines::Limit;
 use read_lines::Went;
 use words::AnswerWords;
@@ -48,10 +49,10 @@ fn step_numbers(s: &[u8], at: usize, verb: u32, limits: Limits) -> StepLine
     ensures { λ r. ⌜ Reads (now (s .entry)) (stepSays r) (stepNumbers verb limits (drop at (now (s .entry)))) ⌝ }
 {
     let line = read_items::numbers::numbers_within(s, at, Digits::Five, limits);
-    match line {
-        Numbers::Got(n, used) => StepLine::Got(verb, n.first, n.second, used),
-        Numbers::Refused(k) => StepLine::Refused(k),
-    }
+    let Numbers::Got(n, used) = line else {
+        return StepLine::Refused(refusal(line));
+    };
+    StepLine::Got(verb, n.first, n.second, used)
 }
 
 // `step=`

@@ -9,6 +9,7 @@ use read_items::OneList;
 use read_items::TwoLists;
 use read_items::numbers::Limits;
 use read_items::numbers::Numbers;
+use read_items::numbers::refusal;
 use read_lines::Line;
 ghost use mathlib.Core.Path.{_≡_};
 ghost use lib.ListN.{drop};
@@ -79,22 +80,20 @@ fn tran_line(s: &[u8], known: Known) -> RowLine
     };
     let limits = Limits::Two(known.places, known.places);
     let line = read_items::numbers::numbers_within(s, i, Digits::Five, limits);
-    match line {
-        Numbers::Got(n, used) => {
-            if n.first == n.second {
-                return RowLine::Refused(BAD_CLAUSE);
-            }
-            let row = Row {
-                source: n.first,
-                destination: n.second,
-                uses: 0,
-                places: 0,
-                transitions: 0,
-            };
-            RowLine::Got(row, used)
-        }
-        Numbers::Refused(k) => RowLine::Refused(k),
+    let Numbers::Got(n, used) = line else {
+        return RowLine::Refused(refusal(line));
+    };
+    if n.first == n.second {
+        return RowLine::Refused(BAD_CLAUSE);
     }
+    let row = Row {
+        source: n.first,
+        destination: n.second,
+        uses: 0,
+        places: 0,
+        transitions: 0,
+    };
+    RowLine::Got(row, used)
 }
 
 // `behavior=` list of transitions.
@@ -170,10 +169,10 @@ fn do_numbers(s: &[u8], at: usize, verb: u32, limits: Limits) -> Do
     ensures { λ r. ⌜ Reads (now (s .entry)) (instructionSays r) (doNumbers verb limits (drop at (now (s .entry)))) ⌝ }
 {
     let line = read_items::numbers::numbers_within(s, at, Digits::Five, limits);
-    match line {
-        Numbers::Got(n, used) => Do::Got(verb, n.first, n.second, n.third, n.fourth, used),
-        Numbers::Refused(k) => Do::Refused(k),
-    }
+    let Numbers::Got(n, used) = line else {
+        return Do::Refused(refusal(line));
+    };
+    Do::Got(verb, n.first, n.second, n.third, n.fourth, used)
 }
 
 // `do=`, in a sheet of so many types.

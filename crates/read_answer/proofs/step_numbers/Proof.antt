@@ -12,6 +12,6 @@ unfolding stepNumbers
 step-numbers-spec =
     tie.close
     (tie.spec
-    (λ c κs. search needs) (λ c. search needs) (λ c. search needs)
-    (λ c. limit-kept _ _ (told numbersSays _ (c .before .before .before .numbers-within .ensures) (c .before .line .given .1)) refl)
-    (λ c. form-fault _ _ (told numbersSays _ (c .before .before .before .numbers-within .ensures) (c .before .line2 .given .1))))
+    (λ c κs. search needs) (λ c. search needs) (λ c. search needs) (λ c κs. search needs)
+    (λ c. rw (c .refusal .ensures, c .before .enum-told .given .1) (form-fault _ _ (told numbersSays _ (c .before .before .before .numbers-within .ensures) (c .before .enum-told .given .1))))
+    (λ c. limit-kept _ _ (told numbersSays _ (c .before .before .before .numbers-within .ensures) (c .before .line .given .1)) refl))
