@@ -1,3 +1,3 @@
--- The rows of a type by their kind (Rows), and the lines of verbs (Verbs).
+-- The rows of a type by their kind (Rows), and the numbers of a line (Numbers).
 pub mod Rows
-pub mod Verbs
+pub mod Numbers

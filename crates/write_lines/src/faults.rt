@@ -21,7 +21,7 @@ fn mask_ok(n: u32, m: u32) -> bool
 }
 
 // A row of checks, as in rules/specs/Refusal: where the test holds its number, else what follows.
-pub(crate) fn refuse_if(test: bool, number: u8, rest: u8) -> u8
+pub fn refuse_if(test: bool, number: u8, rest: u8) -> u8
     ensures { λ r. ⌜ r ≡ (test ⇒ number ∣ rest) ⌝ }
 {
     if test { number } else { rest }

@@ -1,7 +1,6 @@
 // The lines of the two texts as they are written: each at the start of a lent part, cut at its end, and its writer answers the bytes used.
 // Promised: every byte of the lent part and the bytes used (`Written`), and of each kind of line the number that its reader gives, for all numbers.
 pub mod faults;
-pub mod verbs;
 
 use read_sheet_lines::Row;
 use read_sheet_lines::Rows;
@@ -15,7 +14,7 @@ ghost use Rattle.write_items.specs.Written.{Written};
 ghost use Rattle.write_spec.specs.Kinds.{setText, setsText, initialText};
 ghost use Rattle.read_sheet_lines.specs.declared.Rows.the-variants.{Ports};
 ghost use Rattle.write_lines.specs.Rows.{rowText};
-ghost use Rattle.write_lines.specs.Verbs.{numbersText};
+ghost use Rattle.write_lines.specs.Numbers.{numbersText};
 
 // At a position: what follows a key to the line's end.
 fn write_last(t: &mut [u8], at: usize, a: u32) -> usize
@@ -44,7 +43,7 @@ fn write_four(t: &mut [u8], at: usize, a: u32, b: u32, c: u32, d: u32) -> usize
 }
 
 // A key and so many numbers.
-fn write_line(t: &mut [u8], key: &[u8], count: u32, a: u32, b: u32, c: u32, d: u32) -> usize
+pub fn write_line(t: &mut [u8], key: &[u8], count: u32, a: u32, b: u32, c: u32, d: u32) -> usize
     ensures { λ r. ⌜ Written (now (t .entry)) (now (key .entry) ++ numbersText count a b c d) (now (t .exit)) 0 r ⌝ }
 {
     let at = write_key(t, 0, key);

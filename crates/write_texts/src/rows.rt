@@ -17,12 +17,12 @@ use words::tables::port_kind;
 use words::tables::ports_of;
 use words::tables::source;
 use words::tables::transitions_of;
-use write_lines::verbs::Said;
+use write_verbs::Said;
 ghost use mathlib.Core.Path.{_≡_};
 ghost use Rattle.model.specs.View.{typeOf, source, destination, behaviorOf, portKind, groupPlaces, groupTransitions};
 ghost use Rattle.words.specs.Words.{tablesIn, programIn, answerIn};
 ghost use Rattle.write_spec.specs.Texts.{instructionRow, stepRow};
-ghost use Rattle.write_lines.specs.Verbs.{asInstruction, asStep};
+ghost use Rattle.write_verbs.specs.Verbs.{asInstruction, asStep};
 ghost use Rattle.read_sheet_lines.specs.Rows.{transitionRow, behaviorRow, portRow};
 ghost use Rattle.write_texts.specs.Parts.{rowAt, countOf};
 

@@ -1,5 +1,5 @@
 use Rattle.write_items.proofs.Laws.{none, then}
-use Rattle.write_lines.specs.Verbs.{numbersText}
+use Rattle.write_lines.specs.Numbers.{numbersText}
 use borrow.Author.Tests.{ne-eqb}
 use borrow.Author.Needs.{needs}
 use Rattle.write_lines.proofs.write_line.Statement.{statement}

@@ -1,4 +1,4 @@
-use Rattle.write_lines.specs.Verbs.{numbersText}
+use Rattle.write_lines.specs.Numbers.{numbersText}
 use borrow.Author.Needs.{needs}
 use Rattle.write_lines.proofs.write_one.Statement.{statement}
 use Rattle.write_lines.proofs.write_one.Tie as tie

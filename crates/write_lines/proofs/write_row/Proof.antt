@@ -1,5 +1,5 @@
 use Rattle.write_spec.specs.Kinds.{tranText, behaviorText}
-use Rattle.write_lines.specs.Verbs.{numbersText}
+use Rattle.write_lines.specs.Numbers.{numbersText}
 use borrow.Author.Needs.{needs}
 use Rattle.write_lines.proofs.write_row.Statement.{statement}
 use Rattle.write_lines.proofs.write_row.Tie as tie

@@ -1,7 +1,7 @@
 use mathlib.Core.Path.{_∙_}
 use borrow.Author.Needs.{needs}
-use Rattle.write_lines.proofs.verbs.step_fault.Statement.{statement}
-use Rattle.write_lines.proofs.verbs.step_fault.Tie as tie
+use Rattle.write_verbs.proofs.step_fault.Statement.{statement}
+use Rattle.write_verbs.proofs.step_fault.Tie as tie
 
 pub step-fault-spec : {M : Type 1} → statement M
 step-fault-spec =

@@ -1,8 +1,8 @@
 use borrow.Author.Tests.{ne-eqb}
-use Rattle.write_lines.specs.Verbs.{numbersOk}
+use Rattle.write_verbs.specs.Verbs.{numbersOk}
 use borrow.Author.Needs.{needs}
-use Rattle.write_lines.proofs.verbs.within.Statement.{statement}
-use Rattle.write_lines.proofs.verbs.within.Tie as tie
+use Rattle.write_verbs.proofs.within.Statement.{statement}
+use Rattle.write_verbs.proofs.within.Tie as tie
 
 pub within-spec : {M : Type 1} → statement M
 unfolding numbersOk

@@ -1,6 +1,6 @@
 use borrow.Author.Needs.{needs}
-use Rattle.write_lines.proofs.verbs.write_do.Statement.{statement}
-use Rattle.write_lines.proofs.verbs.write_do.Tie as tie
+use Rattle.write_verbs.proofs.write_do.Statement.{statement}
+use Rattle.write_verbs.proofs.write_do.Tie as tie
 
 pub write-do-spec : {M : Type 1} → statement M
 write-do-spec =

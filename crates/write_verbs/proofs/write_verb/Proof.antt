@@ -1,8 +1,8 @@
 use mathlib.Core.Path.{sym}
 use lib.Seq.{length-take-le}
 use borrow.Author.Needs.{needs}
-use Rattle.write_lines.proofs.verbs.write_verb.Statement.{statement}
-use Rattle.write_lines.proofs.verbs.write_verb.Tie as tie
+use Rattle.write_verbs.proofs.write_verb.Statement.{statement}
+use Rattle.write_verbs.proofs.write_verb.Tie as tie
 
 pub write-verb-spec : {M : Type 1} → statement M
 write-verb-spec =

@@ -1,8 +1,9 @@
 // The lines of verbs, do= and step=: a row of a table each.
-use crate::faults::refuse_if;
-use crate::write_line;
+// Promised: every byte of the lent buffer, and the number of the line, for all numbers, also codes that no line says.
 use item_spec::BAD_FORM;
 use item_spec::BEYOND_LIMIT;
+use write_lines::faults::refuse_if;
+use write_lines::write_line;
 ghost use mathlib.Core.List.{_++_};
 ghost use mathlib.Core.Path.{_≡_};
 ghost use mathlib.Core.Bool.{not};
@@ -12,7 +13,8 @@ ghost use Rattle.read_spec.specs.Kinds.{anInstruction, aStep};
 ghost use Rattle.rules_spec.specs.Refusal.{_⇒_∣_};
 ghost use Rattle.write_items.specs.Written.{Written};
 ghost use Rattle.write_spec.specs.Kinds.{doText, doFault, stepText, stepFault};
-ghost use Rattle.write_lines.specs.Verbs.{asInstruction, asStep, numbersText, numbersOk, Says};
+ghost use Rattle.write_lines.specs.Numbers.{numbersText};
+ghost use Rattle.write_verbs.specs.Verbs.{asInstruction, asStep, numbersOk, Says};
 
 // What a line says: a verb's code, then id, number, provider and provideport, 0 for those that it has not.
 pub struct Said(pub u32, pub u32, pub u32, pub u32, pub u32);

@@ -1,16 +1,16 @@
 -- The line of a verb: its key, how many of four numbers follow, and the limits that they lie below.
 use Prim.Native.Nat.{ℕ, _≤_}
-use mathlib.Core.List.{List, [], _++_}
+use mathlib.Core.List.{List, _++_}
 use mathlib.Core.Bool.{Bool, true, not, _&&_, cond}
 use mathlib.Core.Path.{_≡_}
 use lib.Dec.{eqb, ltb}
 use lib.ListN.{length, take, getD}
-use Rattle.item_spec.specs.Write.{oneText, twoText, fourText}
 use Rattle.rules_spec.specs.Refusal.{_⇒_∣_}
 use Rattle.model.specs.declared.Instruction.{Instruction}
 use Rattle.model.specs.declared.Step.{Step}
-use Rattle.write_lines.specs.declared.verbs.Said.{Said}
-use Rattle.write_lines.specs.declared.verbs.Verb.{Verb}
+use Rattle.write_lines.specs.Numbers.{numbersText}
+use Rattle.write_verbs.specs.declared.Said.{Said}
+use Rattle.write_verbs.specs.declared.Verb.{Verb}
 
 -- what a line says, as an instruction and as a step
 abbrev pub asInstruction : Said → Instruction
@@ -18,10 +18,6 @@ asInstruction x = record { verb = x .0; id = x .1; number = x .2; provider = x .
 
 abbrev pub asStep : Said → Step
 asStep x = record { verb = x .0; id = x .1; number = x .2 }
-
--- n numbers to the line's end, nothing where it has none
-unfoldable pub numbersText : ℕ → ℕ → ℕ → ℕ → ℕ → List ℕ
-numbersText n a b c d = cond (eqb n 0) [] (cond (eqb n 1) (oneText a) (cond (eqb n 2) (twoText a b) (fourText a b c d)))
 
 -- n numbers lie below their limits
 unfoldable pub numbersOk : ℕ → List ℕ → ℕ → ℕ → ℕ → ℕ → Bool

@@ -1,7 +1,7 @@
 use mathlib.Core.Path.{_∙_}
 use borrow.Author.Needs.{needs}
-use Rattle.write_lines.proofs.verbs.do_fault.Statement.{statement}
-use Rattle.write_lines.proofs.verbs.do_fault.Tie as tie
+use Rattle.write_verbs.proofs.do_fault.Statement.{statement}
+use Rattle.write_verbs.proofs.do_fault.Tie as tie
 
 pub do-fault-spec : {M : Type 1} → statement M
 do-fault-spec =

@@ -1,6 +1,6 @@
 use borrow.Author.Needs.{needs}
-use Rattle.write_lines.proofs.verbs.write_step.Statement.{statement}
-use Rattle.write_lines.proofs.verbs.write_step.Tie as tie
+use Rattle.write_verbs.proofs.write_step.Statement.{statement}
+use Rattle.write_verbs.proofs.write_step.Tie as tie
 
 pub write-step-spec : {M : Type 1} → statement M
 write-step-spec =

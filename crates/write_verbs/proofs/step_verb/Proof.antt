@@ -2,11 +2,12 @@ use mathlib.Core.Path.{refl}
 use native.Mathlib.Omega.{arith}
 use borrow.Author.Tests.{ne-eqb}
 use Rattle.write_spec.specs.Kinds.{stepText, stepFault}
-use Rattle.write_lines.specs.Verbs.{numbersText, numbersOk}
-use Rattle.write_lines.proofs.Limits.{below}
+use Rattle.write_lines.specs.Numbers.{numbersText}
+use Rattle.write_verbs.specs.Verbs.{numbersOk}
+use Rattle.write_verbs.proofs.Limits.{below}
 use borrow.Author.Needs.{needs}
-use Rattle.write_lines.proofs.verbs.step_verb.Statement.{statement}
-use Rattle.write_lines.proofs.verbs.step_verb.Tie as tie
+use Rattle.write_verbs.proofs.step_verb.Statement.{statement}
+use Rattle.write_verbs.proofs.step_verb.Tie as tie
 
 pub step-verb-spec : {M : Type 1} → statement M
 unfolding stepText stepFault numbersText numbersOk

@@ -1,0 +1,2 @@
+-- The lines of verbs (Verbs).
+pub mod Verbs
