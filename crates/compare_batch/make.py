@@ -1,4 +1,4 @@
-"""make.py: writes stdin and stdout of the program `compare_batch`: pairs of texts of `cases` by the model beside them, and the cases of the Aeolus paper by
+"""make.py: writes stdin and stdout of the program `compare_batch`: pairs of texts of `judge_tests` by the model beside them, and the cases of the Aeolus paper by
 the judge in C of compare/ and by what each case says of itself. Needs a C compiler."""
 import os
 import subprocess
@@ -7,13 +7,13 @@ import tempfile
 
 here = os.path.dirname(os.path.abspath(__file__))
 sys.dont_write_bytecode = True
-sys.path[:0] = [os.path.join(here, "..", name) for name in ("cases", "aeolus")]
+sys.path[:0] = [os.path.join(here, "..", name) for name in ("judge_tests", "aeolus")]
 
 from cases import cases as plans
 from model import judge
 from pairs import pairs
 
-# a pair of `cases` and a room: no refusal, a refused step, a fault in the sheet, one in the answer, both texts empty, the report's very length, a byte less, none
+# a pair of `judge_tests` and a room: no refusal, a refused step, a fault in the sheet, one in the answer, both texts empty, the report's very length, a byte less, none
 cases = [
     ("pair", 8192),
     ("pair_service_in_use", 16384),

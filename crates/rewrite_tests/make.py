@@ -1,5 +1,5 @@
 """make.py: writes data/, args and stdout of the program `rewrite_tests`. What becomes of a sheet is said here by hand; what the judge must print of a rewritten sheet
-is what the model of `cases` prints of the old sheet under the old rule."""
+is what the model of `judge_tests` prints of the old sheet under the old rule."""
 import os
 import shutil
 import sys
@@ -20,7 +20,7 @@ def taken_from(*path):
 
 
 old = taken_from("..", "examples", "old-sheet", "sheet.txt")
-longest = taken_from("readings", "data", "bytes_32768.sheet")
+longest = taken_from("read_tests", "data", "bytes_32768.sheet")
 good = answer(nexts(5), move(0, 0, 0, 1), "finish,0", "next")
 fifth = taken_from("..", "examples", "old-sheet", "answer.txt")
 answers = {"none": "", "good": good, "fifth": fifth, "faulty": fifth.replace("step=next", "step=nxt", 1), "long": good + "#" * 32768}

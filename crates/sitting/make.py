@@ -1,4 +1,4 @@
-"""make.py: writes data/, args and stdout of the program `sitting` from the model that stands beside `cases`."""
+"""make.py: writes data/, args and stdout of the program `sitting` from the model that stands beside `judge_tests`."""
 import os
 import shutil
 import sys

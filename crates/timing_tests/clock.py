@@ -1,4 +1,4 @@
-"""Timing in Python, written from request C-14 of document 02 and not from the definitions; the judge is the model that stands beside `cases`."""
+"""Timing in Python, written from request C-14 of document 02 and not from the definitions; the judge is the model that stands beside `judge_tests`."""
 import re
 from fractions import Fraction
 

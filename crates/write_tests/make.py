@@ -2,7 +2,7 @@
 """make.py FOLDER: writes the writing cases into FOLDER: data/, args (their names), stdout (what must come of each).
 
 A case of words is lines `PLACE,HIGH,LOW` of what is lent, each word by its halves; what must come of it is said here: the number of the refusal with the case, by hand, and the text
-by `sheet` and `answer` below, which write it from the same numbers without looking at the program. The other cases are texts of crate cases, and some of
+by `sheet` and `answer` below, which write it from the same numbers without looking at the program. The other cases are texts of `judge_tests`, and some of
 answers, that must come out as they went in.
 """
 import os
@@ -231,7 +231,7 @@ steps("room_for_the_answer", run, room=size)
 steps("one_byte_short_of_the_answer", run, 6, size - 1)
 steps("answer_at_fault_and_no_room", [(5,)], 2, 0)
 
-# ---- texts of crate cases, read and written back
+# ---- texts of `judge_tests`, read and written back
 for name in """all_busy concerto_d_taken_down concerto_deleted_while_linked concerto_disconnected_from_the_ip concerto_maintain concerto_name_not_unique
 concerto_update concerto_update_with_a_barrier connection_64 connection_65 counts_at_their_greatest del_of_connected_with_queue head_goes_rest_moves_up
 in_use_at_enter last_token_refuses list_and_port_empty madeus_check_before_the_service madeus_without_docks old_marks_gone one_of_two_tokens_leaves
