@@ -1,4 +1,4 @@
--- What a sheet and an answer that were read keep to: a universe of 003's Definition 1, actions within the limits.
+-- What a sheet and an answer that were read keep to: a universe of 003's Definition 1 (but for provisions of number 0, which C-22 allows), actions within the limits.
 use Prim.Native.Nat.{ℕ, _^_, _≤_, _<_}
 use mathlib.Core.List.{List}
 use mathlib.Core.Bool.{true, cond}
