@@ -1,5 +1,6 @@
 // A form as a sheet, and a sheet as a form: the one from standard input; out goes the other, or on standard error the number and the line or row at fault.
-// Promised by cells, sheets and scribes: what each of the calls gives. Shown here: no index is out of range, and `run` ends.
+// Promised, on all bytes and buffers: `write_draft` answers the number, the row or line and the bytes that `sheetOfForm` and `formOfSheet` of form_spec
+// give of the text, and leaves theirs in the lent buffer, which beside a refusal is as it was found. `run` reads, calls it and writes.
 use item_spec::TOO_LONG;
 use libc::STDIN_FILENO;
 use libc::STDOUT_FILENO;
@@ -7,7 +8,17 @@ use read_lines::LONGEST;
 use words::ProgramWords;
 use words::TableWords;
 use write_texts::Written;
+ghost use mathlib.Core.Path.{_≡_};
+ghost use Prim.Native.Nat.{_≤_};
+ghost use lib.ListN.{length};
 ghost use Rattle.io.specs.Counts.{Counts};
+ghost use Rattle.words.specs.Words.{tablesIn, programIn};
+ghost use Rattle.read_sheet.specs.Form.{formRead};
+ghost use Rattle.form_cells.specs.Cells.{linesOf};
+ghost use Rattle.write_spec.specs.Texts.{sheetFault};
+ghost use Rattle.write_spec.specs.Buffer.{Penned};
+ghost use Rattle.form_spec.specs.Said.{said, formSaid, sheetSaid};
+ghost use Rattle.form_lib.specs.Drafts.{faultAt, saying, saidFor, textFor, Drafts};
 
 // What is written: a sheet from a form, or a form from a sheet.
 pub enum Draft {
@@ -21,14 +32,17 @@ struct Fault {
     line: usize,
 }
 
-// What was written, and what it was refused for.
-struct Drafted {
-    fault: Fault,
-    bytes: usize,
+// The same, and the bytes written.
+pub struct Drafted {
+    pub refused: u8,
+    pub line: usize,
+    pub bytes: usize,
 }
 
 // Of a text that is too long no line is at fault.
-fn fault_of(text: &[u8], refused: u8, place: usize) -> Fault {
+fn fault_of(text: &[u8], refused: u8, place: usize) -> Fault
+    ensures { λ r. ⌜ r ≡ faultAt refused place (now (text .entry)) ⌝ }
+{
     if refused <= TOO_LONG {
         return Fault { refused, line: 0 };
     }
@@ -36,35 +50,56 @@ fn fault_of(text: &[u8], refused: u8, place: usize) -> Fault {
     Fault { refused, line }
 }
 
-fn read_form(rows: &[u8], tables: &mut TableWords, program: &mut ProgramWords) -> Fault {
-    if LONGEST < rows.len() {
-        return fault_of(rows, TOO_LONG, 0);
-    }
-    let mut text = [0u8; 32769];
-    let used = form_cells::write_lines(rows, &mut text);
+// Rows by way of their lines, which have room in the lent text.
+fn read_rows(
+    rows: &[u8],
+    text: &mut [u8],
+    tables: &mut TableWords,
+    program: &mut ProgramWords,
+) -> Fault
+    requires { ⌜ length (now rows) ≤ length (now text) ⌝ }
+    ensures { λ r. ⌜ saying r (tablesIn (now (tables .exit)), programIn (now (program .exit)))
+        ≡ said (linesOf (now (rows .entry))) (formRead (linesOf (now (rows .entry)))) ⌝ }
+{
+    let used = form_cells::write_lines(rows, text);
     let read = read_sheet::fill_form(&text[..used], tables, program);
     fault_of(&text[..used], read.refused, read.place)
 }
 
-fn read_sheet(text: &[u8], tables: &mut TableWords, program: &mut ProgramWords) -> Fault {
+fn read_form(rows: &[u8], tables: &mut TableWords, program: &mut ProgramWords) -> Fault
+    ensures { λ r. ⌜ saying r (tablesIn (now (tables .exit)), programIn (now (program .exit))) ≡ formSaid (now (rows .entry)) ⌝ }
+{
+    if LONGEST < rows.len() {
+        words::tables::clear_tables(tables);
+        words::program::clear_program(program);
+        return Fault {
+            refused: TOO_LONG,
+            line: 0,
+        };
+    }
+    let mut text = [0u8; 32769];
+    read_rows(rows, &mut text, tables, program)
+}
+
+fn read_sheet(text: &[u8], tables: &mut TableWords, program: &mut ProgramWords) -> Fault
+    ensures { λ r. ⌜ saying r (tablesIn (now (tables .exit)), programIn (now (program .exit))) ≡ sheetSaid (now (text .entry)) ⌝ }
+{
     let read = read_sheet::fill_sheet(text, tables, program);
     fault_of(text, read.refused, read.place)
 }
 
-fn read_for(
-    draft: Draft,
-    text: &[u8],
-    tables: &mut TableWords,
-    program: &mut ProgramWords,
-) -> Fault {
+fn read_for(draft: Draft, text: &[u8], tables: &mut TableWords, program: &mut ProgramWords) -> Fault
+    ensures { λ r. ⌜ saying r (tablesIn (now (tables .exit)), programIn (now (program .exit))) ≡ saidFor draft (now (text .entry)) ⌝ }
+{
     match draft {
         Draft::Sheet => read_form(text, tables, program),
         Draft::Form => read_sheet(text, tables, program),
     }
 }
 
-fn write_draft(draft: Draft, tables: &TableWords, program: &ProgramWords, out: &mut [u8]) -> Written
-    ensures { λ r. ⌜ Counts (r .bytes) (now (out .exit)) ⌝ }
+fn write_for(draft: Draft, tables: &TableWords, program: &ProgramWords, out: &mut [u8]) -> Written
+    ensures { λ r. ⌜ Penned (sheetFault (tablesIn (now (tables .entry))) (programIn (now (program .entry))))
+        (textFor draft (tablesIn (now (tables .entry))) (programIn (now (program .entry)))) (now (out .entry)) (now (out .exit)) (r .refused) (r .bytes) ⌝ }
 {
     match draft {
         Draft::Sheet => write_texts::write_sheet(tables, program, out),
@@ -72,22 +107,25 @@ fn write_draft(draft: Draft, tables: &TableWords, program: &ProgramWords, out: &
     }
 }
 
-fn draft_of(draft: Draft, text: &[u8], out: &mut [u8]) -> Drafted
-    ensures { λ r. ⌜ Counts (r .bytes) (now (out .exit)) ⌝ }
+// The sheet of a form, or the form of a sheet, in the lent buffer.
+pub fn write_draft(draft: Draft, text: &[u8], out: &mut [u8]) -> Drafted
+    ensures { λ r. ⌜ Drafts draft (now (text .entry)) (now (out .entry)) r (now (out .exit)) ⌝ }
+    ensures counts { λ r. ⌜ Counts (r .bytes) (now (out .exit)) ⌝ }
 {
     let mut tables = [0u32; 2002];
     let mut program = [0u32; 1281];
     let fault = read_for(draft, text, &mut tables, &mut program);
     if fault.refused != 0 {
-        return Drafted { fault, bytes: 0 };
+        return Drafted {
+            refused: fault.refused,
+            line: fault.line,
+            bytes: 0,
+        };
     }
-    let written = write_draft(draft, &tables, &program, out);
-    let fault = Fault {
+    let written = write_for(draft, &tables, &program, out);
+    Drafted {
         refused: written.refused,
         line: 0,
-    };
-    Drafted {
-        fault,
         bytes: written.bytes,
     }
 }
@@ -102,13 +140,12 @@ pub fn run(draft: Draft, input: &[u8], refused_text: &[u8]) {
     }
     let n = read.size;
     let mut out = [0u8; 32768];
-    let drafted = draft_of(draft, &text[..n], &mut out);
+    let drafted = write_draft(draft, &text[..n], &mut out);
     let used = drafted.bytes;
     let done = io::write_all(STDOUT_FILENO, &out[..used]);
-    let fault = drafted.fault;
-    let refused = fault.refused != 0;
+    let refused = drafted.refused != 0;
     if refused {
-        program_io::say_fault(refused_text, fault.line, fault.refused);
+        program_io::say_fault(refused_text, drafted.line, drafted.refused);
     }
     if done & (1 < os::arg_count()) {
         program_io::tell_of(read.failed, refused);

@@ -1,0 +1,205 @@
+-- A line as a row of cells, and back; how rows are counted. `Row o x`: x is one line that opens with o, and the row of its cells stands for it.
+-- Assumes nothing.
+use Prim.Native.Nat.{ℕ, zero, suc, _+_, _<_, _≤_}
+use mathlib.Core.List.{List, [], _∷_, _++_, append-assoc, append-nil}
+use mathlib.Core.Bool.{Bool, true, false, not, _&&_, _||_, cond, true≢false, and-true}
+use mathlib.Core.Path.{_≡_, refl, sym, ap, ap₂, _∙_}
+use native.Mathlib.Omega.{arith}
+use lib.Dec.{eqb}
+use lib.ListN.{length}
+use Rattle.item_spec.specs.Reader.{byte, bytes}
+use Rattle.item_spec.specs.Read.{key}
+use Rattle.item_spec.specs.Write.{inTurn}
+use Rattle.item_spec.proofs.Tests.{by-test, and-left, and-right}
+use Rattle.read_sheet.specs.Form.{begins, linesWith}
+use Rattle.form_cells.specs.Cells.{gap, stands, firstAfter, commasAfter, linesFrom, cellByte, cellsOf}
+
+-- ---- a byte that stands for itself in a cell: no LF, CR, comma, `=`
+unfoldable pub plain : ℕ → Bool
+plain c = not (eqb c 10 || (eqb c 13 || (eqb c 44 || eqb c 61)))
+
+unfoldable pub plains : List ℕ → Bool
+plains [] = true
+plains (c ∷ s) = plain c && plains s
+
+pub plains-append : (xs ys : List ℕ) → plains xs ≡ true → plains ys ≡ true → plains (xs ++ ys) ≡ true
+unfolding plains
+plains-append [] ys p q = q
+plains-append (x ∷ xs) ys p q = rw (and-left (plain x) (plains xs) p) (plains-append xs ys (and-right (plain x) (plains xs) p) q)
+
+record None (a b c d : Bool) : Type 0 where
+  lf : a ≡ false
+  cr : b ≡ false
+  comma : c ≡ false
+  equals : d ≡ false
+
+nones : (a b c d : Bool) → not (a || (b || (c || d))) ≡ true → None a b c d
+nones true b c d h = absurd (true≢false (sym h))
+nones false true c d h = absurd (true≢false (sym h))
+nones false false true d h = absurd (true≢false (sym h))
+nones false false false true h = absurd (true≢false (sym h))
+nones false false false false h = record { lf = refl; cr = refl; comma = refl; equals = refl }
+
+plain-none : (c : ℕ) → plain c ≡ true → None (eqb c 10) (eqb c 13) (eqb c 44) (eqb c 61)
+unfolding plain
+plain-none c h = nones (eqb c 10) (eqb c 13) (eqb c 44) (eqb c 61) h
+
+-- ---- plain bytes in a row: as they are
+pub plain-cells : (xs : List ℕ) → plains xs ≡ true → cellsOf xs ≡ xs
+unfolding plains cellsOf
+plain-cells [] p = refl
+plain-cells (x ∷ xs) p =
+    let n = plain-none x (and-left (plain x) (plains xs) p) in
+    rw (n .equals) (ap (_∷_ x) (plain-cells xs (and-right (plain x) (plains xs) p)))
+
+plain-run : (f : Bool) (xs s : List ℕ) → plains xs ≡ true → linesFrom f 0 (xs ++ s) ≡ xs ++ linesFrom f 0 s
+unfolding plains linesFrom stands firstAfter commasAfter gap
+plain-run f [] s p = refl
+plain-run f (x ∷ xs) s p =
+    let n = plain-none x (and-left (plain x) (plains xs) p) in
+    rw (n .lf, n .cr, n .comma, and-true f) (ap (_∷_ x) (plain-run f xs s (and-right (plain x) (plains xs) p)))
+
+-- a cell's value
+pub record Cell (x : List ℕ) : Type 0 where
+  pub all-plain : plains x ≡ true
+  pub some : 0 < length x
+
+after-comma : (f : Bool) (xs s : List ℕ) → plains xs ≡ true → 0 < length xs → linesFrom f 1 (xs ++ s) ≡ cond f 61 44 ∷ (xs ++ linesFrom false 0 s)
+unfolding plains linesFrom stands firstAfter commasAfter gap
+after-comma f [] s p l = absurd (omega arith)
+after-comma f (x ∷ xs) s p l =
+    let n = plain-none x (and-left (plain x) (plains xs) p) in
+    rw (n .lf, n .cr, n .comma, none f) (ap (λ (ys : List ℕ). cond f 61 44 ∷ (x ∷ ys)) (plain-run false xs s (and-right (plain x) (plains xs) p)))
+  where
+    none : (f : Bool) → f && false ≡ false
+    none true = refl
+    none false = refl
+
+next-cell : (f : Bool) (x s : List ℕ) → Cell x → linesFrom f 0 (44 ∷ (x ++ s)) ≡ cond f 61 44 ∷ (x ++ linesFrom false 0 s)
+unfolding linesFrom stands firstAfter commasAfter
+next-cell f x s c = after-comma f x s (c .all-plain) (c .some)
+
+pub cells-append : (xs ys : List ℕ) → cellsOf (xs ++ ys) ≡ cellsOf xs ++ cellsOf ys
+unfolding cellsOf
+cells-append [] ys = refl
+cells-append (x ∷ xs) ys = ap (_∷_ (cellByte x)) (cells-append xs ys)
+
+-- ---- what comes after a value, to the line's end
+pub record Rest (y : List ℕ) : Type 0 where
+  pub cells : (s : List ℕ) → linesFrom false 0 (cellsOf y ++ s) ≡ y ++ linesFrom true 0 s
+  pub inside : (all : Bool) (k s : List ℕ) → linesWith all k false (y ++ s) ≡ linesWith all k true s
+
+plain-inside : (all : Bool) (k xs s : List ℕ) → plains xs ≡ true → linesWith all k false (xs ++ s) ≡ linesWith all k false s
+unfolding plains linesWith
+plain-inside all k [] s p = refl
+plain-inside all k (x ∷ xs) s p = rw (plain-none x (and-left (plain x) (plains xs) p) .lf) (plain-inside all k xs s (and-right (plain x) (plains xs) p))
+
+pub ends : Rest (bytes "\n")
+unfolding linesFrom stands firstAfter commasAfter cellsOf linesWith
+ends = record { cells = λ s. refl; inside = λ all k s. refl }
+
+cell-then : (c : Bool) (v y s : List ℕ) → Cell v → Rest y → linesFrom c 0 (44 ∷ (cellsOf (v ++ y) ++ s)) ≡ cond c 61 44 ∷ ((v ++ y) ++ linesFrom true 0 s)
+cell-then c v y s d r =
+    ap (λ (xs : List ℕ). linesFrom c 0 (44 ∷ (xs ++ s))) (cells-append v y ∙ ap (λ (xs : List ℕ). xs ++ cellsOf y) (plain-cells v (d .all-plain)))
+    ∙ ap (λ (xs : List ℕ). linesFrom c 0 (44 ∷ xs)) (append-assoc v (cellsOf y) s)
+    ∙ next-cell c v (cellsOf y ++ s) d
+    ∙ ap (λ (xs : List ℕ). cond c 61 44 ∷ (v ++ xs)) (r .cells s)
+    ∙ ap (λ (xs : List ℕ). cond c 61 44 ∷ xs) (sym (append-assoc v y (linesFrom true 0 s)))
+
+pub then-cell : (v y : List ℕ) → Cell v → Rest y → Rest (bytes "," ++ (v ++ y))
+unfolding cellsOf linesWith
+then-cell v y d r = record {
+  cells = λ s. cell-then false v y s d r;
+  inside = λ all k s. ap (linesWith all k false) (append-assoc v y s) ∙ plain-inside all k v (y ++ s) (d .all-plain) ∙ r .inside all k s;
+}
+
+-- ---- a line
+pub record Row (o x : List ℕ) : Type 0 where
+  pub cells : (s : List ℕ) → linesFrom true 0 (cellsOf x ++ s) ≡ x ++ linesFrom true 0 s
+  pub counts : (all : Bool) (k s : List ℕ) → linesWith all k true (x ++ s) ≡ cond (begins k (x ++ s)) (suc (linesWith all k true s)) (cond all (linesWith all k true s) 0)
+  pub rest : List ℕ
+  pub opens : x ≡ o ++ rest
+
+-- a key of which the first byte is h, `=`, a value and what comes after it
+module _ (h : ℕ) (k v y : List ℕ) (p : plains (h ∷ k) ≡ true) (d : Cell v) (r : Rest y) where
+  abbrev text : List ℕ
+  text = (h ∷ k) ++ (61 ∷ (v ++ y))
+
+  key-cells : (s : List ℕ) → linesFrom true 0 (cellsOf text ++ s) ≡ text ++ linesFrom true 0 s
+  unfolding cellsOf
+  key-cells s =
+      ap (λ (xs : List ℕ). linesFrom true 0 (xs ++ s)) (cells-append (h ∷ k) (61 ∷ (v ++ y)) ∙ ap (λ (xs : List ℕ). xs ++ (44 ∷ cellsOf (v ++ y))) (plain-cells (h ∷ k) p))
+      ∙ ap (linesFrom true 0) (append-assoc (h ∷ k) (44 ∷ cellsOf (v ++ y)) s)
+      ∙ plain-run true (h ∷ k) (44 ∷ (cellsOf (v ++ y) ++ s)) p
+      ∙ ap (λ (xs : List ℕ). (h ∷ k) ++ xs) (cell-then true v y s d r)
+      ∙ sym (append-assoc (h ∷ k) (61 ∷ (v ++ y)) (linesFrom true 0 s))
+
+  key-inside : (all : Bool) (j s : List ℕ) → linesWith all j false ((k ++ (61 ∷ (v ++ y))) ++ s) ≡ linesWith all j true s
+  unfolding linesWith plains
+  key-inside all j s =
+      ap (linesWith all j false) (append-assoc k (61 ∷ (v ++ y)) s)
+      ∙ plain-inside all j k (61 ∷ ((v ++ y) ++ s)) (and-right (plain h) (plains k) p)
+      ∙ ap (linesWith all j false) (append-assoc v y s)
+      ∙ plain-inside all j v (y ++ s) (d .all-plain)
+      ∙ r .inside all j s
+
+  key-counts : (all : Bool) (j s : List ℕ) → linesWith all j true (text ++ s) ≡ cond (begins j (text ++ s)) (suc (linesWith all j true s)) (cond all (linesWith all j true s) 0)
+  unfolding linesWith plains
+  key-counts all j s =
+      let n = plain-none h (and-left (plain h) (plains k) p) in
+      let q : linesWith all j (eqb h 10) ((k ++ (61 ∷ (v ++ y))) ++ s) ≡ linesWith all j true s = ap (λ (b : Bool). linesWith all j b ((k ++ (61 ∷ (v ++ y))) ++ s)) (n .lf) ∙ key-inside all j s in
+      ap (λ (i : ℕ). cond (begins j (text ++ s)) (suc i) (cond all i 0)) q
+
+  pub row : (x : List ℕ) → x ≡ text → Row ((h ∷ k) ++ (61 ∷ [])) x
+  row x e = record {
+    cells = λ s. rw e (key-cells s);
+    counts = λ all j s. rw e (key-counts all j s);
+    rest = v ++ y;
+    opens = e ∙ sym (append-assoc (h ∷ k) (61 ∷ []) (v ++ y));
+  }
+
+-- ---- whether a line is counted
+module _ {o x : List ℕ} (r : Row o x) (k s : List ℕ) where
+  opened : begins k (x ++ s) ≡ begins k (o ++ (r .rest ++ s))
+  opened = ap (λ (l : List ℕ). begins k (l ++ s)) (r .opens) ∙ ap (begins k) (append-assoc o (r .rest) s)
+
+  pub row-yes : (all : Bool) → ((z : List ℕ) → begins k (o ++ z) ≡ true) → linesWith all k true (x ++ s) ≡ suc (linesWith all k true s)
+  row-yes all f = r .counts all k s ∙ ap (λ (b : Bool). cond b (suc (linesWith all k true s)) (cond all (linesWith all k true s) 0)) (opened ∙ f (r .rest ++ s))
+
+  pub row-no : (all : Bool) → ((z : List ℕ) → begins k (o ++ z) ≡ false) → linesWith all k true (x ++ s) ≡ cond all (linesWith all k true s) 0
+  row-no all f = r .counts all k s ∙ ap (λ (b : Bool). cond b (suc (linesWith all k true s)) (cond all (linesWith all k true s) 0)) (opened ∙ f (r .rest ++ s))
+
+-- ---- lines in turn, all of one opening
+module _ (f : ℕ → List ℕ) (o : List ℕ) where
+  abbrev pub Below : ℕ → Type 0
+  Below n = (i : ℕ) → i < n → Row o (f i)
+
+  pub turn-cells : (n : ℕ) → Below n → (s : List ℕ) → linesFrom true 0 (cellsOf (inTurn f n) ++ s) ≡ inTurn f n ++ linesFrom true 0 s
+  unfolding inTurn cellsOf
+  turn-cells zero r s = refl
+  turn-cells (suc n) r s =
+      ap (λ (xs : List ℕ). linesFrom true 0 (xs ++ s)) (cells-append (inTurn f n) (f n))
+      ∙ ap (linesFrom true 0) (append-assoc (cellsOf (inTurn f n)) (cellsOf (f n)) s)
+      ∙ turn-cells n (λ i l. r i (omega arith)) (cellsOf (f n) ++ s)
+      ∙ ap (λ (xs : List ℕ). inTurn f n ++ xs) (r n (omega arith) .cells s)
+      ∙ sym (append-assoc (inTurn f n) (f n) (linesFrom true 0 s))
+
+  module _ (k : List ℕ) where
+    pub turn-yes : (all : Bool) → ((z : List ℕ) → begins k (o ++ z) ≡ true) → (n : ℕ) → Below n → (s : List ℕ) → linesWith all k true (inTurn f n ++ s) ≡ n + linesWith all k true s
+    unfolding inTurn
+    turn-yes all g zero r s = omega arith
+    turn-yes all g (suc n) r s =
+        let q = ap (linesWith all k true) (append-assoc (inTurn f n) (f n) s) ∙ turn-yes all g n (λ i l. r i (omega arith)) (f n ++ s) in
+        q ∙ omega (arith, row-yes (r n (omega arith)) k s all g)
+
+    pub turn-no : ((z : List ℕ) → begins k (o ++ z) ≡ false) → (n : ℕ) → Below n → (s : List ℕ) → linesWith true k true (inTurn f n ++ s) ≡ linesWith true k true s
+    unfolding inTurn
+    turn-no g zero r s = refl
+    turn-no g (suc n) r s =
+        ap (linesWith true k true) (append-assoc (inTurn f n) (f n) s) ∙ turn-no g n (λ i l. r i (omega arith)) (f n ++ s) ∙ row-no (r n (omega arith)) k s true g
+
+    pub turn-stop : ((z : List ℕ) → begins k (o ++ z) ≡ false) → (n : ℕ) → Below n → (s : List ℕ) → linesWith false k true s ≡ 0 → linesWith false k true (inTurn f n ++ s) ≡ 0
+    unfolding inTurn
+    turn-stop g zero r s e = e
+    turn-stop g (suc n) r s e =
+        ap (linesWith false k true) (append-assoc (inTurn f n) (f n) s) ∙ turn-stop g n (λ i l. r i (omega arith)) (f n ++ s) (row-no (r n (omega arith)) k s false g)
