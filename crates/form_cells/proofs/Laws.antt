@@ -79,7 +79,7 @@ unfolding unmarked
 not-marked s e = ap (λ (x : Reply (Unit {0})). elim x [ got u r ↦ r | refused n ↦ s ]) e
 
 -- ---- lines as cells
-cells-append : (xs ys : List ℕ) → cellsOf (xs ++ ys) ≡ cellsOf xs ++ cellsOf ys
+pub cells-append : (xs ys : List ℕ) → cellsOf (xs ++ ys) ≡ cellsOf xs ++ cellsOf ys
 unfolding cellsOf
 cells-append [] ys = refl
 cells-append (x ∷ xs) ys = ap (_∷_ (cellByte x)) (cells-append xs ys)

@@ -1,13 +1,13 @@
 -- Lines are no longer than their rows; what was read, then written, is the draft.
 -- Assumes nothing.
 use Prim.Native.Nat.{ℕ, zero, suc, _+_, _≤_, _<_}
-use mathlib.Core.List.{List, [], _∷_, _++_}
-use mathlib.Core.Bool.{Bool, true, false, _||_, cond}
+use mathlib.Core.List.{List, [], _∷_}
+use mathlib.Core.Bool.{Bool, true}
 use mathlib.Core.Path.{_≡_, refl, sym, ap, _∙_}
 use mathlib.Core.Logic.{_≢_}
 use native.Mathlib.Omega.{arith}
-use lib.Dec.{eqb, leb}
-use lib.ListN.{length, take, drop, replicate, length-append, length-replicate}
+use lib.Dec.{eqb}
+use lib.ListN.{length, take, drop, length-append, length-replicate}
 use lib.Seq.{take-at}
 use borrow.Author.Tests.{eq-eqb, ne-eqb, eqb-true, eqb-false, le-leb, lt-leb}
 use Rattle.item_spec.specs.Reader.{Reply, got, refused}
@@ -16,7 +16,6 @@ use Rattle.item_spec.proofs.Tests.{by-test}
 use Rattle.model.specs.declared.Tables.{Tables}
 use Rattle.model.specs.declared.Program.{Program}
 use Rattle.model.specs.Empty.{noTables, noProgram}
-use Rattle.read_spec.specs.Limits.{lengthOk}
 use Rattle.read_spec.specs.Place.{lineNumber}
 use Rattle.read_chain.specs.Whole.{Whole, beside}
 use Rattle.read_chain.specs.declared.Place.{Place}
@@ -26,14 +25,13 @@ use Rattle.write_items.specs.Written.{Written}
 use Rattle.write_items.proofs.Laws.{fits-all}
 use Rattle.form_cells.specs.Cells.{gap, stands, firstAfter, commasAfter, linesFrom, unmarked, linesOf}
 use Rattle.write_spec.specs.Texts.{sheetFault}
-use Rattle.write_spec.specs.Buffer.{writeNumber, penned, Penned}
-use Rattle.form_spec.specs.Said.{Said, lineOf, said, formSaid, sheetSaid}
-use Rattle.form_spec.specs.Drafts.{Drafting, drafting, sheetOfForm, formOfSheet}
+use Rattle.write_spec.specs.Buffer.{Penned}
+use Rattle.form_spec.specs.Said.{Said, lineOf, said, formSaid}
+use Rattle.form_spec.specs.Drafts.{drafting, sheetOfForm, formOfSheet}
 use Rattle.form_lib.specs.declared.Draft.{Draft}
 use Rattle.form_lib.specs.declared.Draft.the-variants.{Sheet, Form}
-use Rattle.form_lib.specs.declared.Drafted.{Drafted}
 use Rattle.form_lib.specs.declared.Fault.{Fault}
-use Rattle.form_lib.specs.Drafts.{faultAt, saying, saidFor, textFor, draftingFor, answering, Drafts}
+use Rattle.form_lib.specs.Drafts.{faultAt, saying, saidFor, textFor, draftingFor, Drafts}
 
 -- ---- no byte stands for more than it and the commas that wait
 gap-long : (f : Bool) (n : ℕ) → length (gap f n) ≡ n

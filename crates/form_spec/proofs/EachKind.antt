@@ -1,11 +1,11 @@
 -- Each kind of line that is read is a row: its numbers and lists are cells.
 -- Assumes nothing.
-use Prim.Native.Nat.{ℕ, zero, suc, _+_, _/_, _%_, _<_, _≤_}
+use Prim.Native.Nat.{ℕ, zero, suc, _+_, _/_, _%_, _<_}
 use mathlib.Core.List.{List, [], _∷_, _++_, append-assoc}
-use mathlib.Core.Bool.{Bool, true, false, cond}
-use mathlib.Core.Path.{_≡_, refl, ap, _∙_}
+use mathlib.Core.Bool.{true}
+use mathlib.Core.Path.{_≡_, refl, ap}
 use native.Mathlib.Omega.{arith}
-use lib.Dec.{eqb, ltb, leb}
+use lib.Dec.{eqb, ltb}
 use lib.ListN.{length, length-append}
 use borrow.Author.Tests.{ne-eqb, eqb-false, ltb-true, lt-leb}
 use Rattle.item_spec.specs.Reader.{byte, bytes}
@@ -14,7 +14,7 @@ use Rattle.item_spec.proofs.Tests.{by-test}
 use Rattle.model.specs.declared.Instruction.{Instruction}
 use Rattle.model.specs.Verb.{addVerb, delVerb, pushbVerb, conVerb, dconVerb, waitVerb}
 use Rattle.report_spec.specs.Report.{countText}
-use Rattle.write_spec.specs.Kinds.{setText, setsText, initialText, tranText, behaviorText, portLineText, portFault, doText, doFault}
+use Rattle.write_spec.specs.Kinds.{setsText, initialText, tranText, behaviorText, portLineText, portFault, doText, doFault}
 use Rattle.form_spec.proofs.Rows.{plain, plains, plains-append, Cell, Rest, ends, then-cell, Row, row}
 
 -- ---- numbers and lists

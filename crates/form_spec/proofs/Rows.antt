@@ -1,18 +1,18 @@
 -- A line as a row of cells, and back; how rows are counted. `Row o x`: x is one line that opens with o, and the row of its cells stands for it.
 -- Assumes nothing.
-use Prim.Native.Nat.{ℕ, zero, suc, _+_, _<_, _≤_}
-use mathlib.Core.List.{List, [], _∷_, _++_, append-assoc, append-nil}
+use Prim.Native.Nat.{ℕ, zero, suc, _+_, _<_}
+use mathlib.Core.List.{List, [], _∷_, _++_, append-assoc}
 use mathlib.Core.Bool.{Bool, true, false, not, _&&_, _||_, cond, true≢false, and-true}
-use mathlib.Core.Path.{_≡_, refl, sym, ap, ap₂, _∙_}
+use mathlib.Core.Path.{_≡_, refl, sym, ap, _∙_}
 use native.Mathlib.Omega.{arith}
 use lib.Dec.{eqb}
 use lib.ListN.{length}
-use Rattle.item_spec.specs.Reader.{byte, bytes}
-use Rattle.item_spec.specs.Read.{key}
+use Rattle.item_spec.specs.Reader.{bytes}
 use Rattle.item_spec.specs.Write.{inTurn}
-use Rattle.item_spec.proofs.Tests.{by-test, and-left, and-right}
+use Rattle.item_spec.proofs.Tests.{and-left, and-right}
 use Rattle.read_sheet.specs.Form.{begins, linesWith}
-use Rattle.form_cells.specs.Cells.{gap, stands, firstAfter, commasAfter, linesFrom, cellByte, cellsOf}
+use Rattle.form_cells.specs.Cells.{gap, stands, firstAfter, commasAfter, linesFrom, cellsOf}
+use Rattle.form_cells.proofs.Laws.{cells-append}
 
 -- ---- a byte that stands for itself in a cell: no LF, CR, comma, `=`
 unfoldable pub plain : ℕ → Bool
@@ -78,11 +78,6 @@ after-comma f (x ∷ xs) s p l =
 next-cell : (f : Bool) (x s : List ℕ) → Cell x → linesFrom f 0 (44 ∷ (x ++ s)) ≡ cond f 61 44 ∷ (x ++ linesFrom false 0 s)
 unfolding linesFrom stands firstAfter commasAfter
 next-cell f x s c = after-comma f x s (c .all-plain) (c .some)
-
-pub cells-append : (xs ys : List ℕ) → cellsOf (xs ++ ys) ≡ cellsOf xs ++ cellsOf ys
-unfolding cellsOf
-cells-append [] ys = refl
-cells-append (x ∷ xs) ys = ap (_∷_ (cellByte x)) (cells-append xs ys)
 
 -- ---- what comes after a value, to the line's end
 pub record Rest (y : List ℕ) : Type 0 where
@@ -169,37 +164,47 @@ module _ {o x : List ℕ} (r : Row o x) (k s : List ℕ) where
   pub row-no : (all : Bool) → ((z : List ℕ) → begins k (o ++ z) ≡ false) → linesWith all k true (x ++ s) ≡ cond all (linesWith all k true s) 0
   row-no all f = r .counts all k s ∙ ap (λ (b : Bool). cond b (suc (linesWith all k true s)) (cond all (linesWith all k true s) 0)) (opened ∙ f (r .rest ++ s))
 
--- ---- lines in turn, all of one opening
-module _ (f : ℕ → List ℕ) (o : List ℕ) where
-  abbrev pub Below : ℕ → Type 0
-  Below n = (i : ℕ) → i < n → Row o (f i)
+-- ---- lines in turn
+abbrev pub Cells : List ℕ → Type 0
+Cells x = (s : List ℕ) → linesFrom true 0 (cellsOf x ++ s) ≡ x ++ linesFrom true 0 s
 
-  pub turn-cells : (n : ℕ) → Below n → (s : List ℕ) → linesFrom true 0 (cellsOf (inTurn f n) ++ s) ≡ inTurn f n ++ linesFrom true 0 s
+pub cells-both : (x y : List ℕ) → Cells x → Cells y → Cells (x ++ y)
+cells-both x y a b s =
+    ap (λ (xs : List ℕ). linesFrom true 0 (xs ++ s)) (cells-append x y)
+    ∙ ap (linesFrom true 0) (append-assoc (cellsOf x) (cellsOf y) s)
+    ∙ a (cellsOf y ++ s)
+    ∙ ap (λ (xs : List ℕ). x ++ xs) (b s)
+    ∙ sym (append-assoc x y (linesFrom true 0 s))
+
+module _ (f : ℕ → List ℕ) where
+  pub turn-cells : (n : ℕ) → ((i : ℕ) → i < n → Cells (f i)) → Cells (inTurn f n)
   unfolding inTurn cellsOf
   turn-cells zero r s = refl
-  turn-cells (suc n) r s =
-      ap (λ (xs : List ℕ). linesFrom true 0 (xs ++ s)) (cells-append (inTurn f n) (f n))
-      ∙ ap (linesFrom true 0) (append-assoc (cellsOf (inTurn f n)) (cellsOf (f n)) s)
-      ∙ turn-cells n (λ i l. r i (omega arith)) (cellsOf (f n) ++ s)
-      ∙ ap (λ (xs : List ℕ). inTurn f n ++ xs) (r n (omega arith) .cells s)
-      ∙ sym (append-assoc (inTurn f n) (f n) (linesFrom true 0 s))
+  turn-cells (suc n) r s = cells-both (inTurn f n) (f n) (turn-cells n (λ i l. r i (omega arith))) (r n (omega arith)) s
 
-  module _ (k : List ℕ) where
-    pub turn-yes : (all : Bool) → ((z : List ℕ) → begins k (o ++ z) ≡ true) → (n : ℕ) → Below n → (s : List ℕ) → linesWith all k true (inTurn f n ++ s) ≡ n + linesWith all k true s
-    unfolding inTurn
-    turn-yes all g zero r s = omega arith
-    turn-yes all g (suc n) r s =
-        let q = ap (linesWith all k true) (append-assoc (inTurn f n) (f n) s) ∙ turn-yes all g n (λ i l. r i (omega arith)) (f n ++ s) in
-        q ∙ omega (arith, row-yes (r n (omega arith)) k s all g)
+  -- each of them has one line that is counted
+  pub turn-counted : (all : Bool) (k : List ℕ) (n : ℕ) → ((i : ℕ) → i < n → (s : List ℕ) → linesWith all k true (f i ++ s) ≡ suc (linesWith all k true s))
+      → (s : List ℕ) → linesWith all k true (inTurn f n ++ s) ≡ n + linesWith all k true s
+  unfolding inTurn
+  turn-counted all k zero r s = omega arith
+  turn-counted all k (suc n) r s =
+      let q = ap (linesWith all k true) (append-assoc (inTurn f n) (f n) s) ∙ turn-counted all k n (λ i l. r i (omega arith)) (f n ++ s) in
+      q ∙ omega (arith, r n (omega arith) s)
 
-    pub turn-no : ((z : List ℕ) → begins k (o ++ z) ≡ false) → (n : ℕ) → Below n → (s : List ℕ) → linesWith true k true (inTurn f n ++ s) ≡ linesWith true k true s
-    unfolding inTurn
-    turn-no g zero r s = refl
-    turn-no g (suc n) r s =
-        ap (linesWith true k true) (append-assoc (inTurn f n) (f n) s) ∙ turn-no g n (λ i l. r i (omega arith)) (f n ++ s) ∙ row-no (r n (omega arith)) k s true g
+-- all of one opening
+module _ (f : ℕ → List ℕ) (o k : List ℕ) where
+  pub turn-yes : (all : Bool) → ((z : List ℕ) → begins k (o ++ z) ≡ true) → (n : ℕ) → ((i : ℕ) → i < n → Row o (f i)) → (s : List ℕ) → linesWith all k true (inTurn f n ++ s) ≡ n + linesWith all k true s
+  turn-yes all g n r = turn-counted f all k n (λ i l s. row-yes (r i l) k s all g)
 
-    pub turn-stop : ((z : List ℕ) → begins k (o ++ z) ≡ false) → (n : ℕ) → Below n → (s : List ℕ) → linesWith false k true s ≡ 0 → linesWith false k true (inTurn f n ++ s) ≡ 0
+  module _ (g : (z : List ℕ) → begins k (o ++ z) ≡ false) where
+    pub turn-no : (n : ℕ) → ((i : ℕ) → i < n → Row o (f i)) → (s : List ℕ) → linesWith true k true (inTurn f n ++ s) ≡ linesWith true k true s
     unfolding inTurn
-    turn-stop g zero r s e = e
-    turn-stop g (suc n) r s e =
-        ap (linesWith false k true) (append-assoc (inTurn f n) (f n) s) ∙ turn-stop g n (λ i l. r i (omega arith)) (f n ++ s) (row-no (r n (omega arith)) k s false g)
+    turn-no zero r s = refl
+    turn-no (suc n) r s =
+        ap (linesWith true k true) (append-assoc (inTurn f n) (f n) s) ∙ turn-no n (λ i l. r i (omega arith)) (f n ++ s) ∙ row-no (r n (omega arith)) k s true g
+
+    pub turn-stop : (n : ℕ) → ((i : ℕ) → i < n → Row o (f i)) → (s : List ℕ) → linesWith false k true s ≡ 0 → linesWith false k true (inTurn f n ++ s) ≡ 0
+    unfolding inTurn
+    turn-stop zero r s e = e
+    turn-stop (suc n) r s e =
+        ap (linesWith false k true) (append-assoc (inTurn f n) (f n) s) ∙ turn-stop n (λ i l. r i (omega arith)) (f n ++ s) (row-no (r n (omega arith)) k s false g)

@@ -69,17 +69,17 @@ rows-then : {X Y : Type 0} (r : Rows) (c : Known) (h : Y → Tables) (part : ℕ
 rows-then r c h part same n j y s on = ap (λ (x : Run Tables). runOn x on) (each-seen h part (row r c) same n j y s) ∙ next-next (each part n j y s) _ _
 
 module _ (n m k i : ℕ) {X : Type 0} (t : Tables) (s : List ℕ) (on : Tables → Lines X) where
-  transitions-then : runOn (each (row rows.Transitions (knownOf n m k)) k (i * 32) t s) on ≡ runOn (each (tranAt n) k (i * 32) (t .transitions) s) (λ xs. on (ends t xs))
+  pub transitions-then : runOn (each (row rows.Transitions (knownOf n m k)) k (i * 32) t s) on ≡ runOn (each (tranAt n) k (i * 32) (t .transitions) s) (λ xs. on (ends t xs))
   unfolding tranAt row rowLine withTransition
   transitions-then =
       rows-then rows.Transitions (knownOf n m k) (ends t) (tranAt n) (λ j xs q. row-made (tranLine n q) q _ _ _ _ (λ a. refl)) k (i * 32) (t .transitions) s on
 
-  behaviors-then : (b : ℕ) → runOn (each (row rows.Behaviors (knownOf n m k)) b (i * 8) t s) on ≡ runOn (each (behaviorAt k) b (i * 8) (t .behaviors) s) (λ bs. on (sets t bs))
+  pub behaviors-then : (b : ℕ) → runOn (each (row rows.Behaviors (knownOf n m k)) b (i * 8) t s) on ≡ runOn (each (behaviorAt k) b (i * 8) (t .behaviors) s) (λ bs. on (sets t bs))
   unfolding behaviorAt row rowLine
   behaviors-then b =
       rows-then rows.Behaviors (knownOf n m k) (sets t) (behaviorAt k) (λ j bs q. row-made (behaviorLine k q) q _ _ _ _ (λ a. refl)) b (i * 8) (t .behaviors) s on
 
-  ports-then : (p : ℕ) → runOn (each (row rows.Ports (knownOf n m k)) p (i * 16) t s) on ≡ runOn (each (portAt n k m) p (i * 16) (t .ports) s) (λ qs. on (groups t qs))
+  pub ports-then : (p : ℕ) → runOn (each (row rows.Ports (knownOf n m k)) p (i * 16) t s) on ≡ runOn (each (portAt n k m) p (i * 16) (t .ports) s) (λ qs. on (groups t qs))
   unfolding portAt row rowLine withPort
   ports-then p =
       rows-then rows.Ports (knownOf n m k) (groups t) (portAt n k m) (λ j qs q. row-made (portLine n k m q) q _ _ _ _ (λ a. refl)) p (i * 16) (t .ports) s on

@@ -86,7 +86,7 @@ module _ (t : Tables) (p : Program) (held : Held t p) where
   gates n = rowSaid n 16 (λ i. typeOf t i .ports)
 
   -- the tables of which the first n types are said
-  abbrev tablesTo : ℕ → Tables
+  abbrev pub tablesTo : ℕ → Tables
   tablesTo n = record {
     depth = t .depth;
     count = t .count;
@@ -106,7 +106,7 @@ module _ (t : Tables) (p : Program) (held : Held t p) where
     abbrev transitions : ℕ
     transitions = typeOf t i .transitions
 
-    tran-rows : Says (each (tranAt places) transitions (i * 32) (transitionsOf (trans i)))
+    pub tran-rows : Says (each (tranAt places) transitions (i * 32) (transitionsOf (trans i)))
         (inTurn (λ x. tranText (transitionRow t (i * 32 + x))) transitions) (firstOf (λ x. tranFault places (transitionRow t (i * 32 + x))) transitions) (transitionsOf (trans (suc i)))
     unfolding anyBelow
     tran-rows =
@@ -115,14 +115,14 @@ module _ (t : Tables) (p : Program) (held : Held t p) where
         (λ j l h. tran-turn (trans i) (i * 32) places j (at-row (λ j. Digits (transitionRow t j .0) × Digits (transitionRow t j .1)) (i * 32) transitions j (λ x b. held .transition i x here b) l h) l) transitions (transitionsOf (trans i))
         (ap₂ (λ (a b : List ℕ). record { source = a; destination = b }) (column-same 512 0 _ _ _ f) (column-same 512 0 _ _ _ f)) refl
 
-    behavior-rows : transitions ≤ 32 → Says (each (behaviorAt transitions) (typeOf t i .behaviors) (i * 8) (behaviorsOf (behaves i)))
+    pub behavior-rows : transitions ≤ 32 → Says (each (behaviorAt transitions) (typeOf t i .behaviors) (i * 8) (behaviorsOf (behaves i)))
         (inTurn (λ x. behaviorText (behaviorRow t (i * 8 + x))) (typeOf t i .behaviors)) (firstOf (λ x. behaviorFault transitions (behaviorRow t (i * 8 + x))) (typeOf t i .behaviors)) (behaviorsOf (behaves (suc i)))
     unfolding anyBelow
     behavior-rows h =
         says-rows (behaviorAt transitions) (λ j. behaviorText (behaviorRow t j)) (λ j. behaviorFault transitions (behaviorRow t j)) (λ j. behaviorsOf (upTo (behaves i) (i * 8) j)) (i * 8) (i * 8 + typeOf t i .behaviors)
         (λ j l b. behavior-turn (behaves i) (i * 8) transitions j (at-row (λ j. Mask (behaviorRow t j)) (i * 8) (typeOf t i .behaviors) j (λ x b. held .behavior i x here b) l b) h l) (typeOf t i .behaviors) (behaviorsOf (behaves i)) (column-same 128 0 _ _ _ (to-none (behaves i) (i * 8))) refl
 
-    port-rows : places ≤ 32 → transitions ≤ 32 → Says (each (portAt places transitions initial) (typeOf t i .ports) (i * 16) (portsOf (gates i)))
+    pub port-rows : places ≤ 32 → transitions ≤ 32 → Says (each (portAt places transitions initial) (typeOf t i .ports) (i * 16) (portsOf (gates i)))
         (inTurn (λ x. portLineText (portRow t (i * 16 + x))) (typeOf t i .ports)) (firstOf (λ x. portFault places transitions initial (portRow t (i * 16 + x))) (typeOf t i .ports)) (portsOf (gates (suc i)))
     unfolding anyBelow
     port-rows hn hk =
@@ -133,7 +133,7 @@ module _ (t : Tables) (p : Program) (held : Held t p) where
         same f = rw (column-same 256 0 (λ r. getD (t .ports .uses) r 0) _ _ f, column-same 256 0 (λ r. getD (t .ports .places) r 0) _ _ f, column-same 256 0 (λ r. getD (t .ports .transitions) r 0) _ _ f)
 
     -- ---- type i
-    sixteen : {n : ℕ} → limitFault (leb 1 n && leb n 16) ≡ 0 → n ≤ 32
+    pub sixteen : {n : ℕ} → limitFault (leb 1 n && leb n 16) ≡ 0 → n ≤ 32
     sixteen {n} e = omega (arith, leb-true n 16 (and-right (leb 1 n) (leb n 16) (limit-met _ e)))
 
     type-says : i < 16 → Says (typeLines i (tablesTo i)) (typeText t i) (typeFault t i) (tablesTo (suc i))
@@ -152,7 +152,7 @@ module _ (t : Tables) (p : Program) (held : Held t p) where
         (column-set 16 noType (typeOf t) _ _ i (up-next i))) (port-rows (sixteen a) few)
 
   -- ---- the sheet
-  head-is : headed (t .depth) (t .count) ≡ tablesTo 0
+  pub head-is : headed (t .depth) (t .count) ≡ tablesTo 0
   unfolding headed noTables anyBelow
   head-is =
       rw (
@@ -178,7 +178,7 @@ module _ (t : Tables) (p : Program) (held : Held t p) where
       says-map (doLine n) _ (ap (λ (xs : List Instruction). record { instructions = xs; count = p .count }) (column-set 256 noInstruction (λ r. spoken (instructionRow p r)) _ _ j (up-next j)))
       (says-do n (instructionRow p j) (held .instruction j h))
 
-  program-says : (n : ℕ) → Says (each (instructionAt n) (p .count) 0 (programOf (p .count))) (inTurn (λ j. doText (instructionRow p j)) (p .count)) (firstOf (λ j. doFault n (instructionRow p j)) (p .count)) (clearedProgram p)
+  pub program-says : (n : ℕ) → Says (each (instructionAt n) (p .count) 0 (programOf (p .count))) (inTurn (λ j. doText (instructionRow p j)) (p .count)) (firstOf (λ j. doFault n (instructionRow p j)) (p .count)) (clearedProgram p)
   unfolding clearedProgram programOf noProgram
   program-says n =
       says-all (instructionAt n) (λ j. doText (instructionRow p j)) (λ j. doFault n (instructionRow p j)) programTo (p .count) (λ j h. do-turn n j h) (programOf (p .count))
