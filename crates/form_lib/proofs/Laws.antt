@@ -26,7 +26,7 @@ use Rattle.write_items.proofs.Laws.{fits-all}
 use Rattle.form_cells.specs.Cells.{gap, stands, firstAfter, commasAfter, linesFrom, unmarked, linesOf}
 use Rattle.write_spec.specs.Texts.{sheetFault}
 use Rattle.write_spec.specs.Buffer.{Penned}
-use Rattle.form_spec.specs.Said.{Said, lineOf, said, formSaid}
+use Rattle.form_spec.specs.Said.{Said, lineAtFault, said, formSaid}
 use Rattle.form_spec.specs.Drafts.{drafting, sheetOfForm, formOfSheet}
 use Rattle.form_lib.specs.declared.Draft.{Draft}
 use Rattle.form_lib.specs.declared.Draft.the-variants.{Sheet, Form}
@@ -76,12 +76,12 @@ lines-are s old new n w l =
 -- ---- the line at fault
 module _ (n at : ℕ) (s : List ℕ) where
   pub fault-none : n ≤ 1 → record { refused = n; line = 0 } ≡ faultAt n at s
-  unfolding lineOf faultLine
+  unfolding lineAtFault faultLine
   fault-none l =
       by-test (eqb n 0) (λ e. rw e) (λ e. let q : n ≡ 1 = omega (arith, eqb-false n 0 e) in rw q)
 
   pub fault-some : 1 < n → (line : ℕ) → line ≡ lineNumber s at → record { refused = n; line = line } ≡ faultAt n at s
-  unfolding lineOf faultLine
+  unfolding lineAtFault faultLine
   fault-some l line e = rw (ne-eqb n 0 (λ q. omega (arith, q)), ne-eqb n 1 (λ q. omega (arith, q)), faultLine, e)
 
 -- a fault told of the lines s, which were read by m

@@ -8,7 +8,7 @@ use Rattle.model.specs.declared.Program.{Program}
 use Rattle.judge_spec.specs.Judged.{over}
 use Rattle.write_spec.specs.Texts.{sheetText}
 use Rattle.write_texts.specs.Form.{formText}
-use Rattle.form_spec.specs.Said.{Said, lineOf, formSaid, sheetSaid}
+use Rattle.form_spec.specs.Said.{Said, lineAtFault, formSaid, sheetSaid}
 use Rattle.form_spec.specs.Drafts.{Drafting, sheetOfForm, formOfSheet}
 use Rattle.form_lib.specs.declared.Draft.{Draft}
 use Rattle.form_lib.specs.declared.Draft.the-variants.{Sheet, Form}
@@ -17,7 +17,7 @@ use Rattle.form_lib.specs.declared.Drafted.{Drafted}
 
 -- the number n at a place of the lines s
 abbrev pub faultAt : ℕ → ℕ → List ℕ → Fault
-faultAt n at s = record { refused = n; line = lineOf n at s }
+faultAt n at s = record { refused = n; line = lineAtFault n at s }
 
 -- what r says beside the tables and the program
 abbrev pub saying : Fault → Tables × Program → Said

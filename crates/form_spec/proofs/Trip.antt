@@ -24,7 +24,7 @@ use Rattle.write_spec.specs.Cleared.{cleared, clearedProgram}
 use Rattle.write_spec.specs.Round.{aSheet, RoundTrips, SheetsRoundTrip}
 use Rattle.write_spec.proofs.Trips.{sheets-round-trip}
 use Rattle.write_texts.specs.Form.{formLines, formText}
-use Rattle.form_spec.specs.Said.{said, lineOf, formSaid, sheetSaid}
+use Rattle.form_spec.specs.Said.{said, lineAtFault, formSaid, sheetSaid}
 use Rattle.form_spec.specs.Drafts.{writing, sheetOfForm, formOfSheet}
 use Rattle.form_spec.specs.Round.{FormsGiveTheirSheets, FormsAreShorter}
 use Rattle.form_spec.proofs.WholeForm.{faultless, lines-back, form-read}
@@ -48,7 +48,7 @@ record SheetRead (s : List ℕ) : Type 0 where
   read : ReadAs s tables program
 
 read-as : (s : List ℕ) → sheetSaid s .refused ≡ 0 → SheetRead s
-unfolding sheetSaid whole lineOf
+unfolding sheetSaid whole lineAtFault
 read-as s z = by-test (lengthOk (length s)) (λ l. lines l (sheet s) refl) (λ l. absurd (let q : _≡_ {A = ℕ} 1 0 = rw (l, whole) at z in omega arith))
   where
     lines : lengthOk (length s) ≡ true → (m : Run (Tables × Program)) → sheet s ≡ m → SheetRead s
@@ -87,7 +87,7 @@ module _ (s : List ℕ) (t : Tables) (p : Program) (h : ReadAs s t p) where
   lines-short = omega (arith, cells-length (formLines t p), shorter, h .short)
 
   lines-said : said (formLines t p) (formRead (formLines t p)) ≡ record { refused = 0; line = 0; value = (t, p) }
-  unfolding whole lineOf
+  unfolding whole lineAtFault
   lines-said =
       rw (le-leb (length (formLines t p)) 32768 lines-short, whole, form-read t p (faultless t p (h .none)) (trips .faultless-is-writable (t, p) (h .none)), h .back)
 
