@@ -108,4 +108,4 @@ walk-timed-spec =
     (tie.spec
     Inv-loop μ-loop (λ c κs. search needs) (λ c κs. search needs) loop-holds (λ c κs. search needs) (λ c κs. search needs)
     (λ c κs. search needs) (λ c κs. search needs) (λ c κs. search needs) returns (λ c κs. search needs) (λ c κs. search needs)
-    (λ c. search needs) tick-requires (λ c. search needs) (λ c. omega arith) loop-again returns-2)
+    (λ c. search needs) tick-requires (λ c. search needs) (λ c. omega arith) loop-again (λ c κs. search needs) returns-2)
