@@ -5,5 +5,6 @@ pub mod EachKind
 pub mod TypeForm
 pub mod WholeForm
 pub mod Shorter
+pub mod LawfulForm
 pub mod Trip
 pub mod RowNumbers

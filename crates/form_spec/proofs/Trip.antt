@@ -1,6 +1,6 @@
 -- The form of a sheet gives that very sheet.
 -- Assumes nothing.
-use Prim.Native.Nat.{ℕ, _≤_, _<_}
+use Prim.Native.Nat.{ℕ, _-_, _≤_, _<_}
 use mathlib.Core.List.{List}
 use mathlib.Core.Bool.{true}
 use mathlib.Core.Path.{_≡_, refl, sym, ap, _∙_}
@@ -12,11 +12,15 @@ use Rattle.item_spec.proofs.Tests.{by-test}
 use Rattle.model.specs.declared.Tables.{Tables}
 use Rattle.model.specs.declared.Program.{Program}
 use Rattle.read_spec.specs.Limits.{lengthOk}
-use Rattle.read_spec.specs.Lines.{Run, on, stop}
+use Rattle.model.specs.Empty.{noTables, noProgram}
+use Rattle.read_spec.specs.Lines.{Run, on, stop, Lines}
 use Rattle.read_spec.specs.Texts.{sheet}
+use Rattle.read_spec.specs.Lawful.{Lawful}
+use Rattle.read_spec.proofs.Rests.{run-stops, run-gives}
 use Rattle.read_spec.proofs.Lawful.{sheet-stops}
 use Rattle.read_chain.specs.Whole.{whole}
-use Rattle.read_sheet.specs.Form.{formRead}
+use Rattle.read_sheet.specs.Form.{form, formRead}
+use Rattle.form_cells.specs.Cells.{linesOf}
 use Rattle.form_cells.proofs.Laws.{cells-length}
 use Rattle.write_spec.specs.Texts.{sheetText, sheetFault}
 use Rattle.write_spec.specs.Buffer.{writeNumber, penned}
@@ -26,7 +30,8 @@ use Rattle.write_spec.proofs.Trips.{sheets-round-trip}
 use Rattle.write_texts.specs.Form.{formLines, formText}
 use Rattle.form_spec.specs.Said.{said, lineAtFault, formSaid, sheetSaid}
 use Rattle.form_spec.specs.Drafts.{writing, sheetOfForm, formOfSheet}
-use Rattle.form_spec.specs.Round.{FormsGiveTheirSheets, FormsAreShorter}
+use Rattle.form_spec.specs.Round.{FormsGiveTheirSheets, FormsAreShorter, FormsAreLawful}
+use Rattle.form_spec.proofs.LawfulForm.{runs-form}
 use Rattle.form_spec.proofs.WholeForm.{faultless, lines-back, form-read}
 use Rattle.form_spec.proofs.Shorter.{form-shorter}
 
@@ -47,23 +52,42 @@ record SheetRead (s : List ℕ) : Type 0 where
   program : Program
   read : ReadAs s tables program
 
-read-as : (s : List ℕ) → sheetSaid s .refused ≡ 0 → SheetRead s
-unfolding sheetSaid whole lineAtFault
-read-as s z = by-test (lengthOk (length s)) (λ l. lines l (sheet s) refl) (λ l. absurd (let q : _≡_ {A = ℕ} 1 0 = rw (l, whole) at z in omega arith))
+-- a text that m reads whole
+record WholeRead (m : Lines (Tables × Program)) (s : List ℕ) : Type 0 where
+  value : Tables × Program
+  rest : List ℕ
+  goes : m s ≡ on value rest
+  short : length s ≤ 32768
+  is : whole (noTables, noProgram) m s ≡ record { refused = 0; place = length s - length rest; value = value }
+
+whole-read : (m : Lines (Tables × Program)) (s : List ℕ) → ((n : ℕ) (r : List ℕ) → m s ≡ stop n r → 2 ≤ n) → whole (noTables, noProgram) m s .refused ≡ 0 → WholeRead m s
+unfolding whole
+whole-read m s stops z = by-test (lengthOk (length s)) (λ l. lines l (m s) refl) (λ l. absurd (let q : _≡_ {A = ℕ} 1 0 = rw (l, whole) at z in omega arith))
   where
-    lines : lengthOk (length s) ≡ true → (m : Run (Tables × Program)) → sheet s ≡ m → SheetRead s
-    lines l (on x r) e = record {
-      tables = x .0;
-      program = x .1;
-      read = record {
-        said-is = rw (l, whole, e);
-        none = trips .read-is-written s r x e .0;
-        text-is = trips .read-is-written s r x e .1;
-        short = leb-true (length s) 32768 l;
-        back = trips .read-is-said s r x e;
-      };
+    lines : lengthOk (length s) ≡ true → (x : Run (Tables × Program)) → m s ≡ x → WholeRead m s
+    lines l (on v r) e = record { value = v; rest = r; goes = e; short = leb-true (length s) 32768 l; is = rw (l, whole, e) }
+    lines l (stop n r) e = absurd (let q : n ≡ 0 = rw (l, whole, e) at z in omega (arith, q, stops n r e))
+
+read-as : (s : List ℕ) → sheetSaid s .refused ≡ 0 → SheetRead s
+unfolding sheetSaid lineAtFault
+read-as s z =
+    let w = whole-read sheet s (λ n r e. sheet-stops s n r e .1) z in
+    let back = trips .read-is-written s (w .rest) (w .value) (w .goes) in
+    record {
+      tables = w .value .0;
+      program = w .value .1;
+      read = record { said-is = rw (w .is); none = back .0; text-is = back .1; short = w .short; back = trips .read-is-said s (w .rest) (w .value) (w .goes) };
     }
-    lines l (stop n r) e = absurd (let q : n ≡ 0 = rw (l, whole, e) at z in omega (arith, q, sheet-stops s n r e .1))
+
+pub forms-are-lawful : FormsAreLawful
+unfolding FormsAreLawful formSaid
+forms-are-lawful s z =
+    by-test (lengthOk (length s)) (λ l. rw (l, formSaid) (lines (rw (l, formSaid) at z))) (λ l. absurd (let q : _≡_ {A = ℕ} 1 0 = rw (l, formSaid) at z in omega arith))
+  where
+    lines : formRead (linesOf s) .refused ≡ 0 → Lawful (formRead (linesOf s) .value .0) (formRead (linesOf s) .value .1)
+    lines q =
+        let w = whole-read form (linesOf s) (λ n r e. run-stops runs-form (linesOf s) n r e .1) q in
+        rw (w .is) (run-gives runs-form (linesOf s) (w .value) (w .rest) (w .goes))
 
 -- a text that has room
 fits : (n : ℕ) (x : List ℕ) (room : ℕ) → n ≡ 0 → length x ≤ 32768 → length x ≤ room → (writeNumber n x room ≡ 0) × (penned n x room ≡ x)

@@ -15,7 +15,9 @@ use Rattle.model.specs.declared.Program.{Program}
 use Rattle.model.specs.Empty.{noType}
 use Rattle.model.specs.View.{typeOf}
 use Rattle.read_spec.specs.Limits.{placesOk, transitionsOk, behaviorsOk, portsOk}
-use Rattle.read_spec.specs.Lines.{Run, on, Lines, runOn, line, each}
+use Rattle.read_spec.specs.Lines.{Run, on, Lines, runOn, _>>=_, handOn, line, each}
+use Rattle.read_spec.specs.Fill.{withType}
+use Rattle.read_lines.proofs.Runs.{next-same}
 use Rattle.read_spec.specs.Kinds.{countLine, initialLine}
 use Rattle.read_spec.specs.Texts.{tranAt, behaviorAt, portAt}
 use Rattle.report_spec.specs.Report.{countText}
@@ -40,6 +42,32 @@ goes x f e h = ap (λ z. runOn z f) e ∙ h
 pub counted-as : (all : Bool) (k : List ℕ) (limit : ℕ → Bool) (s : List ℕ) (n : ℕ) → linesWith all k true s ≡ n → limitFault (limit n) ≡ 0 → counted all k limit s ≡ on n s
 unfolding counted
 counted-as all k limit s n e l = rw (e, limit-met (limit n) l, counted) (ap (λ (i : ℕ). on i s) e)
+
+-- a type of a form, with the rows of each kind in their group
+unfoldable pub typeGroups : ℕ → Tables → Lines Tables
+typeGroups i t = do
+  n ← line (countLine (bytes "type=") placesOk)
+  m ← line (initialLine n)
+  k ← counted false (bytes "tran=") transitionsOk
+  xs ← each (tranAt n) k (i * 32) (t .transitions)
+  b ← counted false (bytes "behavior=") behaviorsOk
+  bs ← each (behaviorAt k) b (i * 8) (t .behaviors)
+  p ← counted false (bytes "port=") portsOk
+  qs ← each (portAt n k m) p (i * 16) (t .ports)
+  handOn (withType t i (record { places = n; initial = m; transitions = k; behaviors = b; ports = p }) xs bs qs)
+
+pub type-groups : (i : ℕ) (t : Tables) (s : List ℕ) → typeForm i t s ≡ typeGroups i t s
+unfolding typeForm typeGroups withType
+type-groups i t s =
+    next-same (line (countLine (bytes "type=") placesOk) s) _ _ (λ n s.
+    next-same (line (initialLine n) s) _ _ (λ m s.
+    next-same (counted false (bytes "tran=") transitionsOk s) _ _ (λ k s.
+    transitions-then n m k i t s _
+    ∙ next-same (each (tranAt n) k (i * 32) (t .transitions) s) _ _ (λ xs s.
+    next-same (counted false (bytes "behavior=") behaviorsOk s) _ _ (λ b s.
+    behaviors-then n m k i _ s _ b
+    ∙ next-same (each (behaviorAt k) b (i * 8) (t .behaviors) s) _ _ (λ bs s.
+    next-same (counted false (bytes "port=") portsOk s) _ _ (λ p s. ports-then n m k i _ s _ p)))))))
 
 -- no row of a type begins here
 pub record Next (s : List ℕ) : Type 0 where
@@ -172,20 +200,18 @@ module _ (t : Tables) (i : ℕ) where
         small = sixteen t p held i here {n = n} (c .places)
 
         pub type-read : typeForm i (g i) (typeRowsOf ++ s) ≡ on (g (suc i)) s
-        unfolding typeForm
+        unfolding typeGroups withType
         type-read =
             ap (typeForm i (g i)) (split s)
+            ∙ type-groups i (g i) (countText (bytes "type=") n ++ (initialText m ++ after₁ s))
             ∙ goes (line (countLine (bytes "type=") placesOk) (countText (bytes "type=") n ++ (initialText m ++ after₁ s))) _
             (says-line _ (says-count (bytes "type=") placesOk n (held .places i here)) .goes (c .places) (initialText m ++ after₁ s))
             (goes (line (initialLine n) (initialText m ++ after₁ s)) _ (says-line _ (says-initial n m small (held .initial i here)) .goes (c .initial) (after₁ s))
             (goes (counted false (bytes "tran=") transitionsOk (after₁ s)) _ (counted-as false (bytes "tran=") transitionsOk (after₁ s) (typeOf t i .transitions) tran-count (c .transitions))
-            (transitions-then n m (typeOf t i .transitions) i (g i) (after₁ s) _
-            ∙ goes (each (tranAt n) (typeOf t i .transitions) (i * 32) (g i .transitions) (after₁ s)) _ (tran-rows t p held i here .goes (c .ends) (after₂ s))
+            (goes (each (tranAt n) (typeOf t i .transitions) (i * 32) (g i .transitions) (after₁ s)) _ (tran-rows t p held i here .goes (c .ends) (after₂ s))
             (goes (counted false (bytes "behavior=") behaviorsOk (after₂ s)) _ (counted-as false (bytes "behavior=") behaviorsOk (after₂ s) (typeOf t i .behaviors) behavior-count (c .behaviors))
-            (behaviors-then n m (typeOf t i .transitions) i _ (after₂ s) _ (typeOf t i .behaviors)
-            ∙ goes (each (behaviorAt (typeOf t i .transitions)) (typeOf t i .behaviors) (i * 8) (g i .behaviors) (after₂ s)) _ (behavior-rows t p held i here few .goes (c .lists) (after₃ s))
+            (goes (each (behaviorAt (typeOf t i .transitions)) (typeOf t i .behaviors) (i * 8) (g i .behaviors) (after₂ s)) _ (behavior-rows t p held i here few .goes (c .lists) (after₃ s))
             (goes (counted false (bytes "port=") portsOk (after₃ s)) _ (counted-as false (bytes "port=") portsOk (after₃ s) (typeOf t i .ports) port-count (c .ports))
-            (ports-then n m (typeOf t i .transitions) i _ (after₃ s) _ (typeOf t i .ports)
-            ∙ goes (each (portAt n (typeOf t i .transitions) m) (typeOf t i .ports) (i * 16) (g i .ports) (after₃ s)) _ (port-rows t p held i here small few .goes (c .groups) s)
+            (goes (each (portAt n (typeOf t i .transitions) m) (typeOf t i .ports) (i * 16) (g i .ports) (after₃ s)) _ (port-rows t p held i here small few .goes (c .groups) s)
             (ap (λ (ks : List ComponentType). on (record { depth = t .depth; count = t .count; types = ks; transitions = g (suc i) .transitions; behaviors = g (suc i) .behaviors; ports = g (suc i) .ports }) s)
             (column-set 16 noType (typeOf t) _ _ i (up-next i))))))))))

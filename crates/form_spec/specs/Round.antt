@@ -1,9 +1,10 @@
--- The form of a sheet gives that very sheet. 02, C-12: "writing what was read must give the same bytes", with the form between.
+-- The form of a sheet gives that very sheet, and what a form gives is lawful. 02, C-12: "writing what was read must give the same bytes", with the form between.
 use Prim.Native.Nat.{ℕ, _≤_, _<_}
 use mathlib.Core.List.{List}
 use mathlib.Core.Path.{_≡_}
 use lib.ListN.{length}
-use Rattle.form_spec.specs.Said.{sheetSaid}
+use Rattle.read_spec.specs.Lawful.{Lawful}
+use Rattle.form_spec.specs.Said.{formSaid, sheetSaid}
 use Rattle.form_spec.specs.Drafts.{sheetOfForm, formOfSheet}
 
 -- of every sheet that is read, where as many bytes are lent as it has: its form is written, and the sheet of the form is that sheet, byte for byte
@@ -15,3 +16,7 @@ FormsGiveTheirSheets =
 -- the form has fewer bytes than its sheet: so no form of a sheet is too long
 unfoldable pub FormsAreShorter : Type 0
 FormsAreShorter = (s : List ℕ) (room : ℕ) → sheetSaid s .refused ≡ 0 → length (formOfSheet s room .text) < length s
+
+-- what a form says keeps to a sheet's rules, so that nothing but its length or a short buffer can be refused in writing
+unfoldable pub FormsAreLawful : Type 0
+FormsAreLawful = (s : List ℕ) → formSaid s .refused ≡ 0 → Lawful (formSaid s .value .0) (formSaid s .value .1)

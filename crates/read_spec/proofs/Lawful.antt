@@ -29,14 +29,14 @@ use Rattle.read_spec.proofs.Kept.{InitialLawful, SetLawful, EndsLawful,
 use Rattle.read_spec.proofs.Slots.{Filled, filled-none, filled-more, runs-fill, typeSlots, types-sound, behaviorSlots, behaviors-sound, transitionSlots, transitions-sound, portSlots, ports-sound, instructionSlots, instructions-sound, stepSlots, steps-sound, Rows, rows-none, rows-more}
 
 -- the numbers of a type, its rows aside
-record Counted (k : ComponentType) : Type 0 where
-  places : placesOk (k .places) ≡ true
-  initial : InitialLawful (k .places) (k .initial)
-  transitions : transitionsOk (k .transitions) ≡ true
-  behaviors : behaviorsOk (k .behaviors) ≡ true
-  ports : portsOk (k .ports) ≡ true
+pub record Counted (k : ComponentType) : Type 0 where
+  pub places : placesOk (k .places) ≡ true
+  pub initial : InitialLawful (k .places) (k .initial)
+  pub transitions : transitionsOk (k .transitions) ≡ true
+  pub behaviors : behaviorsOk (k .behaviors) ≡ true
+  pub ports : portsOk (k .ports) ≡ true
 
-sixteen-le : (n : ℕ) → leb 1 n && leb n 16 ≡ true → n ≤ 16
+pub sixteen-le : (n : ℕ) → leb 1 n && leb n 16 ≡ true → n ≤ 16
 sixteen-le n e = leb-true n 16 (and-right (leb 1 n) (leb n 16) e)
 
 abbrev TransitionRows : List ComponentType → Transitions → ℕ → Type 0
@@ -49,15 +49,15 @@ abbrev PortRows : List ComponentType → Ports → ℕ → Type 0
 PortRows = Rows portSlots 16 (λ k. k .ports) (λ k. PortLawful (k .places) (k .transitions) (k .initial))
 
 -- a sheet of depth d and n types, whose first i are read
-record Typed (d n i : ℕ) (t : Tables) : Type 0 where
-  depth : t .depth ≡ d
-  count : t .count ≡ n
-  types : Filled typeSlots Counted (noTables .types) 0 i (t .types)
-  transitions : TransitionRows (t .types) (t .transitions) i
-  behaviors : BehaviorRows (t .types) (t .behaviors) i
-  ports : PortRows (t .types) (t .ports) i
+pub record Typed (d n i : ℕ) (t : Tables) : Type 0 where
+  pub depth : t .depth ≡ d
+  pub count : t .count ≡ n
+  pub types : Filled typeSlots Counted (noTables .types) 0 i (t .types)
+  pub transitions : TransitionRows (t .types) (t .transitions) i
+  pub behaviors : BehaviorRows (t .types) (t .behaviors) i
+  pub ports : PortRows (t .types) (t .ports) i
 
-typed-none : (d n : ℕ) → Typed d n 0 (headed d n)
+pub typed-none : (d n : ℕ) → Typed d n 0 (headed d n)
 unfolding headed noTables
 typed-none d n = record {
   depth = refl;
@@ -69,7 +69,7 @@ typed-none d n = record {
 }
 
 -- type i, and its rows
-typed-more : (d n i : ℕ) (t : Tables) (k : ComponentType) (xs : Transitions) (bs : List ℕ) (qs : Ports) → i < 16 → Typed d n i t → Counted k →
+pub typed-more : (d n i : ℕ) (t : Tables) (k : ComponentType) (xs : Transitions) (bs : List ℕ) (qs : Ports) → i < 16 → Typed d n i t → Counted k →
     Filled transitionSlots (EndsLawful (k .places)) (t .transitions) (i * 32) (i * 32 + k .transitions) xs →
     Filled behaviorSlots (SetLawful (k .transitions)) (t .behaviors) (i * 8) (i * 8 + k .behaviors) bs →
     Filled portSlots (PortLawful (k .places) (k .transitions) (k .initial)) (t .ports) (i * 16) (i * 16 + k .ports) qs →
@@ -107,10 +107,10 @@ runs-type d N i t h w =
 
 -- ---- the tests of the tables, the program and the answer
 -- a count within its limit, and every line below it
-lines-lawful : (limit test : ℕ → Bool) (n k : ℕ) → n ≡ k → limit k ≡ true → ((j : ℕ) → j < k → test j ≡ true) → limit n && allBelow n test ≡ true
+pub lines-lawful : (limit test : ℕ → Bool) (n k : ℕ) → n ≡ k → limit k ≡ true → ((j : ℕ) → j < k → test j ≡ true) → limit n && allBelow n test ≡ true
 lines-lawful limit test n k e l h = rw e (ap₂ _&&_ l (all-of k test h))
 
-type-lawful : (d n i : ℕ) (t : Tables) → Typed d n i t → (q : ℕ) → q < i → typeLawful t q ≡ true
+pub type-lawful : (d n i : ℕ) (t : Tables) → Typed d n i t → (q : ℕ) → q < i → typeLawful t q ≡ true
 unfolding typeLawful transitionLawful behaviorLawful portLawful
 type-lawful d n i t w q l =
     let c = w .types .rows q (omega arith) l in
