@@ -5,3 +5,4 @@ pub mod Laws
 pub mod Bits
 pub mod Round
 pub mod Back
+pub mod Items

@@ -9,14 +9,14 @@ use native.Mathlib.Numerals.{add-one}
 use native.Mathlib.Omega.{arith}
 use lib.Pow.{pow-mono}
 use lib.Dec.{eqb, ltb, eqb·suc-zero}
-use borrow.Author.Tests.{eq-eqb, ne-eqb, ltb-true, ltb-false}
+use borrow.Author.Tests.{eq-eqb, ne-eqb, ltb-true, ltb-false, lt-leb}
 use Rattle.sets.specs.Mask.{member, collect, with}
 use Rattle.sets.proofs.Laws.{collect-is, gather-in, gather-out}
-use Rattle.item_spec.specs.Reader.{got, byte, bytes}
+use Rattle.item_spec.specs.Reader.{got, refused, byte, bytes}
 use Rattle.item_spec.specs.Read.{key, digit, number, numberFrom, Set, list, membersFrom, oneForm, twoForm, threeForm, fourForm, listForm, listsForm}
 use Rattle.item_spec.specs.Write.{numberText, membersBelow, members, moreText, listText, maskText, oneText, twoText, threeText, fourText}
 use Rattle.item_spec.proofs.Tests.{by-test}
-use Rattle.item_spec.proofs.Laws.{number-digit, number-end, list-digit, list-end, list-plus, true-digit, true-follows, digits-lt, tenth-lt, text-digit, text-last}
+use Rattle.item_spec.proofs.Laws.{number-digit, number-end, number-other, list-digit, list-end, list-plus, true-digit, true-follows, digits-lt, tenth-lt, text-digit, text-last}
 use Rattle.item_spec.proofs.Bits.{below-has, below-not, below-bound}
 
 pub key-round : (k s : List ℕ) → key k (k ++ s) ≡ got tt s
@@ -160,6 +160,9 @@ lf = record { low = omega arith; no-plus = refl }
 no-digit : (e x : ℕ) → e < byte "0" → eqb (byte "0" + x) e ≡ false
 no-digit e x h = ne-eqb (byte "0" + x) e (λ z. omega arith)
 
+number-takes-low : (d : ℕ) {e : ℕ} → e < byte "0" → Takes d (number d e) (numberFrom d e)
+number-takes-low d {e} h = record { begins = λ x s. refl; goes = λ k v x s. number-digit d e k v (byte "0" + x) s (no-digit e x h) }
+
 module _ (d : ℕ) {e : ℕ} (h : Ends e) where
   number-takes : Takes d (number d e) (numberFrom d e)
   number-takes = record { begins = λ x s. refl; goes = λ k v x s. number-digit d e k v (byte "0" + x) s (no-digit e x (h .low)) }
@@ -184,6 +187,18 @@ module _ (d : ℕ) (low : 1 ≤ d) (high : d ≤ 7) where
   number-round {e} h v g s =
       let w = takes (number-takes d h) g (e ∷ s) in
       w .reads ∙ number-end d e (w .k) v e s (eq-eqb e e refl) (w .some)
+
+  -- the same of any end below the digits; and with another byte in its place
+  pub number-ended : {e : ℕ} → e < byte "0" → (v : ℕ) → v < 10 ^ d → (s : List ℕ) → number d e (numberText v ++ (e ∷ s)) ≡ got v s
+  number-ended {e} h v g s =
+      let w = takes (number-takes-low d h) g (e ∷ s) in
+      w .reads ∙ number-end d e (w .k) v e s (eq-eqb e e refl) (w .some)
+
+  pub number-unended : {e : ℕ} → e < byte "0" → (v : ℕ) → v < 10 ^ d → (c : ℕ) (s : List ℕ) → c < byte "0" → eqb c e ≡ false → number d e (numberText v ++ (c ∷ s)) ≡ refused 2
+  unfolding digit
+  number-unended {e} h v g c s l z =
+      let w = takes (number-takes-low d h) g (c ∷ s) in
+      w .reads ∙ number-other d e (w .k) v c s z (rw (lt-leb (byte "0") c l))
 
   more-round : {e : ℕ} → Ends e → (vs : List ℕ) (x : Set) (k v : ℕ) (s : List ℕ) → eqb k 0 ≡ false → x .top ≤ v → Ascends (10 ^ d) (suc v) vs →
       membersFrom d e (x .mask) (x .top) k v (moreText vs ++ (e ∷ s)) ≡ got (foldl added (added x v) vs) s

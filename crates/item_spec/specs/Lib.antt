@@ -2,5 +2,6 @@
 pub mod Refusal
 pub mod Reader
 pub mod Read
+pub mod Items
 pub mod Write
 pub mod Once

@@ -117,6 +117,7 @@ pub enum Text {
     Sheet,
     Answer,
     Times,
+    Start,
 }
 
 pub fn wide(x: u8) -> usize

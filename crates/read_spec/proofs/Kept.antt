@@ -49,7 +49,7 @@ PortLawful n k m y =
     maskOk n (y .1) && (maskOk k (y .2) && (kindOk (y .0) && (not (eqb (y .0) 1) || useOk m (y .1)))) ≡ true
 
 -- the tests of a list, said of its mask
-mask-lawful : (n : ℕ) (x : Set) → n ≤ 32 → Masked x → listOk n (x .top) ≡ true → SetLawful n (x .mask)
+pub mask-lawful : (n : ℕ) (x : Set) → n ≤ 32 → Masked x → listOk n (x .top) ≡ true → SetLawful n (x .mask)
 mask-lawful n x h w e =
     let l = leb-true (x .top) n e in
     lt-ltb (x .mask) (2 ^ n) (lt-of-lt-of-le (w (omega arith) .within) (pow-mono l))

@@ -17,7 +17,7 @@ number-told d e (c ∷ s) k v =
     (λ _. told-if (eqb k 0) (λ _. bad-form) (λ _. gives past tt))
     (λ _. told-if (digit d k v c) (λ _. told-from past (number-told d e s (suc k) (v * 10 + (c - byte "0")))) (λ _. bad-form))
 
-reads-number : (d e : ℕ) → Reads Any (number d e)
+pub reads-number : (d e : ℕ) → Reads Any (number d e)
 reads-number d e s = number-told d e s 0 0
 
 pub reads-one : (d : ℕ) → Reads Any (oneForm d)
@@ -59,7 +59,7 @@ list-told d e (c ∷ s) =
 abbrev pub Masked : Set → Type 0
 Masked x = x .top ≤ 32 → Topped x
 
-reads-list : (d e : ℕ) → d ≤ 7 → Reads Masked (list d e)
+pub reads-list : (d e : ℕ) → d ≤ 7 → Reads Masked (list d e)
 reads-list d e l s = told-known (list-told d e s) (λ x r q h. list-back d l e s q h .1)
 
 pub reads-set : (d : ℕ) → d ≤ 7 → Reads Masked (listForm d)

@@ -47,7 +47,7 @@ pub record Facts (default : ℕ) (t : Tables) (p : Program) : Type 0 where
   pub adds : (n i k : ℕ) → n < p .count → actionAt p n ≡ add i k → (i < 32) × (k < t .count)
 
 -- a member of a set of members below n
-in-mask : (n m x : ℕ) → maskOk n m ≡ true → member x m ≡ true → x < n
+pub in-mask : (n m x : ℕ) → maskOk n m ≡ true → member x m ≡ true → x < n
 in-mask n m x e q =
     by-cases (decLt x n) (λ l. l) (λ l. absurd (false≢true (sym (member-past n x m (omega arith) (ltb-true m (2 ^ n) e)) ∙ q)))
 

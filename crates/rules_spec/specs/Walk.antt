@@ -40,6 +40,9 @@ besideBy answers goesOn c (s ∷ ss) x =
 unfoldable pub walk : ℕ → Tables → Program → Configuration → List Step → Walked
 walk default t p c ss = walkBy (step default t p) c ss
 
--- an answer's walk from the empty start
+-- an answer's walk from c; from the empty start
+unfoldable pub walkFrom : ℕ → Tables → Program → Configuration → Answer → Walked
+walkFrom default t p c a = walk default t p c (stepsOf a)
+
 unfoldable pub walkAnswer : ℕ → Tables → Program → Answer → Walked
 walkAnswer default t p a = walk default t p start (stepsOf a)

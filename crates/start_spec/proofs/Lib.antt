@@ -1,0 +1,4 @@
+pub mod Fifty
+pub mod Proper
+pub mod Tidy
+pub mod Round

@@ -1,0 +1,48 @@
+-- "the report's lines from `instances=` on, after a line `start=1`"
+use Prim.Native.Nat.{ℕ, suc}
+use mathlib.Core.Bool.{Bool}
+use lib.Dec.{leb}
+use Rattle.item_spec.specs.Reader.{bytes}
+use Rattle.model.specs.declared.Tables.{Tables}
+use Rattle.model.specs.declared.Configuration.{Configuration}
+use Rattle.model.specs.Empty.{start, mostConnections}
+use Rattle.model.specs.View.{portNumber}
+use Rattle.read_spec.specs.Lines.{Lines, _>>=_, _>>_, handOn, line, each, atEnd}
+use Rattle.read_spec.specs.Kinds.{dueLine, countLine}
+use Rattle.rules_spec.specs.Con.{connected}
+use Rattle.start_spec.specs.Row.{instanceLine, withRow, connectionLine}
+
+-- "with 1 past 8,192 bytes"
+abbrev pub startLengthOk : ℕ → Bool
+startLengthOk n = leb n 8192
+
+abbrev pub instancesOk : ℕ → Bool
+instancesOk n = leb n 32
+
+abbrev pub connectionsOk : ℕ → Bool
+connectionsOk n = leb n mostConnections
+
+-- the configuration so far, and the least that may come next: an id; the number of a use port
+abbrev pub SoFar : Type 0
+SoFar = Configuration × ℕ
+
+unfoldable pub instanceAt : ℕ → Tables → ℕ → SoFar → Lines SoFar
+instanceAt d t j x = do
+  w ← line (instanceLine d t (x .1))
+  handOn (withRow t (x .0) w, suc (w .id))
+
+unfoldable pub connectionAt : Tables → ℕ → SoFar → Lines SoFar
+connectionAt t j x = do
+  k ← line (connectionLine t (x .0) (x .1))
+  handOn (connected (x .0) k, suc (portNumber (k .user) (k .useport)))
+
+-- on the tables t, where queues hold at most d: "The judge then starts there with the program at its first line"
+unfoldable pub startLines : ℕ → Tables → Lines Configuration
+startLines d t = do
+  line (dueLine (bytes "start=") 1)
+  n ← line (countLine (bytes "instances=") instancesOk)
+  x ← each (instanceAt d t) n 0 (start, 0)
+  k ← line (countLine (bytes "connections=") connectionsOk)
+  y ← each (connectionAt t) k 0 (x .0, 0)
+  atEnd
+  handOn (y .0)
