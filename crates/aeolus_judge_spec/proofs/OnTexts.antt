@@ -21,12 +21,12 @@ use Rattle.aeolus_judge_spec.specs.Report.{report}
 use Rattle.aeolus_judge_spec.specs.Course.{both, course}
 use Rattle.aeolus_judge_spec.specs.Judged.{afterFault, afterRun, inRoom, ending, judged}
 use Rattle.aeolus_judge_spec.specs.OnTexts.{Say, answered, SaidIsLawful, PointsOnTexts, ZeroOnTexts, SeventyOnTexts}
-use Rattle.aeolus_judge_spec.proofs.Room.{Said, both-ends, lawful-of, all-known, fault-numbered, read-fits}
+use Rattle.aeolus_judge_spec.proofs.Room.{OfText, Said, both-ends, lawful-of, all-known, fault-numbered, read-fits}
 
 said : (s a : List ℕ) (u : Universe) (p : Plan) → Say s a u p → Said s a (u, p)
 said s a u p e = told (rw e at (both-ends s a))
   where
-    told : Ends (Said s a) (reached (u, p)) → Said s a (u, p)
+    told : Ends OfText (Said s a) (reached (u, p)) → Said s a (u, p)
     told (reaches b) = b
 
 pub said-is-lawful : SaidIsLawful

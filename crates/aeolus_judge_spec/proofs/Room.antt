@@ -73,13 +73,17 @@ pub record Said (s a : List ℕ) (x : Universe × Plan) : Type 0 where
   pub universe : UniverseLawful (x .0)
   pub steps : PlanLawful (x .0 .count) (x .1)
 
-pub both-ends : (s a : List ℕ) → Ends (Said s a) (both s a)
+-- the numbers of a text's fault
+abbrev pub OfText : ℕ → Type 0
+OfText n = (1 ≤ n) × (n ≤ 5)
+
+pub both-ends : (s a : List ℕ) → Ends OfText (Said s a) (both s a)
 unfolding both UniversesAreLawful PlansAreLawful
 both-ends s a =
-    ends-then _ (short-ends text.Sheet s) (λ _ _.
-    ends-then _ (short-ends text.Answer a) (λ _ _.
-    ends-then _ (read-ends text.Sheet sheet s (sheet-stops s)) (λ u (r, e).
-    ends-then _ (read-ends text.Answer (plan (u .count)) a (plan-stops (u .count) a)) (λ p (q, f).
+    ends-then _ (short-ends (λ n l. l) text.Sheet s) (λ _ _.
+    ends-then _ (short-ends (λ n l. l) text.Answer a) (λ _ _.
+    ends-then _ (read-ends (λ n l. l) text.Sheet sheet s (sheet-stops s)) (λ u (r, e).
+    ends-then _ (read-ends (λ n l. l) text.Answer (plan (u .count)) a (plan-stops (u .count) a)) (λ p (q, f).
     reaches (record { universe = universes-are-lawful s r u e; steps = plans-are-lawful (u .count) a q p f })))))
 
 -- a run of a lawful plan
@@ -89,20 +93,20 @@ pub record Runs (x : Universe × Ran) : Type 0 where
   pub lawful : PlanLawful (x .0 .count) steps
   pub ran-is : x .1 ≡ run (x .0) nothing (actionsOf steps)
 
-course-ends : (s a : List ℕ) → Ends Runs (course s a)
+course-ends : (s a : List ℕ) → Ends OfText Runs (course s a)
 unfolding course
 course-ends s a = ends-then _ (both-ends s a) (λ x h. reaches (record { universe = h .universe; steps = x .1; lawful = h .steps; ran-is = refl }))
 
 pub both-read : (s a : List ℕ) (x : Universe × Ran) → course s a ≡ reached x → Runs x
 both-read s a x e = told (rw e at (course-ends s a))
   where
-    told : Ends Runs (reached x) → Runs x
+    told : Ends OfText Runs (reached x) → Runs x
     told (reaches b) = b
 
-pub fault-numbered : (s a : List ℕ) (x : Text) (n at : ℕ) → course s a ≡ faulty x n at → (1 ≤ n) × (n ≤ 5)
+pub fault-numbered : (s a : List ℕ) (x : Text) (n at : ℕ) → course s a ≡ faulty x n at → OfText n
 fault-numbered s a x n at e = told (rw e at (course-ends s a))
   where
-    told : Ends Runs (faulty x n at) → (1 ≤ n) × (n ≤ 5)
+    told : Ends OfText Runs (faulty x n at) → OfText n
     told (faults l) = l
 
 -- ---- the room
@@ -120,6 +124,7 @@ pub record Fits (u : Universe) (w : Ran) : Type 0 where
   pub short : length (report u w) ≤ 1811
   pub small : w .refused < 100
   pub of-step : (1 ≤ w .refused) × (w .refused ≤ 6) → ⊥
+  pub not-fifty : w .refused ≢ 50
 
 run-fits : (u : Universe) (p : Plan) → UniverseLawful u → PlanLawful (u .count) p → Fits u (run u nothing (actionsOf p))
 run-fits u p l k =
@@ -132,6 +137,7 @@ run-fits u p l k =
           (omega (arith, few, k .few, length-map (take (p .count) (p .steps)) actionOf, length-take (p .count) (p .steps))) small;
       small = small;
       of-step = λ q. ⊎-elim (λ e. omega (arith, q, e)) (λ h. omega (arith, q, h)) range;
+      not-fifty = λ q. ⊎-elim (λ e. omega (arith, q, e)) (λ h. omega (arith, q, h)) range;
     }
 
 pub read-fits : (s a : List ℕ) (u : Universe) (w : Ran) → course s a ≡ reached (u, w) → Fits u w

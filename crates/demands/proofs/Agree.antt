@@ -12,7 +12,6 @@ use Rattle.model.specs.declared.Program.{Program}
 use Rattle.model.specs.declared.Step.{Step}
 use Rattle.model.specs.declared.Configuration.{Configuration}
 use Rattle.model.specs.declared.Walked.{Walked}
-use Rattle.model.specs.Empty.{start}
 use Rattle.model.specs.View.{withDone}
 use Rattle.rules_spec.specs.Action.{Action, add, del, pushb, con, dcon, wait, fire, end, enter, finish, moveAction}
 use Rattle.rules_spec.specs.Step.{isNext, actionAt, action, stepCheck, stepTo}
@@ -21,7 +20,7 @@ use Rattle.rules_spec.specs.Proper.{Proper}
 use Rattle.rules_spec.proofs.Tables.{Facts, facts}
 use Rattle.rules_spec.proofs.Local.{Wires, wires, rewired, wiringOf, change, touches, changes, part-wires, rest-after}
 use Rattle.rules_spec.proofs.Walks.{walk-unnamed, walk-on, allowed-head, allowed-tail, number-facts, after-cases, after-done}
-use Rattle.rules_spec.proofs.Proper.{step-lawfully, step-proper, start-proper, proper-from}
+use Rattle.rules_spec.proofs.Proper.{step-lawfully, step-proper, proper-from}
 use Rattle.demands.specs.Agree.{names, deeds, naming, ReportsAgree}
 use Rattle.demands.proofs.Parts.{Part, part, acted, part-after, whole}
 use Rattle.demands.proofs.Moves.{isMove, line-no-move, move-is-move, move-changes}
@@ -166,5 +165,7 @@ module _ (default : ℕ) (t : Tables) (p : Program) (law : Facts default t p) wh
           (ap (λ (x : Course). x .joined) rest) (ap (λ (x : Course). x .done) rest)
 
 pub reports-agree : ReportsAgree
-unfolding ReportsAgree start
-reports-agree default t p ss us small law a b same = agree-from default t p (facts default t p small law) start ss us (start-proper default t p) a b same
+unfolding ReportsAgree
+reports-agree default t p c ss us small law g a b same =
+    agree-from default t p (facts default t p small law) c ss us (g .permitted .proper) a b
+    (λ i. rw (g .permitted .first) (same i))

@@ -18,7 +18,6 @@ use Rattle.model.specs.declared.Instance.{Instance}
 use Rattle.model.specs.declared.Connection.{Connection}
 use Rattle.model.specs.declared.Configuration.{Configuration}
 use Rattle.model.specs.declared.Walked.{Walked}
-use Rattle.model.specs.Empty.{start}
 use Rattle.model.specs.View.{instance, isServed, connection, queueHead}
 use Rattle.rules_spec.specs.Refusal.{orNumber}
 use Rattle.rules_spec.specs.Instance.{portsOf, current, leaving, entering, fired, entered}
@@ -36,7 +35,7 @@ use Rattle.rules_spec.proofs.Tables.{Facts, facts}
 use Rattle.rules_spec.proofs.Local.{Wires, wires, change, changes, owner, ownerOf, at-owner, Room, changes-one, part-wires, rest-after, instance-other, slot-other}
 use Rattle.rules_spec.proofs.Walks.{walk-on, allowed-head, allowed-tail}
 use Rattle.rules_spec.proofs.Connections.{Joined, joined-none}
-use Rattle.rules_spec.proofs.Proper.{Lawfully, room, action-proper, step-proper, start-proper}
+use Rattle.rules_spec.proofs.Proper.{Lawfully, room, action-proper, step-proper}
 use Rattle.demands.specs.Exchange.{between, MovesExchange}
 use Rattle.demands.proofs.Moves.{isMove, move-is-move, move-changes, move-number, move-after}
 use Rattle.demands.proofs.Parts.{Part, part, acted, part-after, whole}
@@ -231,6 +230,6 @@ module _ (default : ℕ) (t : Tables) (p : Program) (law : Facts default t p) wh
 
 pub moves-exchange : MovesExchange
 unfolding MovesExchange
-moves-exchange default t p before rest m n small law e ok =
-    let same = exchange-from default t p (facts default t p small law) m n (e .first) (e .second) (e .two) before start (start-proper default t p) (e .unconnected) rest ok in
+moves-exchange default t p c before rest m n small law b e ok =
+    let same = exchange-from default t p (facts default t p small law) m n (e .first) (e .second) (e .two) before c (b .permitted .proper) (e .unconnected) rest ok in
     (ap (λ (w : Walked). w .refused) same ∙ ok, same)

@@ -7,4 +7,5 @@ pub mod Traces
 pub mod Agree
 pub mod Lengths
 pub mod OnTexts
+pub mod Again
 pub mod Alone

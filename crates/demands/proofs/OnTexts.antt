@@ -2,12 +2,16 @@
 -- Assumes nothing.
 use Prim.Native.Nat.{ℕ, _<_}
 use mathlib.Core.List.{List, []}
+use mathlib.Core.Bool.{true}
 use mathlib.Core.Path.{_≡_, refl, sym, ap, _∙_}
+use mathlib.Core.Logic.{⊎-elim}
 use native.Mathlib.Omega.{arith}
 use lib.Dec.{leb}
 use lib.ListN.{length, length-append}
 use borrow.Author.Tests.{le-leb, eq-eqb}
 use Rattle.item_spec.proofs.Tests.{by-test}
+use Rattle.model.specs.declared.Tables.{Tables}
+use Rattle.model.specs.declared.Configuration.{Configuration}
 use Rattle.model.specs.declared.Walked.{Walked}
 use Rattle.model.specs.declared.Text.{Text}
 use Rattle.model.specs.declared.Text.the-variants as text
@@ -19,14 +23,17 @@ use Rattle.read_spec.specs.Lines.{Run, on, stop}
 use Rattle.read_spec.specs.Texts.{answer}
 use Rattle.read_spec.specs.Lawful.{Lawful, SheetsAreLawful}
 use Rattle.read_spec.proofs.Lawful.{sheets-are-lawful}
-use Rattle.rules_spec.specs.Walk.{walkAnswer}
+use Rattle.rules_spec.specs.Walk.{walkFrom}
 use Rattle.report_spec.specs.Report.{report}
-use Rattle.judge_spec.specs.Course.{Course, faulty, reached, defaultDepth, short, read, both, course}
+use Rattle.start_spec.specs.Paper.{Beginning, Paper}
+use Rattle.start_spec.specs.Permitted.{MayBegin}
+use Rattle.judge_spec.specs.Course.{Course, faulty, reached, defaultDepth, short, shortStart, read, served, outset, allUnder, course}
 use Rattle.judge_spec.specs.Judged.{afterFault, afterWalk, stepPlace, inRoom, ending, judged, printing, printed}
 use Rattle.judge_spec.specs.Room.{ReportsFit}
-use Rattle.judge_spec.proofs.Read.{both-read, fault-numbered}
+use Rattle.judge_spec.proofs.Read as Judged
+use Rattle.judge_spec.proofs.Read.{Begun, empty, up, all-read, begun-well, fault-numbered}
 use Rattle.judge_spec.proofs.Room.{reports-fit}
-use Rattle.demands.specs.OnTexts.{sheetTables, sheetProgram, answerSteps, BothRead, AllAllowed, walkOn, upTo, ReachedIsTheWalk, SafeOnTexts, QueuesOnTexts, SameReports, ReportsAgreeOnTexts, Exchanged, exchangedSteps, exchangedText, MovesExchangeOnTexts}
+use Rattle.demands.specs.OnTexts.{sheetTables, sheetProgram, beginOf, answerSteps, AllRead, AllAllowed, walkOn, upTo, ReachedIsTheWalk, SafeOnTexts, QueuesOnTexts, SameReports, ReportsAgreeOnTexts, Exchanged, exchangedSteps, exchangedText, MovesExchangeOnTexts}
 use Rattle.demands.specs.Safe.{WalksAreSafe}
 use Rattle.demands.specs.Queues.{QueuesAreKept}
 use Rattle.demands.specs.Exchange.{MovesExchange}
@@ -40,26 +47,39 @@ use Rattle.demands.proofs.Queues.{queues-are-kept}
 use Rattle.demands.proofs.Exchange.{moves-exchange}
 use Rattle.demands.proofs.Agree.{reports-agree}
 
--- ---- what two texts come to
+-- ---- what the texts come to
+
+begun-is : (t : Tables) (g : Beginning) (c : Configuration) → Begun defaultDepth t g c → outset defaultDepth t g ≡ reached c
+unfolding outset read served
+begun-is t _ _ empty = refl
+begun-is t _ _ (up e q) = rw (e, read, q, served)
+
+begin-is : (s : Paper) (a : List ℕ) (w : Walked) (b : Judged.AllRead s a w) → beginOf s ≡ b .begin
+unfolding beginOf sheetTables
+begin-is s a w b = rw (b .sheet-is, sheetTables, begun-is (b .tables) (s .beginning) (b .begin) (b .begun), beginOf)
 
 pub reached-is-the-walk : ReachedIsTheWalk
-unfolding ReachedIsTheWalk walkAnswer sheetTables sheetProgram answerSteps
-reached-is-the-walk s a w e = let b = both-read s a w e in b .walked ∙ rw (b .sheet-is, b .answer-is, sheetTables, sheetProgram, answerSteps)
+unfolding ReachedIsTheWalk walkFrom sheetTables sheetProgram answerSteps
+reached-is-the-walk s a w e =
+    let b = all-read s a w e in
+    b .walked ∙ ap (λ (c : Configuration). walkFrom defaultDepth (b .tables) (b .program) c (b .steps)) (sym (begin-is s a w b)) ∙ rw (b .sheet-is, b .answer-is, sheetTables, sheetProgram, answerSteps)
 
 -- the walk is reached, the sheet is lawful, and the answer is the text of its steps
-record Goes (s a : List ℕ) : Type 0 where
-  is : course s a ≡ reached (walkOn s (answerSteps a))
-  lawful : Lawful (sheetTables s) (sheetProgram s)
-  said : SaidSteps (answerSteps a)
-  text : a ≡ answerText (ofSteps (answerSteps a))
+pub record Goes (s : Paper) (a : List ℕ) : Type 0 where
+  pub is : course s a ≡ reached (walkOn s (answerSteps a))
+  pub lawful : Lawful (sheetTables s) (sheetProgram s)
+  pub begins-well : MayBegin defaultDepth (sheetTables s) (sheetProgram s) (beginOf s)
+  pub said : SaidSteps (answerSteps a)
+  pub text : a ≡ answerText (ofSteps (answerSteps a))
 
-read-goes : (s a : List ℕ) → BothRead s a → Goes s a
+pub read-goes : (s : Paper) (a : List ℕ) → AllRead s a → Goes s a
 unfolding ReachedIsTheWalk sheetTables sheetProgram answerSteps SheetsAreLawful AnswersAreTheirTexts
 read-goes s a (w, e) =
-    let b = both-read s a w e in
+    let b = all-read s a w e in
     record {
       is = e ∙ ap reached (reached-is-the-walk s a w e);
-      lawful = rw (b .sheet-is, sheetTables, sheetProgram) (sheets-are-lawful s _ _ _ (b .sheet-is));
+      lawful = rw (b .sheet-is, sheetTables, sheetProgram) (sheets-are-lawful (s .sheet) _ _ _ (b .sheet-is));
+      begins-well = rw (begin-is s a w b, b .sheet-is, sheetTables, sheetProgram) (begun-well (b .tables) (b .program) (sheets-are-lawful (s .sheet) _ _ _ (b .sheet-is)) (s .beginning) (b .begin) (b .begun));
       said = rw (b .answer-is, answerSteps) (answers-are-their-texts a _ _ (b .answer-is) .0);
       text = rw (b .answer-is, answerSteps) (answers-are-their-texts a _ _ (b .answer-is) .1);
     }
@@ -67,19 +87,19 @@ read-goes s a (w, e) =
 -- ---- what the judge makes of it
 
 -- the number is the walk's: there is room for the report
-number-is : (s a : List ℕ) (w : Walked) → course s a ≡ reached w → judged s a 8192 .verdict .refused ≡ w .refused
+number-is : (s : Paper) (a : List ℕ) (w : Walked) → course s a ≡ reached w → judged s a 8192 .verdict .refused ≡ w .refused
 unfolding judged ending inRoom afterWalk ReportsFit
 number-is s a w e = rw (e, ending, le-leb (length (report w)) 8192 (reports-fit s a w e), inRoom)
 
-allowed-reads : (s a : List ℕ) → AllAllowed s a → BothRead s a
+allowed-reads : (s : Paper) (a : List ℕ) → AllAllowed s a → AllRead s a
 unfolding judged ending afterFault
 allowed-reads s a = go (course s a) refl
   where
-    go : (z : Course Walked) → course s a ≡ z → ending s a 8192 z .verdict .refused ≡ 0 → BothRead s a
-    go (faulty x n at) e q = absurd (let l = fault-numbered s a x n at e in omega arith)
+    go : (z : Course Walked) → course s a ≡ z → ending s a 8192 z .verdict .refused ≡ 0 → AllRead s a
+    go (faulty x n at) e q = absurd (⊎-elim (λ l. omega arith) (λ l. omega arith) (fault-numbered s a x n at e .range))
     go (reached w) e q = (w, e)
 
-allowed-goes : (s a : List ℕ) → AllAllowed s a → Goes s a × (walkOn s (answerSteps a) .refused ≡ 0)
+allowed-goes : (s : Paper) (a : List ℕ) → AllAllowed s a → Goes s a × (walkOn s (answerSteps a) .refused ≡ 0)
 allowed-goes s a q = let g = read-goes s a (allowed-reads s a q) in (g, sym (number-is s a _ (g .is)) ∙ q)
 
 -- in any room only the place of the offending line looks at the answer
@@ -93,7 +113,7 @@ unfolding inRoom afterWalk stepPlace
 place-in-room room w a b r ok l =
     by-test (leb (length r) room) (λ e. rw (e, inRoom, eq-eqb (w .refused) 0 ok, stepPlace, l)) (λ e. rw (e, inRoom) refl)
 
-alike-where-reached : (s a b : List ℕ) (w : Walked) → w .refused ≡ 0 → length a ≡ length b → course s a ≡ reached w → course s b ≡ reached w → SameReports s a b
+alike-where-reached : (s : Paper) (a b : List ℕ) (w : Walked) → w .refused ≡ 0 → length a ≡ length b → course s a ≡ reached w → course s b ≡ reached w → SameReports s a b
 unfolding judged ending printed printing
 alike-where-reached s a b w ok l e f = record {
   printed-alike = rw (e, f, printing) (alike-in-room 8192 w a b (report w) .1);
@@ -107,23 +127,30 @@ alike-where-reached s a b w ok l e f = record {
 not-reached : {A : Type 0} {x : Text} {n at : ℕ} {w : A} → faulty x n at ≡ reached w → ⊥
 not-reached {x = x} {n = n} {at = at} {w = w} e = let z : _≡_ {A = ℕ} 0 1 = cc in omega arith
 
--- a text as long as one that is read is read beside the same sheet
-as-long-reads : (s a b : List ℕ) (y : Answer) (r : List ℕ) → length a ≡ length b → answer b ≡ on y r → BothRead s a → BothRead s b
-unfolding course both short read
+-- a text as long as one that is read is read beside the same paper
+as-long-reads : (s : Paper) (a b : List ℕ) (y : Answer) (r : List ℕ) → length a ≡ length b → answer b ≡ on y r → AllRead s a → AllRead s b
+unfolding course allUnder short read
 as-long-reads s a b y r l is (w, e) =
-    by-test (lengthOk (length s))
-    (λ p. by-test (lengthOk (length a))
-    (λ q. let x = both-read s a w e in (walkAnswer defaultDepth (x .tables) (x .program) y, rw (course, both, short, p, ← l, q, read, x .sheet-is, is) refl))
-    (λ q. absurd (not-reached (rw (course, both, short, p, q) at e))))
-    (λ p. absurd (not-reached (rw (course, both, short, p) at e)))
+    by-test (lengthOk (length (s .sheet)))
+    (λ p. start-short p (shortStart (s .beginning)) refl)
+    (λ p. absurd (not-reached (rw (course, allUnder, short, p) at e)))
+  where
+    start-short : lengthOk (length (s .sheet)) ≡ true → (z : Course (Unit {0})) → shortStart (s .beginning) ≡ z → AllRead s b
+    start-short p (faulty x n at) f = absurd (not-reached (rw (course, allUnder, short, p, f) at e))
+    start-short p (reached tt) f =
+        by-test (lengthOk (length a))
+        (λ q.
+        let x = all-read s a w e in
+        (walkFrom defaultDepth (x .tables) (x .program) (x .begin) y, rw (course, allUnder, short, p, f, ← l, q, read, x .sheet-is, begun-is (x .tables) (s .beginning) (x .begin) (x .begun), is) refl))
+        (λ q. absurd (not-reached (rw (course, allUnder, short, p, f, q) at e)))
 
 -- the exchanged text: as long as the answer, read beside the same sheet, and as the exchanged steps
-record ReadAgain (s a b : List ℕ) (us : List Step) : Type 0 where
+record ReadAgain (s : Paper) (a b : List ℕ) (us : List Step) : Type 0 where
   long : length a ≡ length b
-  both-are : BothRead s b
+  both-are : AllRead s b
   steps : answerSteps b ≡ us
 
-exchanged-reads : (s a : List ℕ) (x : Exchanged s a) → BothRead s a → ReadAgain s a (exchangedText x) (exchangedSteps x)
+exchanged-reads : (s : Paper) (a : List ℕ) (x : Exchanged s a) → AllRead s a → ReadAgain s a (exchangedText x) (exchangedSteps x)
 unfolding answerSteps StepsHaveTheirText
 exchanged-reads s a x r =
     let g = read-goes s a r in
@@ -136,18 +163,18 @@ exchanged-reads s a x r =
 
 pub safe-on-texts : SafeOnTexts
 unfolding SafeOnTexts WalksAreSafe
-safe-on-texts s a n r = walks-are-safe defaultDepth (sheetTables s) (sheetProgram s) (upTo n a) (omega arith) (read-goes s a r .lawful)
+safe-on-texts s a n r = walks-are-safe defaultDepth (sheetTables s) (sheetProgram s) (beginOf s) (upTo n a) (omega arith) (read-goes s a r .lawful) (read-goes s a r .begins-well)
 
 pub queues-on-texts : QueuesOnTexts
 unfolding QueuesOnTexts QueuesAreKept
-queues-on-texts s a n i r = queues-are-kept defaultDepth (sheetTables s) (sheetProgram s) (upTo n a) i (omega arith) (read-goes s a r .lawful)
+queues-on-texts s a n i r = queues-are-kept defaultDepth (sheetTables s) (sheetProgram s) (beginOf s) (upTo n a) i (omega arith) (read-goes s a r .lawful) (read-goes s a r .begins-well)
 
 pub reports-agree-on-texts : ReportsAgreeOnTexts
 unfolding ReportsAgreeOnTexts ReportsAgree
 reports-agree-on-texts s a b p q same =
     let (g, x) = allowed-goes s a p in
     let (h, y) = allowed-goes s b q in
-    let e = reports-agree defaultDepth (sheetTables s) (sheetProgram s) (answerSteps a) (answerSteps b) (omega arith) (g .lawful) x y same in
+    let e = reports-agree defaultDepth (sheetTables s) (sheetProgram s) (beginOf s) (answerSteps a) (answerSteps b) (omega arith) (g .lawful) (g .begins-well) x y same in
     let l = ap length (g .text) ∙ same-text-length (sheetProgram s) 0 (answerSteps a) (answerSteps b) (g .said .every) (h .said .every) same ∙ sym (ap length (h .text)) in
     alike-where-reached s a b _ x l (g .is) (h .is ∙ ap reached (sym e))
 
@@ -158,5 +185,5 @@ moves-exchange-on-texts s a x p =
     let b = exchangedText x in
     let r = exchanged-reads s a x (allowed-reads s a p) in
     let h = read-goes s b (r .both-are) in
-    let (still, e) = moves-exchange defaultDepth (sheetTables s) (sheetProgram s) (x .before) (x .after) (x .m) (x .n) (omega arith) (g .lawful) (x .exchangeable) (rw (x .these) at y) in
+    let (still, e) = moves-exchange defaultDepth (sheetTables s) (sheetProgram s) (beginOf s) (x .before) (x .after) (x .m) (x .n) (omega arith) (g .lawful) (g .begins-well) (x .exchangeable) (rw (x .these) at y) in
     (r .steps, number-is s b _ (h .is) ∙ rw (r .steps) still, alike-where-reached s a b _ y (r .long) (g .is) (h .is ∙ ap reached (rw (r .steps, x .these) e)))

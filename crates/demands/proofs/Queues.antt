@@ -12,9 +12,8 @@ use Rattle.model.specs.declared.Program.{Program}
 use Rattle.model.specs.declared.Step.{Step}
 use Rattle.model.specs.declared.Instance.{Instance}
 use Rattle.model.specs.declared.Configuration.{Configuration}
-use Rattle.model.specs.Empty.{start}
 use Rattle.model.specs.View.{instance, slot, queueHead, listOf, queueOf, withDone}
-use Rattle.model.proofs.View.{list-same, list-snoc, list-head, start-instance}
+use Rattle.model.proofs.View.{list-same, list-snoc, list-head}
 use Rattle.rules_spec.specs.Instance.{fired, endedBy, entered, withQueued}
 use Rattle.rules_spec.specs.Action.{Action, add, del, pushb, con, dcon, wait, fire, end, enter, finish, actionCheck, effect}
 use Rattle.rules_spec.specs.Step.{action, stepCheck, stepTo, checkAt}
@@ -24,8 +23,8 @@ use Rattle.rules_spec.proofs.Tables.{Facts, facts}
 use Rattle.rules_spec.proofs.Local.{shifted, appended, change, touches, changes, owner, ownerOf, at-owner, self, ownInstance, turn, turnedSlot, ownSlot, Fits, Room, room-own, instance-own, instance-other, slot-own, slot-other}
 use Rattle.rules_spec.proofs.Allowed.{del-facts}
 use Rattle.rules_spec.proofs.Walks.{step-on, step-stop, walk-cases, number-facts, after-cases}
-use Rattle.rules_spec.proofs.Proper.{Lawfully, room, step-lawfully, step-proper, start-proper}
-use Rattle.demands.specs.Queues.{Story, nothing, morePushed, moreFinished, tell, story, QueuesAreKept}
+use Rattle.rules_spec.proofs.Proper.{Lawfully, room, step-lawfully, step-proper}
+use Rattle.demands.specs.Queues.{Story, nothing, begun, morePushed, moreFinished, tell, story, QueuesAreKept}
 
 -- ---- a queue of any elements: n of them queued, in the slots s
 
@@ -140,6 +139,14 @@ module _ (default : ℕ) (t : Tables) (p : Program) (law : Facts default t p) (i
 
 pub queues-are-kept : QueuesAreKept
 unfolding QueuesAreKept queueOf listOf
-queues-are-kept default t p ss i small law =
-    told-from default t p (facts default t p small law) i ss start nothing (start-proper default t p)
-    (rw (start-instance i) (omega arith, refl)) .1
+queues-are-kept default t p c ss i small law b =
+    told-from default t p known i ss c (begun c i) (b .permitted .proper) (short, refl) .1
+  where
+    known : Facts default t p
+    known = facts default t p small law
+
+    short : instance c i .queued ≤ 8
+    short =
+        by-test (instance c i .present)
+        (λ here. let l = b .permitted .proper .each i here .short in let d = known .depth in omega arith)
+        (λ off. rw (b .permitted .tidy .gone i off) (omega arith))

@@ -16,9 +16,7 @@ use Rattle.model.specs.declared.Step.{Step}
 use Rattle.model.specs.declared.Instance.{Instance}
 use Rattle.model.specs.declared.Connection.{Connection}
 use Rattle.model.specs.declared.Configuration.{Configuration}
-use Rattle.model.specs.Empty.{start}
 use Rattle.model.specs.View.{isUse, instance, queueHead, withServers, withDone}
-use Rattle.model.proofs.View.{start-instance}
 use Rattle.rules_spec.specs.Instance.{active, portsOf, fired, endedBy, entered, withQueued}
 use Rattle.rules_spec.specs.Standing.{standing, someConnection}
 use Rattle.rules_spec.specs.Ports.{serves, employs, portCheck}
@@ -36,7 +34,9 @@ use Rattle.rules_spec.proofs.Local.{Wiring, kept, made, cut, Wires, wires, rewi
 use Rattle.rules_spec.proofs.Allowed.{add-facts, del-facts, pushb-facts, fire-facts, enter-facts, end-facts, finish-facts, served, unused, present-in}
 use Rattle.rules_spec.proofs.Walks.{walk-keeps, number-facts, after-cases}
 use Rattle.rules_spec.proofs.Connections.{Stands, Joined, some-joined, joined-some, joined-none, con-keeps, same-stands, dcon-keeps, Passed, passed, joined-joins, new-joins}
-use Rattle.rules_spec.proofs.Proper.{Lawfully, joins-small, step-lawfully, step-proper, start-proper}
+use Rattle.rules_spec.proofs.Proper.{Lawfully, joins-small, step-lawfully, step-proper}
+use Rattle.start_spec.specs.Served.{AllServed}
+use Rattle.start_spec.specs.Permitted.{MayBegin}
 use Rattle.demands.specs.Safe.{Served, Safe, WalksAreSafe}
 
 -- the connection k joins the use port q of i to an active provide port
@@ -197,15 +197,22 @@ module _ (default : ℕ) (t : Tables) (p : Program) (law : Facts default t p) wh
       → Proper default t p (walk default t p c ss .configuration) × Safely t (walk default t p c ss .configuration)
   safe-from = walk-keeps default t p (λ c. Proper default t p c × Safely t c) step-safe
 
-pub start-safe : (t : Tables) → Safely t start
-start-safe t i q here = absurd (false≢true (sym (ap (λ (v : Instance). v .present) (start-instance i)) ∙ here))
+-- what a paper may begin with is safe
+begin-safe : (default : ℕ) (t : Tables) (p : Program) (c : Configuration) → MayBegin default t p c → Safely t c
+unfolding AllServed serves
+begin-safe default t p c b i q here hq hu ha =
+    let wide = b .permitted .proper .instances-length in
+    let (k, j, e) = some-joined c (serves t c i q) (b .served i q (rw (← wide) (present-in c i here)) here hq hu ha) in
+    let (x, rest) = and-eq-true-iff (eqb (k .user) i) _ .0 e in
+    let (y, on) = and-eq-true-iff (eqb (k .useport) q) _ .0 rest in
+    (k, record { stands = j; user = eqb-true _ _ x; useport = eqb-true _ _ y; provider = on })
 
 pub walks-are-safe : WalksAreSafe
 unfolding WalksAreSafe Safe
-walks-are-safe default t p ss small law i q here hq hu ha =
-    let (proper, safe) = safe-from default t p (facts default t p small law) ss start (start-proper default t p, start-safe t) in
+walks-are-safe default t p c ss small law b i q here hq hu ha =
+    let (proper, safe) = safe-from default t p (facts default t p small law) ss c (b .permitted .proper, begin-safe default t p c b) in
     let (k, s) = safe i q here hq hu ha in
-    of (walk default t p start ss .configuration) proper k s
+    of (walk default t p c ss .configuration) proper k s
   where
     of : (c : Configuration) → Proper default t p c → (k : Connection) → Serving t c i q k → Served t c i q
     of c now k s =

@@ -9,11 +9,12 @@ use lib.Dec.{eqb}
 use Rattle.model.specs.declared.Tables.{Tables}
 use Rattle.model.specs.declared.Program.{Program}
 use Rattle.model.specs.declared.Step.{Step}
-use Rattle.model.specs.Empty.{start}
+use Rattle.model.specs.declared.Configuration.{Configuration}
 use Rattle.read_spec.specs.Lawful.{Lawful}
 use Rattle.rules_spec.specs.Action.{Action, add, del, pushb, con, dcon, wait, fire, end, enter, finish, moveAction}
 use Rattle.rules_spec.specs.Step.{isNext, actionAt}
 use Rattle.rules_spec.specs.Walk.{walk}
+use Rattle.start_spec.specs.Permitted.{MayBegin}
 use Rattle.demands.specs.Exchange.{Allowed}
 
 -- a move is of its component; an instruction names its ids, `con` and `dcon` both ends
@@ -44,10 +45,11 @@ projection p i ss = naming i (deeds p 0 ss)
 
 unfoldable pub ReportsAgree : Type 0
 ReportsAgree =
-    (default : ℕ) (t : Tables) (p : Program) (ss us : List Step)
+    (default : ℕ) (t : Tables) (p : Program) (c : Configuration) (ss us : List Step)
     → default ≤ 8
     → Lawful t p
-    → Allowed default t p ss
-    → Allowed default t p us
+    → MayBegin default t p c
+    → Allowed default t p c ss
+    → Allowed default t p c us
     → ((i : ℕ) → projection p i ss ≡ projection p i us)
-    → walk default t p start ss ≡ walk default t p start us
+    → walk default t p c ss ≡ walk default t p c us

@@ -6,3 +6,4 @@ pub mod Exchange
 pub mod Agree
 pub mod OnTexts
 pub mod Alone
+pub mod Again

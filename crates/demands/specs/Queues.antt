@@ -9,12 +9,12 @@ use Rattle.model.specs.declared.Tables.{Tables}
 use Rattle.model.specs.declared.Program.{Program}
 use Rattle.model.specs.declared.Step.{Step}
 use Rattle.model.specs.declared.Configuration.{Configuration}
-use Rattle.model.specs.Empty.{start}
 use Rattle.model.specs.View.{queueHead, queueOf}
 use Rattle.read_spec.specs.Lawful.{Lawful}
 use Rattle.rules_spec.specs.Action.{Action, add, del, pushb, con, dcon, wait, fire, end, enter, finish}
 use Rattle.rules_spec.specs.Step.{action, step}
 use Rattle.rules_spec.specs.Walk.{besideBy, walk}
+use Rattle.start_spec.specs.Permitted.{MayBegin}
 
 -- what was pushed to a component and what it finished, since it was added
 pub record Story (A : Type 0) : Type 0 where
@@ -23,6 +23,10 @@ pub record Story (A : Type 0) : Type 0 where
 
 abbrev pub nothing : {A : Type 0} → Story A
 nothing = record { pushed = []; finished = [] }
+
+-- "with the starting queue counted as pushed"
+abbrev pub begun : Configuration → ℕ → Story ℕ
+begun c i = record { pushed = queueOf c i; finished = [] }
 
 abbrev pub morePushed : {A : Type 0} → A → Story A → Story A
 morePushed b h = record { pushed = h .pushed ++ (b ∷ []); finished = h .finished }
@@ -49,8 +53,9 @@ story default t p i c ss h = besideBy (step default t p) (λ c d s. tell c i (ac
 
 unfoldable pub QueuesAreKept : Type 0
 QueuesAreKept =
-    (default : ℕ) (t : Tables) (p : Program) (ss : List Step) (i : ℕ)
+    (default : ℕ) (t : Tables) (p : Program) (c : Configuration) (ss : List Step) (i : ℕ)
     → default ≤ 8
     → Lawful t p
-    → story default t p i start ss nothing .finished ++ queueOf (walk default t p start ss .configuration) i
-    ≡ story default t p i start ss nothing .pushed
+    → MayBegin default t p c
+    → story default t p i c ss (begun c i) .finished ++ queueOf (walk default t p c ss .configuration) i
+    ≡ story default t p i c ss (begun c i) .pushed

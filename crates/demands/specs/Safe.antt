@@ -7,12 +7,12 @@ use Rattle.model.specs.declared.Tables.{Tables}
 use Rattle.model.specs.declared.Program.{Program}
 use Rattle.model.specs.declared.Step.{Step}
 use Rattle.model.specs.declared.Configuration.{Configuration}
-use Rattle.model.specs.Empty.{start}
 use Rattle.model.specs.View.{isUse, instance, isServed, connection}
 use Rattle.read_spec.specs.Lawful.{Lawful}
 use Rattle.rules_spec.specs.Instance.{active, portsOf}
 use Rattle.rules_spec.specs.Walk.{walk}
 use Rattle.rules_spec.specs.Proper.{Joins}
+use Rattle.start_spec.specs.Permitted.{MayBegin}
 
 -- the connection in the slot `at` joins the use port q of i to a provide port, which is active
 pub record Served (t : Tables) (c : Configuration) (i q : ℕ) : Type 0 where
@@ -34,10 +34,11 @@ Safe t c =
     → active t (instance c i) q ≡ true
     → Served t c i q
 
--- a prefix of an answer is an answer, so this speaks of each accepted point
+-- from whatever a paper may begin with; a prefix of an answer is an answer, so this speaks of each accepted point
 unfoldable pub WalksAreSafe : Type 0
 WalksAreSafe =
-    (default : ℕ) (t : Tables) (p : Program) (ss : List Step)
+    (default : ℕ) (t : Tables) (p : Program) (c : Configuration) (ss : List Step)
     → default ≤ 8
     → Lawful t p
-    → Safe t (walk default t p start ss .configuration)
+    → MayBegin default t p c
+    → Safe t (walk default t p c ss .configuration)

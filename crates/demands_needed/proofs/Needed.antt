@@ -41,10 +41,11 @@ use Rattle.rules_spec.specs.Ports.{isOf, wouldLeave, wouldEnter, refusing, serv
 use Rattle.rules_spec.specs.PushB.{pushbCheck, pushed}
 use Rattle.rules_spec.specs.Step.{actionAt, action, numberBy, stepCheckWith, stepTo, step}
 use Rattle.rules_spec.specs.Wait.{waitCheck}
-use Rattle.rules_spec.specs.Walk.{oneMore, walkBy, walk, walkAnswer}
+use Rattle.rules_spec.specs.Walk.{oneMore, walkBy, walk, walkFrom}
 use Rattle.report_spec.specs.Report.{countText, portText, instanceText, instanceAt, connectionLine, linesFrom, instancesText, connectionsText, reportWith, report}
+use Rattle.start_spec.specs.Paper.{nothingUp}
 use Rattle.judge_spec.specs.Cases.{nexts}
-use Rattle.judge_spec.specs.Course.{short, read, both, course}
+use Rattle.judge_spec.specs.Course.{short, shortStart, outset, read, allUnder, course}
 use Rattle.judge_spec.specs.Judged.{afterWalk, inRoom, ending, judged, printing, printed}
 use Rattle.rules_spec.specs.Refusal.{serviceInUse, settle}
 use Rattle.rules_spec.specs.Action.{Action, add, wait}
@@ -86,14 +87,14 @@ record Leaves (x : Variant) (a : List ℕ) : Type 0 where
   ruled : walkedBy asRuled P+ a .refused ≡ serviceInUse
   allows : walkedBy x P+ a .refused ≡ 0
   present : instance (walkedBy x P+ a .configuration) 1 .present ≡ true
-  port : ltb 0 (portsOf (sheetTables P+) (instance (walkedBy x P+ a .configuration) 1)) ≡ true
-  fails : failsUnserved (sheetTables P+) (standing (walkedBy x P+ a .configuration)) (walkedBy x P+ a .configuration) 1 (instance (walkedBy x P+ a .configuration) 1) 0 ≡ true
+  port : ltb 0 (portsOf (sheetTables (nothingUp P+)) (instance (walkedBy x P+ a .configuration) 1)) ≡ true
+  fails : failsUnserved (sheetTables (nothingUp P+)) (standing (walkedBy x P+ a .configuration)) (walkedBy x P+ a .configuration) 1 (instance (walkedBy x P+ a .configuration) 1) 0 ≡ true
 
 -- so many times `next` on the sheet addWait are allowed, carry this out, and print `accepted=` and this digit
 record Waits (n : ℕ) (did : List Action) (digit : ℕ) : Type 0 where
-  allows : AllAllowed addWait (onward n)
-  does : deeds (sheetProgram addWait) 0 (answerSteps (onward n)) ≡ did
-  prints : getD (printed addWait (onward n)) 9 0 ≡ digit
+  allows : AllAllowed (nothingUp addWait) (onward n)
+  does : deeds (sheetProgram (nothingUp addWait)) 0 (answerSteps (onward n)) ≡ did
+  prints : getD (printed (nothingUp addWait) (onward n)) 9 0 ≡ digit
 
 record Computed : Type 0 where
   in-use : Leaves withoutInUse leftInUse
@@ -103,7 +104,7 @@ record Computed : Type 0 where
   tokens : TokensAloneIsNeeded
 
 computed : Computed
-unfolding member collect allBelow anyBelow noTables noProgram noAnswer start isServed entries inTable listOf queueOf put withQueue withServers withDone key digit numberFrom membersFrom list oneForm twoForm fourForm listForm listsForm digitsIn numberText membersBelow moreText listText maskText inTurn oneText headed withType withTransition withPort programOf withInstruction answerOf withStep dueLine countLineIn initialLine tranLine behaviorLine group portLine doId doNumber doEnds doLine stepId stepNumber stepLine each tranAt behaviorAt portAt typeLines instructionAt sheet stepAt answer instructionAction moveAction actionCheck effect concern addCheck added down closed zeroed renewed isOf isUsePort isProvidePort conCheck connected endCheck endTo enterRow enterTo mayLeave finishRow finishCheck finished fireRow fireTo active current endsAt leaving entering fired endedBy entered withQueued wouldLeave wouldEnter refusing serves blocks employs failsUnconnected failsUnserved failsRefusing failsInUse portCheck lowest concerned pushbCheck pushed actionAt action stepCheckWith stepTo step waitCheck oneMore walk walkAnswer tally countText portText instanceText instanceAt connectionLine linesFrom instancesText connectionsText reportWith report nexts short read both course afterWalk inRoom ending judged printing printed deeds between portCheckBy sheetTables sheetProgram answerSteps TokensAloneIsNeeded
+unfolding member collect allBelow anyBelow noTables noProgram noAnswer start isServed entries inTable listOf queueOf put withQueue withServers withDone key digit numberFrom membersFrom list oneForm twoForm fourForm listForm listsForm digitsIn numberText membersBelow moreText listText maskText inTurn oneText headed withType withTransition withPort programOf withInstruction answerOf withStep dueLine countLineIn initialLine tranLine behaviorLine group portLine doId doNumber doEnds doLine stepId stepNumber stepLine each tranAt behaviorAt portAt typeLines instructionAt sheet stepAt answer instructionAction moveAction actionCheck effect concern addCheck added down closed zeroed renewed isOf isUsePort isProvidePort conCheck connected endCheck endTo enterRow enterTo mayLeave finishRow finishCheck finished fireRow fireTo active current endsAt leaving entering fired endedBy entered withQueued wouldLeave wouldEnter refusing serves blocks employs failsUnconnected failsUnserved failsRefusing failsInUse portCheck lowest concerned pushbCheck pushed actionAt action stepCheckWith stepTo step waitCheck oneMore walk walkFrom tally countText portText instanceText instanceAt connectionLine linesFrom instancesText connectionsText reportWith report nexts short shortStart outset read allUnder course afterWalk inRoom ending judged printing printed deeds between portCheckBy sheetTables sheetProgram answerSteps TokensAloneIsNeeded
 computed = record {
   in-use = record { ruled = refl; allows = refl; present = refl; port = refl; fails = refl };
   ended = record { ruled = refl; allows = refl; present = refl; port = refl; fails = refl };

@@ -26,6 +26,7 @@ use Rattle.rules_spec.specs.Enter.{afterEnter, enterCheckBy}
 use Rattle.rules_spec.specs.Action.{Action, add, del, pushb, con, dcon, wait, fire, end, enter, finish, checkBy, concern}
 use Rattle.rules_spec.specs.Step.{action, numberBy, stepTo}
 use Rattle.rules_spec.specs.Walk.{walkBy, walk}
+use Rattle.start_spec.specs.Paper.{nothingUp}
 use Rattle.judge_spec.specs.Cases.{P+, answerWith}
 use Rattle.judge_spec.specs.Course.{defaultDepth}
 use Rattle.judge_spec.specs.Judged.{printed}
@@ -84,12 +85,12 @@ AsRuledIsTheRule =
 
 -- a sheet and an answer walked by a variant
 abbrev pub walkedBy : Variant → List ℕ → List ℕ → Walked
-walkedBy x s a = variantWalk x defaultDepth (sheetTables s) (sheetProgram s) start (answerSteps a)
+walkedBy x s a = variantWalk x defaultDepth (sheetTables (nothingUp s)) (sheetProgram (nothingUp s)) start (answerSteps a)
 
 -- demand 2 fails: the rules refuse a step with 36, the variant allows all steps and comes to a point that is not safe
 abbrev pub Unsafe : Variant → List ℕ → List ℕ → Type 0
 Unsafe x s a =
-    (walkedBy asRuled s a .refused ≡ serviceInUse) × (walkedBy x s a .refused ≡ 0) × ¬ Safe (sheetTables s) (walkedBy x s a .configuration)
+    (walkedBy asRuled s a .refused ≡ serviceInUse) × (walkedBy x s a .refused ≡ 0) × ¬ Safe (sheetTables (nothingUp s)) (walkedBy x s a .configuration)
 
 -- ---- without check 36: the provider leaves while its service is in use
 abbrev pub withoutInUse : Variant
@@ -144,10 +145,10 @@ onward n = answerWith n n ""
 -- demand 3 fails: both answers are allowed, they have the same projections, and their reports differ
 unfoldable pub WaitIsNeeded : Type 0
 WaitIsNeeded =
-    AllAllowed addWait (onward 1)
-    × AllAllowed addWait (onward 2)
-    × ((i : ℕ) → withoutWaits (projectionOn addWait (onward 1) i) ≡ withoutWaits (projectionOn addWait (onward 2) i))
-    × (printed addWait (onward 1) ≢ printed addWait (onward 2))
+    AllAllowed (nothingUp addWait) (onward 1)
+    × AllAllowed (nothingUp addWait) (onward 2)
+    × ((i : ℕ) → withoutWaits (projectionOn (nothingUp addWait) (onward 1) i) ≡ withoutWaits (projectionOn (nothingUp addWait) (onward 2) i))
+    × (printed (nothingUp addWait) (onward 1) ≢ printed (nothingUp addWait) (onward 2))
 
 -- ---- with a provider refusing only where its firing or entering would pass 34 to 36 too
 

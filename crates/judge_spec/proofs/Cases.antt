@@ -31,10 +31,11 @@ use Rattle.rules_spec.specs.Ports.{isOf, wouldLeave, wouldEnter, refusing, serv
 use Rattle.rules_spec.specs.PushB.{pushbCheck, pushed}
 use Rattle.rules_spec.specs.Step.{actionAt, action, stepCheckWith, stepTo, step}
 use Rattle.rules_spec.specs.Wait.{waitCheck}
-use Rattle.rules_spec.specs.Walk.{oneMore, walk, walkAnswer}
+use Rattle.rules_spec.specs.Walk.{oneMore, walk, walkFrom}
 use Rattle.report_spec.specs.Faults.{textText, faultText}
 use Rattle.report_spec.specs.Report.{countText, portText, instanceText, connectionText, instanceAt, connectionLine, linesFrom, instancesText, connectionsText, reportWith, report}
-use Rattle.judge_spec.specs.Course.{short, read, both, course}
+use Rattle.start_spec.specs.Paper.{Paper, nothingUp}
+use Rattle.judge_spec.specs.Course.{short, shortStart, outset, read, allUnder, course}
 use Rattle.judge_spec.specs.Judged.{faultLine, faultPlace, afterFault, noRoom, stepPlace, afterWalk, inRoom, ending, judged, over, printing, printed}
 use Rattle.judge_spec.specs.Cases.{P, P+, nexts, answerWith, table, AllMet}
 use Rattle.judge_spec.specs.Room.{SixWhereShort}
@@ -45,7 +46,7 @@ abbrev pub only : ℕ → List ℕ
 only n = answerWith n n ""
 
 -- what comes of two texts: the two counts, and the first digit of the report, in whatever buffer, and of the print
-pub record Told (s a : List ℕ) (accepted refused digit : ℕ) : Type 0 where
+pub record Told (s : Paper) (a : List ℕ) (accepted refused digit : ℕ) : Type 0 where
   pub accepted-is : judged s a 8192 .verdict .accepted ≡ accepted
   pub refused-is : judged s a 8192 .verdict .refused ≡ refused
   pub digit-is : (old : List ℕ) → getD (over (judged s a 8192 .bytes) old) 9 0 ≡ digit
@@ -53,15 +54,15 @@ pub record Told (s a : List ℕ) (accepted refused digit : ℕ) : Type 0 where
 
 pub record Computed : Type 0 where
   pub marked : AllMet table
-  pub none : Told P (only 0) 0 0 48
-  pub six : Told P (only 6) 5 10 53
-  pub all : Told P+ (only 6) 6 0 54
-  pub counted : ending P (only 6) 8192 (countingCourse P (only 6)) .verdict .accepted ≡ 6
+  pub none : Told (nothingUp P) (only 0) 0 0 48
+  pub six : Told (nothingUp P) (only 6) 5 10 53
+  pub all : Told (nothingUp P+) (only 6) 6 0 54
+  pub counted : ending (nothingUp P) (only 6) 8192 (countingCourse (nothingUp P) (only 6)) .verdict .accepted ≡ 6
   pub said : stepsSaid (only 6) ≡ 6
   pub short : SixWhereShort
 
 pub computed : Computed
-unfolding member collect allBelow anyBelow noTables noProgram noAnswer start isServed entries inTable listOf queueOf put withQueue withServers withDone key digit numberFrom membersFrom list oneForm twoForm fourForm listForm listsForm digitsIn numberText membersBelow moreText listText maskText inTurn oneText twoText threeText fourText headed withType withTransition withPort programOf withInstruction answerOf withStep dueLine countLineIn initialLine tranLine behaviorLine group portLine doId doNumber doEnds doLine stepId stepNumber stepLine each upToLf lfs lineNumber lineStart tranAt behaviorAt portAt typeLines instructionAt sheet stepAt answer instructionAction moveAction actionCheck effect concern addCheck added down closed zeroed renewed isOf isUsePort isProvidePort conCheck connected sameConnection dconCheck disconnected namedBy delCheck deleted endCheck endTo enterRow enterCheck enterTo mayLeave finishRow finishCheck finished fireRow fireCheck fireTo active current endsAt leaving entering fired endedBy entered withQueued wouldLeave wouldEnter refusing serves blocks employs failsUnconnected failsUnserved failsRefusing failsInUse portCheck lowest concerned pushbCheck pushed actionAt action stepCheckWith stepTo step waitCheck oneMore walk walkAnswer textText faultText tally countText portText instanceText connectionText instanceAt connectionLine linesFrom instancesText connectionsText reportWith report nexts short read both course faultLine faultPlace afterFault noRoom stepPlace afterWalk inRoom ending judged over printing printed countOn countingCourse stepsSaid SixWhereShort
+unfolding member collect allBelow anyBelow noTables noProgram noAnswer start isServed entries inTable listOf queueOf put withQueue withServers withDone key digit numberFrom membersFrom list oneForm twoForm fourForm listForm listsForm digitsIn numberText membersBelow moreText listText maskText inTurn oneText twoText threeText fourText headed withType withTransition withPort programOf withInstruction answerOf withStep dueLine countLineIn initialLine tranLine behaviorLine group portLine doId doNumber doEnds doLine stepId stepNumber stepLine each upToLf lfs lineNumber lineStart tranAt behaviorAt portAt typeLines instructionAt sheet stepAt answer instructionAction moveAction actionCheck effect concern addCheck added down closed zeroed renewed isOf isUsePort isProvidePort conCheck connected sameConnection dconCheck disconnected namedBy delCheck deleted endCheck endTo enterRow enterCheck enterTo mayLeave finishRow finishCheck finished fireRow fireCheck fireTo active current endsAt leaving entering fired endedBy entered withQueued wouldLeave wouldEnter refusing serves blocks employs failsUnconnected failsUnserved failsRefusing failsInUse portCheck lowest concerned pushbCheck pushed actionAt action stepCheckWith stepTo step waitCheck oneMore walk walkFrom textText faultText tally countText portText instanceText connectionText instanceAt connectionLine linesFrom instancesText connectionsText reportWith report nexts short shortStart outset read allUnder course faultLine faultPlace afterFault noRoom stepPlace afterWalk inRoom ending judged over printing printed countOn countingCourse stepsSaid SixWhereShort
 computed = record {
   marked = (refl, (refl, ((refl, refl, refl), ((refl, refl, refl), ((refl, refl, refl), ((refl, refl, refl), ((refl, refl, refl), ((refl, refl, refl), ((refl, refl, refl), ((refl, refl, refl), ((refl, refl, refl), ((refl, refl, refl), ((refl, refl, refl), ((refl, refl, refl), ((refl, refl, refl), tt)))))))))))))));
   none = record { accepted-is = refl; refused-is = refl; digit-is = λ old. refl; prints = refl };

@@ -5,3 +5,4 @@ pub mod Room
 pub mod Shams
 pub mod Once
 pub mod Listed
+pub mod StartCases

@@ -7,6 +7,7 @@ use Rattle.model.specs.declared.Concerned.{Concerned}
 use Rattle.model.specs.declared.Concerned.the-variants.{NoPort, UsePort}
 use Rattle.item_spec.specs.Reader.{bytes}
 use Rattle.item_spec.specs.Write.{oneText}
+use Rattle.start_spec.specs.Paper.{nothingUp}
 use Rattle.judge_spec.specs.Judged.{judged, printed, lentBytes}
 
 -- the pair used in examples, where the provide port has this group
@@ -87,11 +88,11 @@ table =
 -- what the judge comes to
 abbrev pub Comes : List ℕ → List ℕ → ℕ → ℕ → Concerned → Type 0
 Comes s a n k q =
-    (judged s a lentBytes .verdict .accepted ≡ n) × (judged s a lentBytes .verdict .refused ≡ k) × (judged s a lentBytes .verdict .port ≡ q)
+    (judged (nothingUp s) a lentBytes .verdict .accepted ≡ n) × (judged (nothingUp s) a lentBytes .verdict .refused ≡ k) × (judged (nothingUp s) a lentBytes .verdict .port ≡ q)
 
 -- a case is met
 abbrev pub Met : List ℕ → List ℕ → Expected → Type 0
-Met s a (prints r) = printed s a ≡ r
+Met s a (prints r) = printed (nothingUp s) a ≡ r
 Met s a (ends n k) = Comes s a n k NoPort
 Met s a (endsAt n k q) = Comes s a n k (UsePort q)
 

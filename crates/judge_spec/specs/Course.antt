@@ -1,4 +1,4 @@
--- How far the two texts come: "length of the sheet, of the answer, then the sheet's lines, the answer's lines, the steps".
+-- How far the texts come: "The three lengths come first (sheet, start, answer), then the lines in that order", then the steps.
 use Prim.Native.Nat.{ℕ, _-_}
 use mathlib.Core.List.{List}
 use mathlib.Core.Bool.{true, false}
@@ -10,14 +10,20 @@ use Rattle.model.specs.declared.Tables.{Tables}
 use Rattle.model.specs.declared.Program.{Program}
 use Rattle.model.specs.declared.Answer.{Answer}
 use Rattle.model.specs.declared.Walked.{Walked}
+use Rattle.model.specs.declared.Configuration.{Configuration}
+use Rattle.model.specs.Empty.{start}
 use Rattle.read_spec.specs.Limits.{lengthOk}
 use Rattle.read_spec.specs.Lines.{Lines, on, stop}
 use Rattle.read_spec.specs.Texts.{sheet, answer}
-use Rattle.rules_spec.specs.Walk.{walkAnswer}
+use Rattle.rules_spec.specs.PushB.{depthOf}
+use Rattle.rules_spec.specs.Walk.{walkFrom}
+use Rattle.start_spec.specs.Paper.{Beginning, nothing, given, Paper}
+use Rattle.start_spec.specs.Text.{startLengthOk, startLines}
+use Rattle.start_spec.specs.Served.{someUnserved, unservedAtStart}
 
 infixl 20 _>>=_
 infixl 20 _>>_
--- faulty: a text is refused, 1 to 5, at a place of it. reached: what comes of two texts that are read
+-- faulty: a text is refused, 1 to 5 or 50, at a place of it. reached: what comes of texts that are read
 pub data Course (A : Type 0) : Type 0 where
   faulty : Text → ℕ → ℕ → Course A
   reached : A → Course A
@@ -50,20 +56,38 @@ sheetCourse s = do
   short text.Sheet s
   read text.Sheet sheet s
 
--- what the two texts say, where both are read
-unfoldable pub both : List ℕ → List ℕ → Course (Tables × Program × Answer)
-both s a = do
-  short text.Sheet s
+-- "with 1 past 8,192 bytes"
+unfoldable pub shortStart : Beginning → Course (Unit {0})
+shortStart nothing = reached tt
+shortStart (given x) = elim (startLengthOk (length x)) [ true ↦ reached tt | false ↦ faulty text.Start tooLong 0 ]
+
+-- "50 for an unserved use port, after the start's last line, answered as 1 is"
+unfoldable pub served : Tables → Configuration → Course Configuration
+served t c = elim (someUnserved t c) [ true ↦ faulty text.Start unservedAtStart 0 | false ↦ reached c ]
+
+-- "no file: nothing up"; else what the start's lines give, where 0 stands for d
+unfoldable pub outset : ℕ → Tables → Beginning → Course Configuration
+outset d t nothing = reached start
+outset d t (given x) = do
+  c ← read text.Start (startLines (depthOf d t) t) x
+  served t c
+
+-- what the texts say, where all are read
+unfoldable pub allUnder : ℕ → Paper → List ℕ → Course (Tables × Program × Configuration × Answer)
+allUnder d s a = do
+  short text.Sheet (s .sheet)
+  shortStart (s .beginning)
   short text.Answer a
-  (t, p) ← read text.Sheet sheet s
+  (t, p) ← read text.Sheet sheet (s .sheet)
+  c ← outset d t (s .beginning)
   y ← read text.Answer answer a
-  reached (t, p, y)
+  reached (t, p, c, y)
 
 -- where 0 stands for d
-abbrev pub courseUnder : ℕ → List ℕ → List ℕ → Course Walked
+abbrev pub courseUnder : ℕ → Paper → List ℕ → Course Walked
 courseUnder d s a = do
-  (t, p, y) ← both s a
-  reached (walkAnswer d t p y)
+  (t, p, c, y) ← allUnder d s a
+  reached (walkFrom d t p c y)
 
-unfoldable pub course : List ℕ → List ℕ → Course Walked
+unfoldable pub course : Paper → List ℕ → Course Walked
 course s a = courseUnder defaultDepth s a

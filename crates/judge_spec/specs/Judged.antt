@@ -1,7 +1,7 @@
--- What becomes of two texts and a lent buffer: the verdict, the bytes that go into the buffer, the place of the line at fault, the print.
+-- What becomes of a paper, an answer and a lent buffer: the verdict, the bytes that go into the buffer, the place of the line at fault, the print.
 use Prim.Native.Nat.{ℕ, _+_}
 use mathlib.Core.List.{List, [], _++_}
-use mathlib.Core.Bool.{true, false}
+use mathlib.Core.Bool.{Bool, true, false, _||_}
 use lib.Dec.{leb, eqb}
 use lib.ListN.{length, drop}
 use Rattle.item_spec.specs.Refusal.{tooLong, bufferShort}
@@ -12,6 +12,8 @@ use Rattle.model.specs.declared.Walked.{Walked}
 use Rattle.read_spec.specs.Place.{upToLf, lineNumber, lineStart}
 use Rattle.report_spec.specs.Report.{report}
 use Rattle.report_spec.specs.Faults.{faultText}
+use Rattle.start_spec.specs.Paper.{Paper, startBytes}
+use Rattle.start_spec.specs.Served.{unservedAtStart}
 use Rattle.judge_spec.specs.declared.Verdict.{Verdict}
 use Rattle.judge_spec.specs.declared.Place.{Place}
 use Rattle.judge_spec.specs.Course.{Course, faulty, reached, course}
@@ -27,6 +29,19 @@ textOf text.Neither s a = []
 textOf text.Sheet s a = s
 textOf text.Answer s a = a
 textOf text.Times s a = []
+textOf text.Start s a = []
+
+-- the same of a paper
+abbrev pub paperText : Text → Paper → List ℕ → List ℕ
+paperText text.Neither s a = []
+paperText text.Sheet s a = s .sheet
+paperText text.Answer s a = a
+paperText text.Times s a = []
+paperText text.Start s a = startBytes (s .beginning)
+
+-- 1, and 50, which is "answered as 1 is"
+abbrev pub lineless : ℕ → Bool
+lineless n = eqb n tooLong || eqb n unservedAtStart
 
 -- "for 2 to 5, the line at fault, up to its LF or the text's end"; "for a step, its line"
 abbrev pub lineAt : Text → ℕ → List ℕ → Place
@@ -37,11 +52,11 @@ emptyAt x at = record { text = x; start = at; size = 0 }
 
 -- "`line=` (from 1; one past the last when the text ended early; 0 for number 1)"
 unfoldable pub faultLine : ℕ → ℕ → List ℕ → ℕ
-faultLine n at s = elim (eqb n tooLong) [ true ↦ 0 | false ↦ lineNumber s at ]
+faultLine n at s = elim (lineless n) [ true ↦ 0 | false ↦ lineNumber s at ]
 
 -- "for 1, the empty start of that text"
 unfoldable pub faultPlace : Text → ℕ → ℕ → List ℕ → Place
-faultPlace x n at s = elim (eqb n tooLong) [ true ↦ emptyAt x 0 | false ↦ lineAt x at s ]
+faultPlace x n at s = elim (lineless n) [ true ↦ emptyAt x 0 | false ↦ lineAt x at s ]
 
 -- "After 1 to 6 the counts in the result are 0 and the report buffer holds its old bytes."
 unfoldable pub afterFault : Text → ℕ → ℕ → List ℕ → Judgement
@@ -83,19 +98,19 @@ afterWalk w r a = record {
 unfoldable pub inRoom : ℕ → Walked → List ℕ → List ℕ → Judgement
 inRoom room w r a = elim (leb (length r) room) [ true ↦ afterWalk w r a | false ↦ noRoom ]
 
-unfoldable pub ending : List ℕ → List ℕ → ℕ → Course Walked → Judgement
-ending s a room (faulty x n at) = afterFault x n at (textOf x s a)
+unfoldable pub ending : Paper → List ℕ → ℕ → Course Walked → Judgement
+ending s a room (faulty x n at) = afterFault x n at (paperText x s a)
 ending s a room (reached w) = inRoom room w (report w) a
 
--- a sheet, an answer and a lent buffer of so many bytes
-unfoldable pub judged : List ℕ → List ℕ → ℕ → Judgement
+-- a paper, an answer and a lent buffer of so many bytes
+unfoldable pub judged : Paper → List ℕ → ℕ → Judgement
 judged s a room = ending s a room (course s a)
 
 -- the buffer afterwards: "Bytes past the report keep their values."
 unfoldable pub over : List ℕ → List ℕ → List ℕ
 over new old = new ++ drop (length new) old
 
-abbrev pub buffer : List ℕ → List ℕ → List ℕ → List ℕ
+abbrev pub buffer : Paper → List ℕ → List ℕ → List ℕ
 buffer s a old = over (judged s a (length old) .bytes) old
 
 -- "It lends 8,192 bytes"
@@ -103,9 +118,9 @@ abbrev pub lentBytes : ℕ
 lentBytes = 8192
 
 -- what the `judge` program prints: "It lends 8,192 bytes."
-unfoldable pub printing : List ℕ → List ℕ → Course Walked → List ℕ
-printing s a (faulty x n at) = faultText x (faultLine n at (textOf x s a)) n
+unfoldable pub printing : Paper → List ℕ → Course Walked → List ℕ
+printing s a (faulty x n at) = faultText x (faultLine n at (paperText x s a)) n
 printing s a (reached w) = inRoom lentBytes w (report w) a .bytes
 
-unfoldable pub printed : List ℕ → List ℕ → List ℕ
+unfoldable pub printed : Paper → List ℕ → List ℕ
 printed s a = printing s a (course s a)

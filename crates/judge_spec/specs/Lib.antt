@@ -7,3 +7,5 @@ pub mod Room
 pub mod Shams
 pub mod Once
 pub mod Listed
+pub mod StartCases
+pub mod Next

@@ -18,7 +18,7 @@ use Rattle.model.specs.declared.Answer.{Answer}
 use Rattle.model.specs.declared.Walked.{Walked}
 use Rattle.model.specs.declared.Text.{Text}
 use Rattle.model.specs.declared.Text.the-variants as text
-use Rattle.model.specs.Empty.{start}
+use Rattle.model.specs.declared.Configuration.{Configuration}
 use Rattle.model.specs.View.{stepsOf}
 use Rattle.read_spec.specs.Limits.{lengthOk, depthOk, typesOk, programOk}
 use Rattle.read_spec.specs.Lines.{Run, on, stop, Lines, runOn, line, each, atEnd}
@@ -27,14 +27,17 @@ use Rattle.read_spec.specs.Kinds.{dueLine, countLineIn, countLine}
 use Rattle.read_spec.specs.Fill.{headed, programOf}
 use Rattle.read_spec.specs.Texts.{typeLines, instructionAt, sheet, answer}
 use Rattle.rules_spec.specs.PushB.{depthOf}
-use Rattle.rules_spec.specs.Walk.{walkAnswer}
-use Rattle.judge_spec.specs.Course.{Course, faulty, reached, goOn, defaultDepth, short, read, sheetCourse, both, courseUnder, course}
+use Rattle.rules_spec.specs.Walk.{walkFrom}
+use Rattle.start_spec.specs.Paper.{Beginning, nothing, given, from}
+use Rattle.start_spec.specs.Text.{startLengthOk, startLines}
+use Rattle.start_spec.specs.Served.{someUnserved}
+use Rattle.judge_spec.specs.Course.{Course, faulty, reached, goOn, defaultDepth, short, read, shortStart, served, outset, sheetCourse, allUnder, courseUnder, course}
 use Rattle.judge_spec.specs.Judged.{ending, judged, printing, printed}
 use Rattle.report_spec.specs.Report.{countText}
 use Rattle.write_spec.proofs.Took.{takes-due, takes-count, not-on, on-value, run-then, line-then}
 use Rattle.rewrite_spec.specs.Under.{judgedUnder, printedUnder, UnderTheNewRule}
 use Rattle.rewrite_spec.specs.Rewritten.{oldDefault, oldHead, newHead, sheetAfter, rewritten, NothingElseAltered, LengthStays, AnotherDepthUnchanged, RewrittenOnce, JudgedAlike}
-use Rattle.rewrite_spec.proofs.Depth.{deep, walk-same, mapRun, map-next, types-deep}
+use Rattle.rewrite_spec.proofs.Depth.{deep, walk-same, begins-deep, mapRun, map-next, types-deep}
 
 -- ---- what is read
 -- the lines of a sheet of depth d from its `types=` line on
@@ -90,9 +93,10 @@ unfolding mapRun deeper
 rewritten-read x r t p q = new-head x ∙ tail-deep 4 x ∙ ap (mapRun (deeper 4)) (sym (old-head x) ∙ q)
 
 -- ---- what is judged
--- the answer's part of the course
-answering : ℕ → Tables → Program → List ℕ → Course Walked
-answering d t p a = goOn (short text.Answer a) λ _. goOn (read text.Answer answer a) λ y. reached (walkAnswer d t p y)
+-- what comes after the sheet
+answering : ℕ → Tables → Program → Beginning → List ℕ → Course Walked
+answering d t p g a =
+    goOn (shortStart g) λ _. goOn (short text.Answer a) λ _. goOn (outset d t g) λ c. goOn (read text.Answer answer a) λ y. reached (walkFrom d t p c y)
 
 short-on : (x : Text) (s : List ℕ) → lengthOk (length s) ≡ true → short x s ≡ reached tt
 unfolding short
@@ -102,50 +106,105 @@ read-on : {A : Type 0} (x : Text) (m : Lines A) (s r : List ℕ) (y : A) → m s
 unfolding read
 read-on x m s r y q = rw (q, read)
 
-course-is : (d : ℕ) (s a r : List ℕ) (t : Tables) (p : Program) → lengthOk (length s) ≡ true → sheet s ≡ on (t, p) r → courseUnder d s a ≡ answering d t p a
-unfolding both answering
-course-is d s a r t p l q = rw (short-on text.Sheet s l, read-on text.Sheet sheet s r (t, p) q) (go (short text.Answer a) (read text.Answer answer a))
+course-is : (d : ℕ) (s a r : List ℕ) (g : Beginning) (t : Tables) (p : Program) → lengthOk (length s) ≡ true → sheet s ≡ on (t, p) r → courseUnder d (from s g) a ≡ answering d t p g a
+unfolding allUnder answering
+course-is d s a r g t p l q =
+    rw (short-on text.Sheet s l, read-on text.Sheet sheet s r (t, p) q) (go (shortStart g) (short text.Answer a) (outset d t g) (read text.Answer answer a))
   where
-    go : (m : Course (Unit {0})) (n : Course Answer)
-        → goOn (goOn m λ _. goOn n λ y. reached (t, p, y)) (λ (x : Tables × Program × Answer). reached (walkAnswer d (x .0) (x .1) (x .2)))
-        ≡ goOn m λ _. goOn n λ y. reached (walkAnswer d t p y)
-    go (faulty x k at) n = refl
-    go (reached tt) (faulty x k at) = refl
-    go (reached tt) (reached y) = refl
+    go : (k : Course (Unit {0})) (m : Course (Unit {0})) (b : Course Configuration) (n : Course Answer)
+        → goOn (goOn k λ _. goOn m λ _. goOn b λ c. goOn n λ y. reached (t, p, c, y)) (λ (x : Tables × Program × Configuration × Answer). reached (walkFrom d (x .0) (x .1) (x .2) (x .3)))
+        ≡ goOn k λ _. goOn m λ _. goOn b λ c. goOn n λ y. reached (walkFrom d t p c y)
+    go (faulty x k at) m b n = refl
+    go (reached tt) (faulty x k at) b n = refl
+    go (reached u) (reached v) (faulty x k at) n = refl
+    go (reached u) (reached v) (reached c) (faulty x k at) = refl
+    go (reached u) (reached v) (reached c) (reached y) = refl
 
--- beside a sheet that is read only the answer can be at fault
-module _ {C : Type 0} (f : List ℕ → Course Walked → C) (same : (s r : List ℕ) (n at : ℕ) → f s (faulty text.Answer n at) ≡ f r (faulty text.Answer n at))
-    (walked : (s r : List ℕ) (w : Walked) → f s (reached w) ≡ f r (reached w)) where
-  in-answer : (d : ℕ) (t : Tables) (p : Program) (a s r : List ℕ) → f s (answering d t p a) ≡ f r (answering d t p a)
-  unfolding answering short read
-  in-answer d t p a s r = by-test (lengthOk (length a)) (λ e. rw (e, short) (go (answer a))) (λ e. rw (e, short) (same s r 1 0))
-    where
-      go : (m : Run Answer) → f s (goOn (elim m [ on y q ↦ reached y | stop n q ↦ faulty text.Answer n (length a - length q) ]) λ y. reached (walkAnswer d t p y))
-          ≡ f r (goOn (elim m [ on y q ↦ reached y | stop n q ↦ faulty text.Answer n (length a - length q) ]) λ y. reached (walkAnswer d t p y))
-      go (on y q) = walked s r _
-      go (stop n q) = same s r n _
+-- beside a sheet that is read only the start and the answer can be at fault
+data Later {A : Type 0} : Course A → Type 0 where
+  in-start : {n at : ℕ} → Later (faulty text.Start n at)
+  in-answer : {n at : ℕ} → Later (faulty text.Answer n at)
+  reaches : {a : A} → Later (reached a)
+
+later-then : {A B : Type 0} {m : Course A} (f : A → Course B) → Later m → ((a : A) → Later (f a)) → Later (goOn m f)
+later-then f in-start h = in-start
+later-then f in-answer h = in-answer
+later-then f (reaches {a}) h = h a
+
+later-length : (g : Beginning) → Later (shortStart g)
+unfolding shortStart
+later-length nothing = reaches
+later-length (given x) = by-test (startLengthOk (length x)) (λ e. rw (e, shortStart) reaches) (λ e. rw (e, shortStart) in-start)
+
+later-served : (t : Tables) (c : Configuration) → Later (served t c)
+unfolding served
+later-served t c = by-test (someUnserved t c) (λ e. rw (e, served) in-start) (λ e. rw (e, served) reaches)
+
+later-begins : (d : ℕ) (t : Tables) (g : Beginning) → Later (outset d t g)
+unfolding outset read
+later-begins d t nothing = reaches
+later-begins d t (given x) = go (startLines (depthOf d t) t x)
+  where
+    go : (z : Run Configuration) → Later (goOn (elim z as (λ _. Course Configuration) [ on c r ↦ reached c | stop n r ↦ faulty text.Start n (length x - length r) ]) (served t))
+    go (on c r) = later-served t c
+    go (stop n r) = in-start
+
+later-short : (a : List ℕ) → Later (short text.Answer a)
+unfolding short
+later-short a = by-test (lengthOk (length a)) (λ e. rw (e, short) reaches) (λ e. rw (e, short) in-answer)
+
+later-answer : (a : List ℕ) → Later (read text.Answer answer a)
+unfolding read
+later-answer a = go (answer a)
+  where
+    go : (z : Run Answer) → Later {A = Answer} (elim z [ on y r ↦ reached y | stop n r ↦ faulty text.Answer n (length a - length r) ])
+    go (on y r) = reaches
+    go (stop n r) = in-answer
+
+later : (d : ℕ) (t : Tables) (p : Program) (g : Beginning) (a : List ℕ) → Later (answering d t p g a)
+unfolding answering
+later d t p g a =
+    later-then _ (later-length g) (λ _.
+    later-then _ (later-short a) (λ _.
+    later-then _ (later-begins d t g) (λ c. later-then _ (later-answer a) (λ y. reaches))))
+
+-- so that the sheet's bytes aren't looked at
+ends-alike : (s r a : List ℕ) (g : Beginning) (room : ℕ) {z : Course Walked} → Later z → ending (from r g) a room z ≡ ending (from s g) a room z
+unfolding ending
+ends-alike s r a g room in-start = refl
+ends-alike s r a g room in-answer = refl
+ends-alike s r a g room reaches = refl
+
+prints-alike : (s r a : List ℕ) (g : Beginning) {z : Course Walked} → Later z → printing (from r g) a z ≡ printing (from s g) a z
+unfolding printing
+prints-alike s r a g in-start = refl
+prints-alike s r a g in-answer = refl
+prints-alike s r a g reaches = refl
 
 -- what 0 stands for is the only difference
-answered-alike : (d e x : ℕ) (t : Tables) (p : Program) (a : List ℕ) → depthOf d t ≡ depthOf e (deep x t) → answering d t p a ≡ answering e (deep x t) p a
-unfolding answering walkAnswer
-answered-alike d e x t p a same = go (short text.Answer a) (read text.Answer answer a)
+answered-alike : (d e x : ℕ) (t : Tables) (p : Program) (g : Beginning) (a : List ℕ) → depthOf d t ≡ depthOf e (deep x t) → answering d t p g a ≡ answering e (deep x t) p g a
+unfolding answering walkFrom
+answered-alike d e x t p g a same = rw (begins-deep d e x t same g) (go (shortStart g) (short text.Answer a) (outset e (deep x t) g) (read text.Answer answer a))
   where
-    go : (m : Course (Unit {0})) (n : Course Answer) → (goOn m λ _. goOn n λ y. reached (walkAnswer d t p y)) ≡ (goOn m λ _. goOn n λ y. reached (walkAnswer e (deep x t) p y))
-    go (faulty x k at) n = refl
-    go (reached tt) (faulty x k at) = refl
-    go (reached tt) (reached y) = ap reached (walk-same d e x t same p (stepsOf y) start)
+    go : (k : Course (Unit {0})) (m : Course (Unit {0})) (b : Course Configuration) (n : Course Answer)
+        → (goOn k λ _. goOn m λ _. goOn b λ c. goOn n λ y. reached (walkFrom d t p c y)) ≡ (goOn k λ _. goOn m λ _. goOn b λ c. goOn n λ y. reached (walkFrom e (deep x t) p c y))
+    go (faulty x k at) m b n = refl
+    go (reached tt) (faulty x k at) b n = refl
+    go (reached u) (reached v) (faulty x k at) n = refl
+    go (reached u) (reached v) (reached c) (faulty x k at) = refl
+    go (reached u) (reached v) (reached c) (reached y) = ap reached (walk-same d e x t same p (stepsOf y) c)
 
 -- two sheets that are read, the second with the depth x
-module _ (s r a s₀ r₀ : List ℕ) (t : Tables) (p : Program) (x : ℕ) (ls : lengthOk (length s) ≡ true) (lr : lengthOk (length r) ≡ true)
+module _ (s r a s₀ r₀ : List ℕ) (g : Beginning) (t : Tables) (p : Program) (x : ℕ) (ls : lengthOk (length s) ≡ true) (lr : lengthOk (length r) ≡ true)
     (qs : sheet s ≡ on (t, p) s₀) (qr : sheet r ≡ on (deep x t, p) r₀) (same : depthOf oldDefault t ≡ depthOf defaultDepth (deep x t)) where
-  courses : courseUnder defaultDepth r a ≡ answering oldDefault t p a
-  courses = course-is defaultDepth r a r₀ (deep x t) p lr qr ∙ sym (answered-alike oldDefault defaultDepth x t p a same)
+  courses : courseUnder defaultDepth (from r g) a ≡ answering oldDefault t p g a
+  courses = course-is defaultDepth r a r₀ g (deep x t) p lr qr ∙ sym (answered-alike oldDefault defaultDepth x t p g a same)
 
-  alike : ((room : ℕ) → judgedUnder defaultDepth r a room ≡ judgedUnder oldDefault s a room) × (printedUnder defaultDepth r a ≡ printedUnder oldDefault s a)
-  unfolding judgedUnder printedUnder ending printing
+  alike : ((room : ℕ) → judgedUnder defaultDepth (from r g) a room ≡ judgedUnder oldDefault (from s g) a room) × (printedUnder defaultDepth (from r g) a ≡ printedUnder oldDefault (from s g) a)
+  unfolding judgedUnder printedUnder
   alike = (
-    λ room. ap (ending r a room) courses ∙ in-answer (λ l m. ending l a room m) (λ _ _ _ _. refl) (λ _ _ _. refl) oldDefault t p a r s ∙ ap (ending s a room) (sym (course-is oldDefault s a s₀ t p ls qs)),
-    ap (printing r a) courses ∙ in-answer (λ l m. printing l a m) (λ _ _ _ _. refl) (λ _ _ _. refl) oldDefault t p a r s ∙ ap (printing s a) (sym (course-is oldDefault s a s₀ t p ls qs)),
+    λ room. ap (ending (from r g) a room) courses ∙ ends-alike s r a g room (later oldDefault t p g a) ∙ ap (ending (from s g) a room) (sym (course-is oldDefault s a s₀ g t p ls qs)),
+    ap (printing (from r g) a) courses ∙ prints-alike s r a g (later oldDefault t p g a) ∙ ap (printing (from s g) a) (sym (course-is oldDefault s a s₀ g t p ls qs)),
   )
 
 -- ---- the claims
@@ -188,17 +247,17 @@ nothing-else-altered s r q = let c = came s r q in by-test (eqb (c .t .depth) 0)
 
 pub judged-alike : JudgedAlike
 unfolding JudgedAlike
-judged-alike s r a q = let c = came s r q in by-test (eqb (c .t .depth) 0) (new c) (old c)
+judged-alike s r a g q = let c = came s r q in by-test (eqb (c .t .depth) 0) (new c) (old c)
   where
-    new : (c : Came s r) → eqb (c .t .depth) 0 ≡ true → ((room : ℕ) → judgedUnder defaultDepth r a room ≡ judgedUnder oldDefault s a room) × (printedUnder defaultDepth r a ≡ printedUnder oldDefault s a)
+    new : (c : Came s r) → eqb (c .t .depth) 0 ≡ true → ((room : ℕ) → judgedUnder defaultDepth (from r g) a room ≡ judgedUnder oldDefault (from s g) a room) × (printedUnder defaultDepth (from r g) a ≡ printedUnder oldDefault (from s g) a)
     new c e =
         let (x, is, anew) = anew s r c e in
-        alike s r a (c .rest) (c .rest) (c .t) (c .p) 4 (c .short-is) (rw anew (rw is at (c .short-is))) (c .sheet-is) (rw anew (rewritten-read x (c .rest) (c .t) (c .p) (rw is at (c .sheet-is)))) (rw e)
+        alike s r a (c .rest) (c .rest) g (c .t) (c .p) 4 (c .short-is) (rw anew (rw is at (c .short-is))) (c .sheet-is) (rw anew (rewritten-read x (c .rest) (c .t) (c .p) (rw is at (c .sheet-is)))) (rw e)
 
-    old : (c : Came s r) → eqb (c .t .depth) 0 ≡ false → ((room : ℕ) → judgedUnder defaultDepth r a room ≡ judgedUnder oldDefault s a room) × (printedUnder defaultDepth r a ≡ printedUnder oldDefault s a)
+    old : (c : Came s r) → eqb (c .t .depth) 0 ≡ false → ((room : ℕ) → judgedUnder defaultDepth (from r g) a room ≡ judgedUnder oldDefault (from s g) a room) × (printedUnder defaultDepth (from r g) a ≡ printedUnder oldDefault (from s g) a)
     old c e =
         let same = as-it-was s r c e in
-        alike s r a (c .rest) (c .rest) (c .t) (c .p) (c .t .depth) (c .short-is) (rw same (c .short-is)) (c .sheet-is) (rw same (c .sheet-is)) (rw e)
+        alike s r a (c .rest) (c .rest) g (c .t) (c .p) (c .t .depth) (c .short-is) (rw same (c .short-is)) (c .sheet-is) (rw same (c .sheet-is)) (rw e)
 
 pub length-stays : LengthStays
 unfolding LengthStays NothingElseAltered

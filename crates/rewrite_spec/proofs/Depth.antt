@@ -1,6 +1,7 @@
 -- The tables with another depth: the reader keeps it, and a walk looks at it only through what it stands for.
 -- Assumes nothing.
-use Prim.Native.Nat.{ℕ, zero, suc, _*_}
+use Prim.Native.Nat.{ℕ, zero, suc, _*_, _-_}
+use lib.ListN.{length}
 use mathlib.Core.List.{List, []}
 use mathlib.Core.Path.{_≡_, refl, ap, _∙_}
 use Rattle.item_spec.specs.Reader.{bytes}
@@ -27,6 +28,12 @@ use Rattle.rules_spec.specs.Action.{concern, Action, add, del, pushb, con, dcon
 use Rattle.rules_spec.specs.Step.{stepCheckWith, stepTo, step}
 use Rattle.rules_spec.specs.Standing.{Standing, standing}
 use Rattle.rules_spec.specs.Walk.{walkBy, walk}
+use Rattle.model.specs.declared.Text.the-variants as text
+use Rattle.start_spec.specs.Paper.{Beginning, nothing, given}
+use Rattle.start_spec.specs.Row.{instanceLine, withRow, portIn, connectionLine}
+use Rattle.start_spec.specs.Text.{instanceAt, connectionAt, startLines}
+use Rattle.start_spec.specs.Served.{failsStill, someUnserved}
+use Rattle.judge_spec.specs.Course.{Course, faulty, reached, goOn, read, served, outset}
 
 -- the tables with the depth d
 abbrev pub deep : ℕ → Tables → Tables
@@ -80,6 +87,36 @@ module _ (d e x : ℕ) (t : Tables) (same : depthOf d t ≡ depthOf e (deep x t)
   pub walk-same : (p : Program) (ss : List Step) (c : Configuration) → walk d t p c ss ≡ walk e (deep x t) p c ss
   unfolding walk
   walk-same p ss c = ap (λ (f : Configuration → Step → Stepped). walkBy f c ss) (λ i c s. step-same p c s i)
+
+-- ---- the start
+-- its lines look at the types and not at the depth
+starts-deep : (d x : ℕ) (t : Tables) (s : List ℕ) → startLines d t s ≡ startLines d (deep x t) s
+unfolding startLines instanceAt instanceLine withRow added connectionAt connectionLine portIn conCheck isUsePort isProvidePort
+starts-deep d x t s = refl
+
+unserved-deep : (x : ℕ) (t : Tables) (c : Configuration) → someUnserved t c ≡ someUnserved (deep x t) c
+unfolding someUnserved failsStill portCheck failsUnconnected failsUnserved failsRefusing failsInUse serves blocks employs refusing wouldLeave wouldEnter active leaving entering current
+unserved-deep x t c = refl
+
+served-deep : (x : ℕ) (t : Tables) (c : Configuration) → served t c ≡ served (deep x t) c
+unfolding served
+served-deep x t c = rw (unserved-deep x t c, served)
+
+reads-deep : (n x : ℕ) (t : Tables) (s : List ℕ) → read text.Start (startLines n t) s ≡ read text.Start (startLines n (deep x t)) s
+unfolding read
+reads-deep n x t s = ap (λ (z : Run Configuration). elim z as (λ _. Course Configuration) [ on c r ↦ reached c | stop k r ↦ faulty text.Start k (length s - length r) ]) (starts-deep n x t s)
+
+pub begins-deep : (d e x : ℕ) (t : Tables) → depthOf d t ≡ depthOf e (deep x t) → (g : Beginning) → outset d t g ≡ outset e (deep x t) g
+unfolding outset
+begins-deep d e x t same nothing = refl
+begins-deep d e x t same (given s) =
+    ap (λ (n : ℕ). goOn (read text.Start (startLines n t) s) (served t)) same
+    ∙ ap (λ (m : Course Configuration). goOn m (served t)) (reads-deep (depthOf e (deep x t)) x t s)
+    ∙ go (read text.Start (startLines (depthOf e (deep x t)) (deep x t)) s)
+  where
+    go : (m : Course Configuration) → goOn m (served t) ≡ goOn m (served (deep x t))
+    go (faulty k n at) = refl
+    go (reached c) = served-deep x t c
 
 -- ---- the reader
 unfoldable pub mapRun : {A : Type 0} → (A → A) → Run A → Run A

@@ -9,6 +9,7 @@ use lib.ListN.{length, drop}
 use Rattle.item_spec.specs.Reader.{bytes}
 use Rattle.model.specs.declared.Tables.{Tables}
 use Rattle.model.specs.declared.Program.{Program}
+use Rattle.start_spec.specs.Paper.{Beginning, from}
 use Rattle.judge_spec.specs.Course.{Course, reached, _>>=_, defaultDepth, sheetCourse}
 use Rattle.rewrite_spec.specs.Under.{judgedUnder, printedUnder}
 
@@ -48,10 +49,10 @@ AnotherDepthUnchanged = (s : List ℕ) (t : Tables) (p : Program) → sheetCours
 unfoldable pub RewrittenOnce : Type 0
 RewrittenOnce = (s r : List ℕ) → rewritten s ≡ reached r → rewritten r ≡ reached r
 
--- "the rewritten sheet gets, under the new rule, the verdict and report that the old one got under the old rule, for every answer"
+-- "the rewritten sheet gets, under the new rule, the verdict and report that the old one got under the old rule, for every answer"; and from every start
 unfoldable pub JudgedAlike : Type 0
 JudgedAlike =
-    (s r a : List ℕ)
+    (s r a : List ℕ) (g : Beginning)
     → rewritten s ≡ reached r
-    → ((room : ℕ) → judgedUnder defaultDepth r a room ≡ judgedUnder oldDefault s a room)
-    × (printedUnder defaultDepth r a ≡ printedUnder oldDefault s a)
+    → ((room : ℕ) → judgedUnder defaultDepth (from r g) a room ≡ judgedUnder oldDefault (from s g) a room)
+    × (printedUnder defaultDepth (from r g) a ≡ printedUnder oldDefault (from s g) a)

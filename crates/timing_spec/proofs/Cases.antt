@@ -9,7 +9,8 @@ use native.Mathlib.Omega.{arith}
 use borrow.Author.Tests.{ne-eqb}
 use Rattle.item_spec.specs.Read.{key, digit, numberFrom, membersFrom, list, oneForm, twoForm, threeForm, fourForm, listForm, listsForm}
 use Rattle.item_spec.specs.Write.{digitsIn, numberText, membersBelow, moreText, listText, maskText, inTurn, oneText, twoText, threeText, fourText}
-use Rattle.judge_spec.specs.Course.{short, read, both, course}
+use Rattle.start_spec.specs.Paper.{nothingUp}
+use Rattle.judge_spec.specs.Course.{short, shortStart, outset, read, allUnder, course}
 use Rattle.judge_spec.specs.Judged.{faultLine, faultPlace, afterFault, noRoom, stepPlace, afterWalk, inRoom, ending, judged, over, printing, printed}
 use Rattle.model.specs.Empty.{noTables, noProgram, noAnswer, start}
 use Rattle.model.specs.View.{isServed, listOf, queueOf, put, withQueue, withServers, withDone}
@@ -36,7 +37,7 @@ use Rattle.rules_spec.specs.Ports.{isOf, wouldLeave, wouldEnter, refusing, serv
 use Rattle.rules_spec.specs.PushB.{pushbCheck, pushed}
 use Rattle.rules_spec.specs.Step.{actionAt, action, stepCheckWith, stepTo, step}
 use Rattle.rules_spec.specs.Wait.{waitCheck}
-use Rattle.rules_spec.specs.Walk.{oneMore, walk, walkAnswer}
+use Rattle.rules_spec.specs.Walk.{oneMore, walk, walkFrom}
 use Rattle.sets.specs.Mask.{member, collect}
 use Rattle.sets.specs.Test.{allBelow, anyBelow, lowest, tally}
 use Rattle.demands.specs.Agree.{names, deeds, naming}
@@ -65,9 +66,9 @@ underAPass = seconds "13" "14" "14"
 
 -- what comes of an answer and times: no refusal, the mark, and the mark by another marking
 record Marks (m : Marking) (a x : List ℕ) (mark sham : ℕ) : Type 0 where
-  allowed : timed twins a x 8192 .judgement .verdict .refused ≡ 0
-  mark-is : timed twins a x 8192 .mark ≡ mark
-  sham-is : timedBy m twins a x 8192 .mark ≡ sham
+  allowed : timed (nothingUp twins) a x 8192 .judgement .verdict .refused ≡ 0
+  mark-is : timed (nothingUp twins) a x 8192 .mark ≡ mark
+  sham-is : timedBy m (nothingUp twins) a x 8192 .mark ≡ sham
 
 -- what the two answers do: the four instructions, then the moves of both
 abbrev instructions : List Action → List Action
@@ -100,12 +101,12 @@ projections-alike (suc (suc i)) =
     none-named (suc (suc i)) togetherDoes (z, (o, (z, (o, (z, (o, (z, (o, tt)))))))) ∙ sym (none-named (suc (suc i)) oneByOneDoes (z, (o, (z, (o, (z, (z, (o, (o, tt)))))))))
 
 record Ordered : Type 0 where
-  first : AllAllowed twins together
-  second : AllAllowed twins oneByOne
-  together-does : deeds (sheetProgram twins) 0 (answerSteps together) ≡ togetherDoes
-  one-by-one-does : deeds (sheetProgram twins) 0 (answerSteps oneByOne) ≡ oneByOneDoes
-  quick : timed twins together halfTheClock 8192 .mark ≡ 500
-  slow : timed twins oneByOne halfTheClock 8192 .mark ≡ 300
+  first : AllAllowed (nothingUp twins) together
+  second : AllAllowed (nothingUp twins) oneByOne
+  together-does : deeds (sheetProgram (nothingUp twins)) 0 (answerSteps together) ≡ togetherDoes
+  one-by-one-does : deeds (sheetProgram (nothingUp twins)) 0 (answerSteps oneByOne) ≡ oneByOneDoes
+  quick : timed (nothingUp twins) together halfTheClock 8192 .mark ≡ 500
+  slow : timed (nothingUp twins) oneByOne halfTheClock 8192 .mark ≡ 300
 
 record Computed : Type 0 where
   cases : AllTimedMet timedTable
@@ -115,7 +116,7 @@ record Computed : Type 0 where
   each-step : Marks roundsEachStep oneByOne underAPass 464 650
 
 computed : Computed
-unfolding member collect allBelow anyBelow noTables noProgram noAnswer start isServed entries inTable listOf queueOf put withQueue withServers withDone key digit numberFrom membersFrom list oneForm twoForm threeForm fourForm listForm listsForm digitsIn numberText membersBelow moreText listText maskText inTurn oneText twoText threeText fourText headed withType withTransition withPort programOf withInstruction answerOf withStep dueLine countLineIn initialLine tranLine behaviorLine group portLine doId doNumber doEnds doLine stepId stepNumber stepLine each upToLf lfs lineNumber lineStart tranAt behaviorAt portAt typeLines instructionAt sheet stepAt answer instructionAction moveAction actionCheck effect concern addCheck added down closed zeroed renewed isOf isUsePort isProvidePort conCheck connected sameConnection dconCheck disconnected namedBy delCheck deleted endCheck endTo enterRow enterCheck enterTo mayLeave finishRow finishCheck finished fireRow fireCheck fireTo active current endsAt leaving entering fired endedBy entered withQueued wouldLeave wouldEnter refusing serves blocks employs failsUnconnected failsUnserved failsRefusing failsInUse portCheck lowest concerned pushbCheck pushed actionAt action stepCheckWith stepTo step waitCheck oneMore walk walkAnswer textText faultText tally countText portText instanceText connectionText instanceAt connectionLine linesFrom instancesText connectionsText reportWith report short read both course faultLine faultPlace afterFault noRoom stepPlace afterWalk inRoom ending judged over printing printed timesNumber timeLine time times timesOf withTime atStart notes tick clockFrom clockOf nearest markOf markAfter clockBy courseBy timedBy clocked timedCourse markedReport markInRoom timedEnding timed timedPrinting timedPrinted names deeds naming sheetTables sheetProgram answerSteps
+unfolding member collect allBelow anyBelow noTables noProgram noAnswer start isServed entries inTable listOf queueOf put withQueue withServers withDone key digit numberFrom membersFrom list oneForm twoForm threeForm fourForm listForm listsForm digitsIn numberText membersBelow moreText listText maskText inTurn oneText twoText threeText fourText headed withType withTransition withPort programOf withInstruction answerOf withStep dueLine countLineIn initialLine tranLine behaviorLine group portLine doId doNumber doEnds doLine stepId stepNumber stepLine each upToLf lfs lineNumber lineStart tranAt behaviorAt portAt typeLines instructionAt sheet stepAt answer instructionAction moveAction actionCheck effect concern addCheck added down closed zeroed renewed isOf isUsePort isProvidePort conCheck connected sameConnection dconCheck disconnected namedBy delCheck deleted endCheck endTo enterRow enterCheck enterTo mayLeave finishRow finishCheck finished fireRow fireCheck fireTo active current endsAt leaving entering fired endedBy entered withQueued wouldLeave wouldEnter refusing serves blocks employs failsUnconnected failsUnserved failsRefusing failsInUse portCheck lowest concerned pushbCheck pushed actionAt action stepCheckWith stepTo step waitCheck oneMore walk walkFrom textText faultText tally countText portText instanceText connectionText instanceAt connectionLine linesFrom instancesText connectionsText reportWith report short shortStart outset read allUnder course faultLine faultPlace afterFault noRoom stepPlace afterWalk inRoom ending judged over printing printed timesNumber timeLine time times timesOf withTime atStart notes tick clockFrom clockOf nearest markOf markAfter clockBy courseBy timedBy clocked timedCourse markedReport markInRoom timedEnding timed timedPrinting timedPrinted names deeds naming sheetTables sheetProgram answerSteps
 computed = record {
   cases = ((refl, refl), ((refl, refl), ((refl, refl), ((refl, refl), ((refl, refl), ((refl, refl), ((refl, refl), ((refl, refl), ((refl, refl), ((refl, refl), ((refl, refl), ((refl, refl), ((refl, refl), ((refl, refl), ((refl, refl), ((refl, refl), tt))))))))))))))));
   order = record { first = refl; second = refl; together-does = refl; one-by-one-does = refl; quick = refl; slow = refl };
@@ -129,7 +130,7 @@ cases-met = computed .cases
 
 told-apart : {m : Marking} {a x : List ℕ} {mark sham : ℕ} → Marks m a x mark sham → sham ≢ mark → ToldApart m
 told-apart {a = a} {x = x} h g =
-    (twins, a, x, h .allowed, λ old e q. g (sym (h .sham-is) ∙ ap (λ (r : Timed). r .mark) (q .verdict-is) ∙ ap (λ (n : ℕ). timed twins a x n .mark) e ∙ h .mark-is))
+    (nothingUp twins, a, x, h .allowed, λ old e q. g (sym (h .sham-is) ∙ ap (λ (r : Timed). r .mark) (q .verdict-is) ∙ ap (λ (n : ℕ). timed (nothingUp twins) a x n .mark) e ∙ h .mark-is))
 
 pub as-ruled-is-the-rule : MarkedAsRuledIsTheRule
 unfolding MarkedAsRuledIsTheRule timedBy courseBy clockBy timed timedCourse clocked markAfter clockOf clockFrom tick
@@ -141,10 +142,10 @@ shams-told-apart = (told-apart (computed .full) (omega arith), told-apart (compu
 
 pub rounding-lifts : RoundingLifts
 unfolding RoundingLifts
-rounding-lifts = let h = computed .each-step in (twins, oneByOne, underAPass, h .allowed, omega (arith, h .mark-is), omega (arith, h .sham-is))
+rounding-lifts = let h = computed .each-step in (nothingUp twins, oneByOne, underAPass, h .allowed, omega (arith, h .mark-is), omega (arith, h .sham-is))
 
 pub order-may-alter-the-mark : OrderMayAlterTheMark
 unfolding OrderMayAlterTheMark
 order-may-alter-the-mark =
     let h = computed .order in
-    (twins, together, oneByOne, halfTheClock, h .first, h .second, λ i. rw (h .together-does, h .one-by-one-does) (projections-alike i), λ q. omega (arith, q, h .quick, h .slow))
+    (nothingUp twins, together, oneByOne, halfTheClock, h .first, h .second, λ i. rw (h .together-does, h .one-by-one-does) (projections-alike i), λ q. omega (arith, q, h .quick, h .slow))

@@ -3,6 +3,7 @@
 use Prim.Native.Nat.{ℕ, _-_, _≤_}
 use mathlib.Core.List.{List, _++_}
 use mathlib.Core.Path.{_≡_, refl, sym, ap, _∙_}
+use mathlib.Core.Logic.{inr}
 use native.Mathlib.Omega.{arith}
 use lib.Dec.{eqb}
 use lib.ListN.{length, length-append}
@@ -13,13 +14,22 @@ use Rattle.report_spec.proofs.Bound.{count-le}
 use Rattle.item_spec.proofs.Tests.{by-test}
 use Rattle.model.specs.declared.Text.{Text}
 use Rattle.model.specs.declared.Text.the-variants as text
+use Rattle.model.specs.declared.Tables.{Tables}
+use Rattle.model.specs.declared.Program.{Program}
+use Rattle.model.specs.declared.Configuration.{Configuration}
 use Rattle.model.specs.declared.Walked.{Walked}
 use Rattle.read_spec.specs.Limits.{lengthOk}
 use Rattle.read_spec.specs.Lines.{Run, Lines, on, stop}
 use Rattle.read_spec.specs.Texts.{sheet, answer}
 use Rattle.read_spec.proofs.Rests.{StopsAt}
-use Rattle.read_spec.proofs.Lawful.{sheet-stops, answer-stops}
-use Rattle.judge_spec.specs.Course.{Course, faulty, reached, goOn, short, read, both, course}
+use Rattle.read_spec.specs.Lawful.{Lawful, SheetsAreLawful}
+use Rattle.read_spec.proofs.Lawful.{sheet-stops, answer-stops, sheets-are-lawful}
+use Rattle.start_spec.specs.Paper.{Beginning, nothing, given, Paper}
+use Rattle.start_spec.specs.Text.{startLengthOk}
+use Rattle.start_spec.specs.Served.{someUnserved}
+use Rattle.start_spec.proofs.Proper.{start-stops}
+use Rattle.judge_spec.specs.Course.{Course, faulty, reached, goOn, short, shortStart, served, outset, read, defaultDepth, allUnder, course}
+use Rattle.judge_spec.proofs.Read.{Numbered, low-number}
 use Rattle.judge_spec.specs.Judged.{afterFault, afterWalk, inRoom, printing, printed}
 use Rattle.judge_spec.proofs.Room.{read-fits}
 use Rattle.times_spec.specs.Text.{times}
@@ -30,7 +40,7 @@ use Rattle.timing_spec.specs.Same.{FaultsPrintTheSame, PrintsWithItsMark
 
 -- the numbers that a text is refused with
 abbrev pub Few : ℕ → Type 0
-Few n = (1 ≤ n) × (n ≤ 5)
+Few n = Numbered n
 
 -- one of the texts is refused, or it is read
 data Stage {A : Type 0} (k : Text) : Course A → Type 0 where
@@ -39,7 +49,7 @@ data Stage {A : Type 0} (k : Text) : Course A → Type 0 where
 
 short-stage : (k : Text) (s : List ℕ) → Stage k (short k s)
 unfolding short
-short-stage k s = by-test (lengthOk (length s)) (λ e. rw (e, short) passes) (λ e. rw (e, short) (fails {n = 1} (omega arith)))
+short-stage k s = by-test (lengthOk (length s)) (λ e. rw (e, short) passes) (λ e. rw (e, short) (fails {n = 1} (low-number 1 (omega arith))))
 
 read-stage : {A : Type 0} (k : Text) (m : Lines A) (s : List ℕ) → ((n : ℕ) (r : List ℕ) → m s ≡ stop n r → StopsAt s n r) → Stage k (read k m s)
 unfolding read
@@ -47,7 +57,7 @@ read-stage {A} k m s h = go (m s) refl
   where
     go : (z : Run A) → m s ≡ z → Stage {A = A} k (elim z [ on a r ↦ reached a | stop n r ↦ faulty k n (length s - length r) ])
     go (on a r) e = passes
-    go (stop n r) e = let l = h n r e in fails {n = n} (omega arith)
+    go (stop n r) e = let l = h n r e in fails {n = n} (low-number n (omega arith))
 
 mark-le : (refused par clock : ℕ) → markAfter refused par clock ≤ 1000
 unfolding markAfter markOf
@@ -60,12 +70,14 @@ mark-le refused par clock =
 pub data Alike : Course Walked → Course (Walked × ℕ) → Type 0 where
   in-sheet : {n at : ℕ} → Few n → Alike (faulty text.Sheet n at) (faulty text.Sheet n at)
   in-answer : {n at : ℕ} → Few n → Alike (faulty text.Answer n at) (faulty text.Answer n at)
+  in-start : {n at : ℕ} → Few n → Alike (faulty text.Start n at) (faulty text.Start n at)
   in-times : {w : Walked} {n at : ℕ} → Few n → Alike (reached w) (faulty text.Times n at)
   marked : {w : Walked} {m : ℕ} → m ≤ 1000 → Alike (reached w) (reached (w, m))
 
--- the sheet or the answer is refused, or both are read
+-- the sheet, the start or the answer is refused, or all are read
 data Pair {B : Type 0} : Course B → Type 0 where
   bad-sheet : {n at : ℕ} → Few n → Pair (faulty text.Sheet n at)
+  bad-start : {n at : ℕ} → Few n → Pair (faulty text.Start n at)
   bad-answer : {n at : ℕ} → Few n → Pair (faulty text.Answer n at)
   said : {b : B} → Pair (reached b)
 
@@ -73,17 +85,46 @@ pair-then : {A B : Type 0} {k : Text} {m : Course A} (f : A → Course B) → ((
 pair-then f fault (fails {n} {at} l) h = fault n at l
 pair-then f fault (passes {a}) h = h a
 
-pair-told : (s a : List ℕ) → Pair (both s a)
-unfolding both
+short-start-stage : (g : Beginning) → Stage text.Start (shortStart g)
+unfolding shortStart
+short-start-stage nothing = passes
+short-start-stage (given x) = by-test (startLengthOk (length x)) (λ e. rw (e, shortStart) passes) (λ e. rw (e, shortStart) (fails {n = 1} (low-number 1 (omega arith))))
+
+served-stage : (t : Tables) (c : Configuration) → Stage text.Start (served t c)
+unfolding served
+served-stage t c = by-test (someUnserved t c) (λ e. rw (e, served) (fails {n = 50} (record { range = inr refl }))) (λ e. rw (e, served) passes)
+
+stage-then : {A B : Type 0} {k : Text} {m : Course A} (f : A → Course B) → Stage k m → ((a : A) → Stage k (f a)) → Stage k (goOn m f)
+stage-then f (fails l) h = fails l
+stage-then f (passes {a}) h = h a
+
+begins-stage : (t : Tables) (p : Program) → Lawful t p → (g : Beginning) → Stage text.Start (outset defaultDepth t g)
+unfolding outset
+begins-stage t p law nothing = passes
+begins-stage t p law (given x) = stage-then _ (read-stage text.Start _ x (start-stops defaultDepth t p x (omega arith) law)) (λ c. served-stage t c)
+
+sheet-read : {B : Type 0} (s : List ℕ) (f : Tables × Program → Course B) → ((x : Tables × Program) → Lawful (x .0) (x .1) → Pair (f x)) → Pair (goOn (read text.Sheet sheet s) f)
+unfolding read SheetsAreLawful
+sheet-read s f h = go (sheet s) refl
+  where
+    go : (z : Run (Tables × Program)) → sheet s ≡ z → Pair (goOn (elim z [ on a r ↦ reached a | stop n r ↦ faulty text.Sheet n (length s - length r) ]) f)
+    go (on a r) e = h a (sheets-are-lawful s _ _ _ e)
+    go (stop n r) e = let l = sheet-stops s n r e in bad-sheet {n = n} (low-number n (omega arith))
+
+pair-told : (s : Paper) (a : List ℕ) → Pair (allUnder defaultDepth s a)
+unfolding allUnder
 pair-told s a =
-    pair-then _ (λ _ _ l. bad-sheet l) (short-stage text.Sheet s) (λ _.
+    pair-then _ (λ _ _ l. bad-sheet l) (short-stage text.Sheet (s .sheet)) (λ _.
+    pair-then _ (λ _ _ l. bad-start l) (short-start-stage (s .beginning)) (λ _.
     pair-then _ (λ _ _ l. bad-answer l) (short-stage text.Answer a) (λ _.
-    pair-then _ (λ _ _ l. bad-sheet l) (read-stage text.Sheet sheet s (sheet-stops s)) (λ _.
-    pair-then _ (λ _ _ l. bad-answer l) (read-stage text.Answer answer a (answer-stops a)) (λ _. said))))
+    sheet-read (s .sheet) _ (λ x law.
+    pair-then _ (λ _ _ l. bad-start l) (begins-stage (x .0) (x .1) law (s .beginning)) (λ _.
+    pair-then _ (λ _ _ l. bad-answer l) (read-stage text.Answer answer a (answer-stops a)) (λ _. said))))))
 
 -- what comes after them
 alike-then : {B : Type 0} {m : Course B} (f : B → Course Walked) (g : B → Course (Walked × ℕ)) → Pair m → ((b : B) → Alike (f b) (g b)) → Alike (goOn m f) (goOn m g)
 alike-then f g (bad-sheet l) h = in-sheet l
+alike-then f g (bad-start l) h = in-start l
 alike-then f g (bad-answer l) h = in-answer l
 alike-then f g (said {b}) h = h b
 
@@ -91,7 +132,7 @@ times-then : {A : Type 0} {w : Walked} {m : Course A} {g : A → Course (Walked 
 times-then (fails l) h = in-times l
 times-then (passes {a}) h = h a
 
-pub courses-alike : (s a x : List ℕ) → Alike (course s a) (timedCourse s a x)
+pub courses-alike : (s : Paper) (a x : List ℕ) → Alike (course s a) (timedCourse s a x)
 unfolding course clocked timedCourse
 courses-alike s a x =
     alike-then _ _ (pair-told s a) (λ _.
@@ -99,10 +140,11 @@ courses-alike s a x =
     times-then (read-stage text.Times times x (times-stop x)) (λ _. marked (mark-le _ _ _))))
 
 -- ---- what the two print
-module _ (s a x : List ℕ) where
+module _ (s : Paper) (a x : List ℕ) where
   fault-prints : {k : Text} {n at : ℕ} {y : Course (Walked × ℕ)} → Alike (faulty k n at) y → timedPrinting s a x y ≡ printing s a (faulty k n at)
   unfolding timedPrinting timedEnding afterFault printing
   fault-prints (in-sheet l) = refl
+  fault-prints (in-start l) = refl
   fault-prints (in-answer l) = refl
 
   same-walk : {z : Course Walked} {w : Walked} {m : ℕ} → Alike z (reached (w, m)) → (z ≡ reached w) × (m ≤ 1000)
@@ -113,7 +155,7 @@ unfolding FaultsPrintTheSame timedPrinted printed
 faults-print-the-same s a x k n at e = rw e (fault-prints s a x (rw e at (courses-alike s a x)))
 
 -- three texts that are read: the judge's walk, whose report and mark have room
-pub all-read : (s a x : List ℕ) (w : Walked) (m : ℕ) → timedCourse s a x ≡ reached (w, m) → (course s a ≡ reached w) × (length (markedReport w m) ≤ 8192)
+pub all-read : (s : Paper) (a x : List ℕ) (w : Walked) (m : ℕ) → timedCourse s a x ≡ reached (w, m) → (course s a ≡ reached w) × (length (markedReport w m) ≤ 8192)
 unfolding markedReport
 all-read s a x w m e =
     let (q, l) = same-walk s a x (rw e at (courses-alike s a x)) in

@@ -3,6 +3,7 @@ use Prim.Native.Nat.{ℕ}
 use Prim.Native.String.{String}
 use mathlib.Core.List.{List, [], _∷_, _++_}
 use mathlib.Core.Path.{_≡_}
+use Rattle.start_spec.specs.Paper.{nothingUp}
 use Rattle.judge_spec.specs.Judged.{lentBytes}
 use Rattle.item_spec.specs.Reader.{bytes}
 use Rattle.timing_spec.specs.Timed.{timed}
@@ -67,7 +68,7 @@ timedTable =
 -- a case is met
 abbrev pub TimedMet : TimedCase → Type 0
 TimedMet k =
-    (timed twins (k .answer) (k .times) lentBytes .judgement .verdict .refused ≡ k .refused) × (timed twins (k .answer) (k .times) lentBytes .mark ≡ k .mark)
+    (timed (nothingUp twins) (k .answer) (k .times) lentBytes .judgement .verdict .refused ≡ k .refused) × (timed (nothingUp twins) (k .answer) (k .times) lentBytes .mark ≡ k .mark)
 
 abbrev pub AllTimedMet : List TimedCase → Type 0
 AllTimedMet [] = Unit

@@ -11,7 +11,6 @@ use Rattle.model.specs.declared.Program.{Program}
 use Rattle.model.specs.declared.Step.{Step}
 use Rattle.model.specs.declared.Answer.{Answer}
 use Rattle.model.specs.declared.Configuration.{Configuration}
-use Rattle.model.specs.Empty.{start}
 use Rattle.model.specs.Verb.{fireVerb, endVerb}
 use Rattle.model.specs.View.{instance, stepsOf}
 use Rattle.rules_spec.specs.Step.{step}
@@ -53,6 +52,6 @@ tick ts c d s k = tickBy (λ n. n) ts c d s k
 unfoldable pub clockFrom : ℕ → Tables → Program → Times → Configuration → List Step → Clock → Clock
 clockFrom default t p ts c ss k = besideBy (step default t p) (tick ts) c ss k
 
--- the clock after an answer's walk from the empty start
-unfoldable pub clockOf : ℕ → Tables → Program → Answer → Times → ℕ
-clockOf default t p a ts = clockFrom default t p ts start (stepsOf a) atStart .now
+-- the clock after an answer's walk from c: "what runs at the start was noted at 0"
+unfoldable pub clockOf : ℕ → Tables → Program → Configuration → Answer → Times → ℕ
+clockOf default t p c a ts = clockFrom default t p ts c (stepsOf a) atStart .now

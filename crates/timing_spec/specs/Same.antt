@@ -6,17 +6,18 @@ use Rattle.item_spec.specs.Reader.{bytes}
 use Rattle.model.specs.declared.Text.{Text}
 use Rattle.model.specs.declared.Walked.{Walked}
 use Rattle.report_spec.specs.Report.{countText}
+use Rattle.start_spec.specs.Paper.{Paper}
 use Rattle.judge_spec.specs.Course.{faulty, reached, course}
 use Rattle.judge_spec.specs.Judged.{printed}
 use Rattle.timing_spec.specs.Timed.{timedCourse, timedPrinted}
 
--- 1 to 5 of the sheet or of the answer: the same three lines, whatever the times are
+-- a fault of the sheet, of the start or of the answer: the same three lines, whatever the times are
 unfoldable pub FaultsPrintTheSame : Type 0
-FaultsPrintTheSame = (s a x : List ℕ) (k : Text) (n at : ℕ) → course s a ≡ faulty k n at → timedPrinted s a x ≡ printed s a
+FaultsPrintTheSame = (s : Paper) (a x : List ℕ) (k : Text) (n at : ℕ) → course s a ≡ faulty k n at → timedPrinted s a x ≡ printed s a
 
 -- a pair that reaches the steps, with times that are read: the judge's print, and the mark's line after it
 unfoldable pub PrintsWithItsMark : Type 0
 PrintsWithItsMark =
-    (s a x : List ℕ) (w : Walked) (m : ℕ)
+    (s : Paper) (a x : List ℕ) (w : Walked) (m : ℕ)
     → timedCourse s a x ≡ reached (w, m)
     → (course s a ≡ reached w) × (timedPrinted s a x ≡ printed s a ++ countText (bytes "mark=") m)

@@ -11,11 +11,12 @@ use Rattle.model.specs.declared.Program.{Program}
 use Rattle.model.specs.declared.Answer.{Answer}
 use Rattle.model.specs.declared.Text.the-variants as text
 use Rattle.model.specs.declared.Walked.{Walked}
-use Rattle.model.specs.Empty.{start}
+use Rattle.model.specs.declared.Configuration.{Configuration}
 use Rattle.model.specs.View.{stepsOf}
 use Rattle.rules_spec.specs.Step.{step}
-use Rattle.rules_spec.specs.Walk.{besideBy, walkAnswer}
-use Rattle.judge_spec.specs.Course.{Course, reached, _>>=_, _>>_, short, read, both, defaultDepth}
+use Rattle.rules_spec.specs.Walk.{besideBy, walkFrom}
+use Rattle.start_spec.specs.Paper.{Paper}
+use Rattle.judge_spec.specs.Course.{Course, reached, _>>=_, _>>_, short, read, allUnder, defaultDepth}
 use Rattle.judge_spec.specs.Judged.{over, lentBytes}
 use Rattle.times_spec.specs.declared.Times.{Times}
 use Rattle.times_spec.specs.Text.{times}
@@ -35,22 +36,22 @@ abbrev pub markedAsRuled : Marking
 markedAsRuled = record { shown = λ n. n; marks = markOf }
 
 -- the timing of three texts by a marking, in all else as ruled
-unfoldable pub clockBy : Marking → Tables → Program → Answer → Times → ℕ
-clockBy m t p y ts = besideBy (step defaultDepth t p) (tickBy (m .shown) ts) start (stepsOf y) atStart .now
+unfoldable pub clockBy : Marking → Tables → Program → Configuration → Answer → Times → ℕ
+clockBy m t p c y ts = besideBy (step defaultDepth t p) (tickBy (m .shown) ts) c (stepsOf y) atStart .now
 
-unfoldable pub courseBy : Marking → List ℕ → List ℕ → List ℕ → Course (Walked × ℕ)
+unfoldable pub courseBy : Marking → Paper → List ℕ → List ℕ → Course (Walked × ℕ)
 courseBy m s a x = do
-  (t, p, y) ← both s a
+  (t, p, c, y) ← allUnder defaultDepth s a
   short text.Times x
   ts ← read text.Times times x
-  reached (walkAnswer defaultDepth t p y, cond (eqb (walkAnswer defaultDepth t p y .refused) 0) (m .marks (ts .par) (clockBy m t p y ts)) 0)
+  reached (walkFrom defaultDepth t p c y, cond (eqb (walkFrom defaultDepth t p c y .refused) 0) (m .marks (ts .par) (clockBy m t p c y ts)) 0)
 
-unfoldable pub timedBy : Marking → List ℕ → List ℕ → List ℕ → ℕ → Marked
+unfoldable pub timedBy : Marking → Paper → List ℕ → List ℕ → ℕ → Marked
 timedBy m s a x room = timedEnding s a x room (courseBy m s a x)
 
 -- with nothing changed it is the rule, so a sham differs from the rule in its own notion alone
 unfoldable pub MarkedAsRuledIsTheRule : Type 0
-MarkedAsRuledIsTheRule = (s a x : List ℕ) (room : ℕ) → timedBy markedAsRuled s a x room ≡ timed s a x room
+MarkedAsRuledIsTheRule = (s : Paper) (a x : List ℕ) (room : ℕ) → timedBy markedAsRuled s a x room ≡ timed s a x room
 
 -- always the full mark
 abbrev pub alwaysFull : Marking
@@ -70,7 +71,7 @@ roundsEachStep = record { shown = toTens; marks = markOf }
 -- three texts, all steps allowed, where what the sham makes of them and of any buffer of 8,192 bytes is not what is promised
 abbrev pub ToldApart : Marking → Type 0
 ToldApart m =
-    (s : List ℕ) × (a : List ℕ) × (x : List ℕ)
+    (s : Paper) × (a : List ℕ) × (x : List ℕ)
     × (timed s a x lentBytes .judgement .verdict .refused ≡ 0)
     × ((old : List ℕ) → length old ≡ lentBytes → let j = timedBy m s a x lentBytes in
     ¬ TimedPromised s a x old (record { verdict = j .judgement .verdict; mark = j .mark }) (over (j .judgement .bytes) old) (j .judgement .place))
@@ -84,5 +85,5 @@ passLine = 500
 
 unfoldable pub RoundingLifts : Type 0
 RoundingLifts =
-    (s : List ℕ) × (a : List ℕ) × (x : List ℕ)
+    (s : Paper) × (a : List ℕ) × (x : List ℕ)
     × (timed s a x lentBytes .judgement .verdict .refused ≡ 0) × (timed s a x lentBytes .mark < passLine) × (passLine ≤ timedBy roundsEachStep s a x lentBytes .mark)
