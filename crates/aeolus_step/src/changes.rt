@@ -1,5 +1,5 @@
 // What the actions do, in place on lent words.
-// Promised: each change is that of aeolus_rules/specs.
+// Promised: each change is that of aeolus_rules_spec/specs.
 use aeolus_model::Deployed;
 use aeolus_model::Step;
 use aeolus_model::Universe;

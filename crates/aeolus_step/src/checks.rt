@@ -1,5 +1,5 @@
 // The actions' own conditions on lent words, and how many bindings stand.
-// Promised: each check answers the number of aeolus_rules/specs.
+// Promised: each check answers the number of aeolus_rules_spec/specs.
 use aeolus_correct::is_bound;
 use aeolus_correct::is_deployed;
 use aeolus_model::Deployed;

@@ -1,5 +1,5 @@
 // The actions of the Aeolus paper on lent words, and the run of a plan, in place.
-// Promised: an action and a run are those of aeolus_rules/specs, and a refused action changes nothing.
+// Promised: an action and a run are those of aeolus_rules_spec/specs, and a refused action changes nothing.
 mod changes;
 pub mod checks;
 

@@ -5,3 +5,4 @@ pub mod Shapes
 pub mod Limits
 pub mod Within
 pub mod Once
+pub mod Queues

@@ -5,3 +5,4 @@ pub mod Says
 pub mod Keyed
 pub mod Within
 pub mod Turn
+pub mod Items

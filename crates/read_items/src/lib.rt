@@ -1,5 +1,6 @@
 // Readers of the items of a line (a key, a number, a list) and of the shapes of lines, on every text and from every place of it.
 // Promised: each answers what its definition in crate forms replies to the text from there on: the value and the place past it, or the fault.
+pub mod items;
 pub mod numbers;
 
 ghost use mathlib.Core.Path.{_≡_};
@@ -242,7 +243,7 @@ fn members_then(s: &[u8], at: usize, end: u8, digits: Digits) -> OneList
 }
 
 // A list and the byte that ends it; `-` is the empty list.
-fn list_then(s: &[u8], at: usize, end: u8, digits: Digits) -> OneList
+pub fn list_then(s: &[u8], at: usize, end: u8, digits: Digits) -> OneList
     ensures { λ r. ⌜ Reads (now (s .entry)) (listSays r) (list (most digits) end (drop at (now (s .entry)))) ⌝ }
 {
     let Due::Past(i) = past_key(s, at, b"-") else {

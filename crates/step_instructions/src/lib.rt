@@ -1,5 +1,5 @@
 // The six instructions on words: add, del, pushb, con, dcon and wait, each a check and a change made in place.
-// Promised: for every tables, state and number, each check answers the number of rules/specs, and each change is that of rules/specs.
+// Promised: for every tables, state and number, each check answers the number of rules_spec/specs, and each change is that of rules_spec/specs.
 use rules_spec::ALREADY_CONNECTED;
 use rules_spec::ID_ABSENT;
 use rules_spec::ID_PRESENT;

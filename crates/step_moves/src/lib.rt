@@ -1,6 +1,6 @@
 // The four moves on words: fire, end, enter and finish, each a check and a change made in place.
-// Promised: for every tables, state and number, each check answers the number of rules/specs and the use port concerned, and each change is
-// that of rules/specs.
+// Promised: for every tables, state and number, each check answers the number of rules_spec/specs and the use port concerned, and each change is
+// that of rules_spec/specs.
 use rules_spec::HELD_OR_MARKED;
 use rules_spec::ID_ABSENT;
 use rules_spec::NO_TRANSITION;

@@ -1,5 +1,5 @@
 // The port check 38, 34, 35, 36, on words.
-// Promised: each function answers what rules/specs say of the tables and the configuration that the words are.
+// Promised: each function answers what rules_spec/specs say of the tables and the configuration that the words are.
 mod in_use;
 
 use in_use::in_use;
@@ -27,7 +27,7 @@ ghost use Prim.Native.Nat.{_<_};
 ghost use Rattle.model.specs.declared.Concerned.the-variants.{NoPort, UsePort};
 ghost use Rattle.model.specs.View.{instance};
 ghost use Rattle.words.specs.Words.{tablesIn, stateIn};
-ghost use Rattle.step_ports.specs.Turns.{useRefusal, portRefusal, firstRefusal, isUnconnected, lowestUnconnected, portsRefusal, turnAnswer};
+ghost use Rattle.step_ports.specs.Turns.{useRefusal, portRefusal, firstRefusal, isUnconnected, lowestUnconnected, portsRefusal, checked, turnAnswer};
 
 // What a move takes from an instance, or gives it, or what the instance has: marks, and transitions that are held.
 pub struct Sets {
@@ -204,6 +204,17 @@ pub fn port_check(
     let next = Sets {
         places: marks,
         holds,
+    };
+    ports_refusal(tables, state, i, next)
+}
+
+// The port check where instance i stays as it is.
+pub fn still_check(tables: &TableWords, state: &StateWords, i: u32) -> Answered
+    ensures { λ r. ⌜ r ≡ checked (tablesIn (now (tables .entry))) (stateIn (now (state .entry))) i (instance (stateIn (now (state .entry))) i) ⌝ }
+{
+    let next = Sets {
+        places: marked(state, i),
+        holds: held(state, i),
     };
     ports_refusal(tables, state, i, next)
 }

@@ -1,5 +1,5 @@
 // One step by its verb, and the walk of an answer, in place.
-// Promised, of every program: what each leaves in the state and answers is the step and the walk of rules/specs, but that a use port which is to
+// Promised, of every program: what each leaves in the state and answers is the step and the walk of rules_spec/specs, but that a use port which is to
 // get a server whose number no word holds is left without one (specs/Held).
 use model::Concerned;
 use rules_spec::NO_INSTRUCTION_LEFT;

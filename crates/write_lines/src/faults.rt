@@ -20,7 +20,7 @@ fn mask_ok(n: u32, m: u32) -> bool
     if n < 32 { m < 1 << n } else { true }
 }
 
-// A row of checks, as in rules/specs/Refusal: where the test holds its number, else what follows.
+// A row of checks, as in rules_spec/specs/Refusal: where the test holds its number, else what follows.
 pub fn refuse_if(test: bool, number: u8, rest: u8) -> u8
     ensures { λ r. ⌜ r ≡ (test ⇒ number ∣ rest) ⌝ }
 {
