@@ -3,6 +3,7 @@
 use Prim.Native.Nat.{ℕ, zero-le}
 use mathlib.Core.List.{List, []}
 use mathlib.Core.Path.{_≡_, refl}
+use mathlib.Core.Logic.{⊎-elim, inl}
 use native.Mathlib.Omega.{arith}
 use lib.Dec.{leb}
 use lib.ListN.{length}
@@ -10,7 +11,8 @@ use borrow.Author.Tests.{leb-true}
 use Rattle.item_spec.proofs.Tests.{by-test}
 use Rattle.model.specs.declared.Text.the-variants as text
 use Rattle.judge_spec.specs.Course.{Course}
-use Rattle.judge_lib.proofs.Order.{Told, in-sheet, in-answer, walks}
+use Rattle.start_spec.specs.Paper.{nothing}
+use Rattle.judge_lib.proofs.Order.{Told, in-sheet, in-start, in-answer, walks}
 use Rattle.judge_lib.specs.Shown.{OfText, Shown}
 use Rattle.judge_lib.proofs.Printed.{Chosen as ChosenBy, report-chosen, lines-chosen, Prints, shown-printed}
 use Rattle.aeolus_model.specs.Model.{Universe}
@@ -30,16 +32,17 @@ unfolding inRoom afterRun noRoom
 run-chosen w r a h =
     by-test (leb (length r) 8192)
     (λ e. rw (e, inRoom) (report-chosen OfText (w .refused) text.Neither 0 r h (leb-true (length r) 8192 e)))
-    (λ e. rw (e, inRoom) (report-chosen OfText 6 text.Neither 0 [] (λ z. omega (arith, z)) zero-le))
+    (λ e. rw (e, inRoom) (report-chosen OfText 6 text.Neither 0 [] (⊎-elim (λ z. omega (arith, z)) (λ z. omega (arith, z))) zero-le))
 
 chosen : (s a : List ℕ) → Chosen (judged s a 8192) (printed s a)
 unfolding judged printed ending printing afterFault
 chosen s a = go (course s a) refl (course-told s a)
   where
-    go : (z : Course (Universe × Ran)) → course s a ≡ z → Told s a z → Chosen (ending s a 8192 z) (printing s a z)
-    go _ e (in-sheet {n} {at} f) = lines-chosen OfText n text.Sheet _ (fault-numbered s a text.Sheet n at e)
-    go _ e (in-answer {n} {at} f) = lines-chosen OfText n text.Answer _ (fault-numbered s a text.Answer n at e)
-    go _ e (walks {x}) = let h = read-fits s a (x .0) (x .1) e in run-chosen (x .1) (report (x .0) (x .1)) a (λ g. h .of-step (g .0, omega (arith, g .1)))
+    go : (z : Course (Universe × Ran)) → course s a ≡ z → Told s nothing a z → Chosen (ending s a 8192 z) (printing s a z)
+    go _ e (in-sheet {n} {at} f) = lines-chosen OfText n text.Sheet _ (inl (fault-numbered s a text.Sheet n at e))
+    go _ e (in-start {n} {at} q f) = lines-chosen OfText n text.Start _ (inl (fault-numbered s a text.Start n at e))
+    go _ e (in-answer {n} {at} f) = lines-chosen OfText n text.Answer _ (inl (fault-numbered s a text.Answer n at e))
+    go _ e (walks {x}) = let h = read-fits s a (x .0) (x .1) e in run-chosen (x .1) (report (x .0) (x .1)) a (⊎-elim (λ g. h .of-step (g .0, omega (arith, g .1))) (h .not-fifty))
 
 pub shown-prints : (s a old : List ℕ) {v : Verdict} {mid new : List ℕ} {used : ℕ} → length old ≡ 8192 → v ≡ judged s a (length old) .verdict → mid ≡ buffer s a old
     → Shown (v .text) (v .line) (v .refused) (v .written) mid used new → Prints (printed s a) old new used

@@ -10,6 +10,7 @@ use aeolus_step::Passed;
 use aeolus_write_report::write_report;
 use item_spec::BUFFER_SHORT;
 use judge_lib::pairs::Outcome;
+use judge_lib::pairs::alone;
 use judge_lib::pairs::outcome_of;
 use judge_lib::parts::fault_or_report;
 use judge_lib::parts::part_at;
@@ -47,7 +48,7 @@ fn read_both(sheet: &[u8], answer: &[u8], universe: &mut Universe, plan: &mut Pl
     let said = aeolus_read_sheet::fill_universe(sheet, universe);
     let n = types(universe);
     let given = aeolus_read_plan::fill_plan(answer, n, plan);
-    outcome_of(sheet, said, answer, given)
+    outcome_of(sheet, alone(said), answer, given)
 }
 
 // How far the two texts came, and the run where both are read.
@@ -203,6 +204,7 @@ pub fn judge_and_place(sheet: &[u8], answer: &[u8], report: &mut [u8]) -> Judged
     let passed = came.passed;
     match outcome {
         Outcome::InSheet(n, at) => judge_fault(Text::Sheet, sheet, n, at),
+        Outcome::InStart(n, at) => judge_fault(Text::Start, b"", n, at),
         Outcome::InAnswer(n, at) => judge_fault(Text::Answer, answer, n, at),
         Outcome::Reached => judge_run(&universe, &deployed, passed, answer, report),
     }
@@ -225,11 +227,11 @@ pub fn place(sheet: &[u8], answer: &[u8], room: usize) -> Place
     judge_and_place(sheet, answer, &mut scratch[..n]).place
 }
 
-// The offending line, as a part of whichever text held it.
+// The offending line, as a part of whichever text held it; no start is at fault (Places), so it doesn't matter what stands for one.
 pub fn offending<'a>(sheet: &'a [u8], answer: &'a [u8], room: usize) -> &'a [u8]
-    ensures { λ r. ⌜ PartAt (judged (now (sheet .entry)) (now (answer .entry)) room .place) (sheet .entry) (answer .entry) r ⌝ }
+    ensures { λ r. ⌜ PartAt (judged (now (sheet .entry)) (now (answer .entry)) room .place) (sheet .entry) (sheet .entry) (answer .entry) r ⌝ }
 {
-    part_at(place(sheet, answer, room), sheet, answer)
+    part_at(place(sheet, answer, room), sheet, sheet, answer)
 }
 
 // What the `aeolus` program prints: the report, or after 1 to 5 the three lines.

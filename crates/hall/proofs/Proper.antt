@@ -1,4 +1,4 @@
--- What every point of a walk keeps (rules/specs/Proper) is lawful to the screen, and no table has a use port twice.
+-- What every point of a walk keeps (rules_spec/specs/Proper) is lawful to the screen, and no table has a use port twice.
 -- Assumes nothing.
 use mathlib.Core.Path.{_≡_, sym, ap, ap₂, _∙_}
 use mathlib.Core.Bool.{true, false, not, _&&_}

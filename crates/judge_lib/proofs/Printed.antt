@@ -3,9 +3,9 @@
 use Prim.Native.Nat.{ℕ, _≤_, zero-le}
 use mathlib.Core.List.{List, []}
 use mathlib.Core.Path.{_≡_, refl, sym, ap, _∙_}
-use mathlib.Core.Logic.{⊎-elim, by-cases}
+use mathlib.Core.Logic.{⊎-elim, inl, inr, by-cases}
 use native.Mathlib.Omega.{arith}
-use native.Mathlib.Decide.{decLt}
+use native.Mathlib.Decide.{decLt, ℕ-discrete}
 use lib.Dec.{leb}
 use lib.ListN.{length, length-append, length-drop}
 use lib.Seq.{length-take-le}
@@ -16,6 +16,7 @@ use Rattle.model.specs.declared.Text.{Text}
 use Rattle.model.specs.declared.Text.the-variants as text
 use Rattle.report_spec.specs.Report.{report}
 use Rattle.report_spec.specs.Faults.{faultText}
+use Rattle.start_spec.specs.Paper.{Paper}
 use Rattle.judge_spec.specs.declared.Verdict.{Verdict}
 use Rattle.judge_spec.specs.Course.{Course, course}
 use Rattle.judge_spec.specs.Judged.{Judgement, afterFault, noRoom, afterWalk, inRoom, ending, judged, over, printing, printed}
@@ -26,7 +27,7 @@ use Rattle.write_items.proofs.Laws.{fits-all}
 use Rattle.write_report.proofs.Bounds.{fault-short}
 use Rattle.judge_lib.specs.Counts.{Counts}
 use Rattle.judge_lib.specs.Shown.{OfText, Shown}
-use Rattle.judge_lib.proofs.Order.{walked-numbers, Told, in-sheet, in-answer, walks, course-told}
+use Rattle.judge_lib.proofs.Order.{walked-numbers, Told, in-sheet, in-start, in-answer, walks, course-told}
 
 -- ---- which of the two is printed: three lines after the numbers that are of a text, and else the report
 
@@ -87,7 +88,7 @@ module _ {OfText : ℕ → Type 0} {n line written : ℕ} {x : Text} {bytes prin
       let all = fits-all (rw (kept, ← l .0) at w) (omega (arith, l .2, long)) in
       prints print old long (l .2) (all .0) (all .1)
 
--- where the numbers of a text are 1 to 5
+-- where the numbers of a text are 1 to 5 and 50
 module _ {n line written : ℕ} {x : Text} {bytes print : List ℕ} (k : Chosen OfText n x line written bytes print) (old : List ℕ) {mid new : List ℕ} {used : ℕ}
     (long : length old ≡ 8192) (after : mid ≡ over bytes old) (w : Shown x line n written mid used new) where
   as-report : (OfText n → ⊥) → Prints print old new used
@@ -95,24 +96,26 @@ module _ {n line written : ℕ} {x : Text} {bytes print : List ℕ} (k : Chosen 
 
   pub shown-printed : Prints print old new used
   shown-printed =
+      by-cases (ℕ-discrete n 50) (λ e. lines-printed k old long after (inr e) (w .three-lines (inr e))) (λ e.
       by-cases (decLt 0 n) (λ h.
-      by-cases (decLt n 6) (λ g. lines-printed k old long after (omega arith, omega arith) (w .three-lines (omega arith, omega arith))) (λ g. as-report (λ z. omega (arith, z))))
-      (λ h. as-report (λ z. omega (arith, z)))
+      by-cases (decLt n 6) (λ g. let i : OfText n = inl (omega arith, omega arith) in lines-printed k old long after i (w .three-lines i)) (λ g. as-report (⊎-elim (λ z. omega (arith, z)) e)))
+      (λ h. as-report (⊎-elim (λ z. omega (arith, z)) e)))
 
 -- ---- the judge's print
 
-chosen : (s a : List ℕ) → ChosenOf OfText (judged s a 8192) (printed s a)
+chosen : (s : Paper) (a : List ℕ) → ChosenOf OfText (judged s a 8192) (printed s a)
 unfolding judged printed ending printing afterFault
 chosen s a = go (course s a) refl (course-told s a)
   where
-    go : (z : Course Walked) → course s a ≡ z → Told s a z → ChosenOf OfText (ending s a 8192 z) (printing s a z)
-    go _ e (in-sheet {n} {at} f) = lines-chosen OfText n text.Sheet _ (fault-numbered s a text.Sheet n at e)
-    go _ e (in-answer {n} {at} f) = lines-chosen OfText n text.Answer _ (fault-numbered s a text.Answer n at e)
+    go : (z : Course Walked) → course s a ≡ z → Told (s .sheet) (s .beginning) a z → ChosenOf OfText (ending s a 8192 z) (printing s a z)
+    go _ e (in-sheet {n} {at} f) = lines-chosen OfText n text.Sheet _ (fault-numbered s a text.Sheet n at e .range)
+    go _ e (in-start {n} {at} q f) = lines-chosen OfText n text.Start _ (fault-numbered s a text.Start n at e .range)
+    go _ e (in-answer {n} {at} f) = lines-chosen OfText n text.Answer _ (fault-numbered s a text.Answer n at e .range)
     go _ e (walks {x}) =
         let h = walked-numbers s a x e .refused .range in
-        walk-chosen OfText x (report x) a (λ g. ⊎-elim (λ z. omega (arith, g, z)) (λ z. omega (arith, g, z)) h) (λ g. omega (arith, g))
+        walk-chosen OfText x (report x) a (λ g. ⊎-elim (λ y. ⊎-elim (λ z. omega (arith, y, z)) (λ z. omega (arith, y, z)) h) (λ y. ⊎-elim (λ z. omega (arith, y, z)) (λ z. omega (arith, y, z)) h) g) (λ g. ⊎-elim (λ y. omega (arith, y)) (λ y. omega (arith, y)) g)
 
-pub shown-prints : (s a old : List ℕ) {v : Verdict} {mid new : List ℕ} {used : ℕ} → length old ≡ 8192 → Judges s a old v mid
+pub shown-prints : (s : Paper) (a old : List ℕ) {v : Verdict} {mid new : List ℕ} {used : ℕ} → length old ≡ 8192 → Judges s a old v mid
     → Shown (v .text) (v .line) (v .refused) (v .written) mid used new → PrintsOf s a old used new × Counts used new
 shown-prints s a old {v} long h w =
     let p = shown-printed (chosen s a) old long (rw long at (h .buffer-is)) (rw (h .verdict-is, long) at w) in

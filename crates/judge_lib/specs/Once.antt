@@ -8,4 +8,4 @@ use Rattle.judge_lib.specs.Part.{PartAt}
 
 -- `offending`: where the part lies in memory, and what it holds
 unfoldable pub NoOtherPart : Type 0
-NoOtherPart = (p : Place) (s a r q : RefT (List ℕ)) → PartAt p s a r → PartAt p s a q → (r .ptr ≡ q .ptr) × (r .now ≡ q .now)
+NoOtherPart = (p : Place) (s b a r q : RefT (List ℕ)) → PartAt p s b a r → PartAt p s b a q → (r .ptr ≡ q .ptr) × (r .now ≡ q .now)

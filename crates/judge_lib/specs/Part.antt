@@ -15,12 +15,13 @@ pub record Part (x : RefT (List ℕ)) (a n : ℕ) (r : RefT (List ℕ)) : Type 0
   pub holds : r .now ≡ take n (drop a (x .now))
 
 -- the text that is named; no place is in neither (place-held, in proofs/Places)
-abbrev pub holder : Text → RefT (List ℕ) → RefT (List ℕ) → RefT (List ℕ)
-holder text.Neither s a = a
-holder text.Sheet s a = s
-holder text.Answer s a = a
-holder text.Times s a = a
+abbrev pub holder : Text → RefT (List ℕ) → RefT (List ℕ) → RefT (List ℕ) → RefT (List ℕ)
+holder text.Neither s b a = a
+holder text.Sheet s b a = s
+holder text.Answer s b a = a
+holder text.Times s b a = a
+holder text.Start s b a = b
 
--- the part of the sheet or of the answer that a place says
-abbrev pub PartAt : Place → RefT (List ℕ) → RefT (List ℕ) → RefT (List ℕ) → Type 0
-PartAt p s a r = Part (holder (p .text) s a) (p .start) (p .size) r
+-- the part of the sheet, of the start or of the answer that a place says
+abbrev pub PartAt : Place → RefT (List ℕ) → RefT (List ℕ) → RefT (List ℕ) → RefT (List ℕ) → Type 0
+PartAt p s b a r = Part (holder (p .text) s b a) (p .start) (p .size) r

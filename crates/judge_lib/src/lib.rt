@@ -1,5 +1,6 @@
-// The judge: two texts and a lent buffer come to a verdict, a report, what the program prints, and the line at fault.
+// The judge: a sheet, a start, an answer and a lent buffer come to a verdict, a report, what the program prints, and the line at fault.
 // Promised: on any bytes, every field and byte is what crates/judge_spec/specs says, and the line at fault is that very part of its text.
+pub mod next;
 pub mod pairs;
 pub mod parts;
 
@@ -23,6 +24,7 @@ use words::state::done;
 ghost use mathlib.Core.Path.{_≡_};
 ghost use Prim.Native.Nat.{_+_};
 ghost use lib.ListN.{length};
+ghost use Rattle.start_spec.specs.Paper.{paper};
 ghost use Rattle.judge_spec.specs.Judged.{afterFault, faultPlace, judged, over};
 ghost use Rattle.judge_spec.specs.Once.{Judges, Places, Promised, Prints};
 ghost use Rattle.words.specs.Words.{stateIn};
@@ -85,49 +87,73 @@ fn judge_walk(w: Passed, state: &StateWords, answer: &[u8], lent: &mut [u8]) -> 
 }
 
 // The verdict, the report in the lent buffer, and the place of the line at fault.
-pub fn judge_and_place(sheet: &[u8], answer: &[u8], report: &mut [u8]) -> Judged
-    ensures { λ r. ⌜ Promised (now (sheet .entry)) (now (answer .entry)) (now (report .entry)) (r .verdict) (now (report .exit)) (r .place) ⌝ }
+pub fn judge_and_place(
+    sheet: &[u8],
+    given: bool,
+    start: &[u8],
+    answer: &[u8],
+    report: &mut [u8],
+) -> Judged
+    ensures { λ r. ⌜ Promised (paper (now (sheet .entry)) given (now (start .entry))) (now (answer .entry)) (now (report .entry)) (r .verdict) (now (report .exit)) (r .place) ⌝ }
 {
     let mut state = [0u32; 930];
-    let came = walk_texts(sheet, answer, &mut state);
+    let came = walk_texts(sheet, given, start, answer, &mut state);
     let outcome = came.outcome;
     let passed = came.passed;
     match outcome {
         Outcome::InSheet(n, at) => judge_fault(Text::Sheet, sheet, n, at),
+        Outcome::InStart(n, at) => judge_fault(Text::Start, start, n, at),
         Outcome::InAnswer(n, at) => judge_fault(Text::Answer, answer, n, at),
         Outcome::Reached => judge_walk(passed, &state, answer, report),
     }
 }
 
 // The verdict, and the report in the lent buffer.
-pub fn judge(sheet: &[u8], answer: &[u8], report: &mut [u8]) -> Verdict
-    ensures { λ r. ⌜ Judges (now (sheet .entry)) (now (answer .entry)) (now (report .entry)) r (now (report .exit)) ⌝ }
+pub fn judge(sheet: &[u8], given: bool, start: &[u8], answer: &[u8], report: &mut [u8]) -> Verdict
+    ensures { λ r. ⌜ Judges (paper (now (sheet .entry)) given (now (start .entry))) (now (answer .entry)) (now (report .entry)) r (now (report .exit)) ⌝ }
 {
-    judge_and_place(sheet, answer, report).verdict
+    judge_and_place(sheet, given, start, answer, report).verdict
 }
 
 // Which text held the line at fault, where the line starts, and how many bytes it has. No report needs more room than 8,192 bytes.
-pub fn place(sheet: &[u8], answer: &[u8], room: usize) -> Place
-    ensures { λ r. ⌜ Places (now (sheet .entry)) (now (answer .entry)) room r ⌝ }
+pub fn place(sheet: &[u8], given: bool, start: &[u8], answer: &[u8], room: usize) -> Place
+    ensures { λ r. ⌜ Places (paper (now (sheet .entry)) given (now (start .entry))) (now (answer .entry)) room r ⌝ }
 {
     let mut scratch = [0u8; LENT_BYTES];
     let n = smaller(room, LENT_BYTES);
-    judge_and_place(sheet, answer, &mut scratch[..n]).place
+    judge_and_place(sheet, given, start, answer, &mut scratch[..n]).place
 }
 
 // The line at fault, as a part of whichever text held it.
-pub fn offending<'a>(sheet: &'a [u8], answer: &'a [u8], room: usize) -> &'a [u8]
-    ensures { λ r. ⌜ PartAt (judged (now (sheet .entry)) (now (answer .entry)) room .place) (sheet .entry) (answer .entry) r ⌝ }
+pub fn offending<'a>(
+    sheet: &'a [u8],
+    given: bool,
+    start: &'a [u8],
+    answer: &'a [u8],
+    room: usize,
+) -> &'a [u8]
+    ensures { λ r. ⌜ PartAt (judged (paper (now (sheet .entry)) given (now (start .entry))) (now (answer .entry)) room .place) (sheet .entry) (start .entry) (answer .entry) r ⌝ }
 {
-    part_at(place(sheet, answer, room), sheet, answer)
+    part_at(
+        place(sheet, given, start, answer, room),
+        sheet,
+        start,
+        answer,
+    )
 }
 
 // What the `judge` program prints: the report, or after 1 to 5 the three lines.
-pub fn print(sheet: &[u8], answer: &[u8], out: &mut [u8; LENT_BYTES]) -> usize
-    ensures prints { λ r. ⌜ Prints (now (sheet .entry)) (now (answer .entry)) (now (out .entry)) r (now (out .exit)) ⌝ }
+pub fn print(
+    sheet: &[u8],
+    given: bool,
+    start: &[u8],
+    answer: &[u8],
+    out: &mut [u8; LENT_BYTES],
+) -> usize
+    ensures prints { λ r. ⌜ Prints (paper (now (sheet .entry)) given (now (start .entry))) (now (answer .entry)) (now (out .entry)) r (now (out .exit)) ⌝ }
     ensures counts { λ r. ⌜ Counts r (now (out .exit)) ⌝ }
 {
-    let verdict = judge(sheet, answer, out);
+    let verdict = judge(sheet, given, start, answer, out);
     let text = verdict.text;
     fault_or_report(out, text, verdict.line, verdict.refused, verdict.written)
 }

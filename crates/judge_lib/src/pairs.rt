@@ -1,9 +1,10 @@
-// How far two texts come: both are read into words, and where they say something the answer is walked.
-// Promised: the order of the two texts, what the sheet says, and the course of crates/judge_spec/specs.
+// How far the texts come: all are read into words, and where they say something the answer is walked.
+// Promised: the order of the texts, what the sheet and the start say, and the course of crates/judge_spec/specs.
 use item_spec::TOO_LONG;
 use judge_spec::DEFAULT_DEPTH;
 use read_chain::Place;
 use read_lines::LONGEST;
+use read_start::LONGEST_START;
 use step_walk::Passed;
 use words::ProgramWords;
 use words::StateWords;
@@ -15,66 +16,131 @@ ghost use Rattle.read_sheet.specs.Sheet.{sheetRead};
 ghost use Rattle.judge_spec.specs.Course.{course};
 ghost use Rattle.words.specs.Words.{tablesIn, programIn, stateIn};
 ghost use Rattle.step_walk.specs.Reached.{walked};
-ghost use Rattle.judge_lib.specs.Came.{answered, outcomeOf, came};
+ghost use Rattle.rules_spec.specs.PushB.{depthOf};
+ghost use Rattle.start_spec.specs.Paper.{paper, beginningOf};
+ghost use Rattle.read_chain.specs.Whole.{beside};
+ghost use Rattle.model.specs.Empty.{start};
+ghost use Rattle.read_start.specs.Start.{queueRoom};
+ghost use Rattle.judge_lib.specs.Came.{beginRead, aloneAs, outcomeOf, came, startLong};
 
-// A text is refused with a number at a place of it, or both are read.
+// A text is refused with a number at a place of it, or all are read.
 pub enum Outcome {
     InSheet(u8, usize),
+    InStart(u8, usize),
     InAnswer(u8, usize),
     Reached,
 }
 
-// "length of the sheet, of the answer, then the sheet's lines, the answer's lines", of what the texts' readers answered
-pub fn outcome_of(sheet: &[u8], said: Place, answer: &[u8], given: Place) -> Outcome
-    ensures { λ r. ⌜ r ≡ outcomeOf (length (now (sheet .entry))) said (length (now (answer .entry))) given ⌝ }
+// What the readers of a paper's texts answered, and whether the start is too long.
+pub struct Opened {
+    pub sheet: Place,
+    pub long: bool,
+    pub start: Place,
+}
+
+// A sheet with no start beside it.
+pub fn alone(sheet: Place) -> Opened
+    ensures { λ r. ⌜ r ≡ aloneAs sheet ⌝ }
+{
+    let start = Place {
+        refused: 0,
+        place: 0,
+    };
+    Opened {
+        sheet,
+        long: false,
+        start,
+    }
+}
+
+// "The three lengths come first (sheet, start, answer), then the lines in that order", of what the texts' readers answered
+pub fn outcome_of(sheet: &[u8], opened: Opened, answer: &[u8], steps: Place) -> Outcome
+    ensures { λ r. ⌜ r ≡ outcomeOf (length (now (sheet .entry))) opened (length (now (answer .entry))) steps ⌝ }
 {
     if LONGEST < sheet.len() {
         return Outcome::InSheet(TOO_LONG, 0);
     }
+    if opened.long {
+        return Outcome::InStart(TOO_LONG, 0);
+    }
     if LONGEST < answer.len() {
         return Outcome::InAnswer(TOO_LONG, 0);
     }
-    if said.refused != 0 {
-        return Outcome::InSheet(said.refused, said.place);
+    if opened.sheet.refused != 0 {
+        return Outcome::InSheet(opened.sheet.refused, opened.sheet.place);
     }
-    if given.refused != 0 {
-        return Outcome::InAnswer(given.refused, given.place);
+    if opened.start.refused != 0 {
+        return Outcome::InStart(opened.start.refused, opened.start.place);
+    }
+    if steps.refused != 0 {
+        return Outcome::InAnswer(steps.refused, steps.place);
     }
     Outcome::Reached
 }
 
-// What the sheet says, in the lent words, whatever these held before; and how far the two texts come, of an answer whose reader answered so.
-pub fn read_sheet(
-    sheet: &[u8],
-    answer: &[u8],
-    given: Place,
-    tables: &mut TableWords,
-    program: &mut ProgramWords,
-) -> Outcome
-    ensures comes { λ r. ⌜ r ≡ outcomeOf (length (now (sheet .entry))) (answered (sheetRead (now (sheet .entry)))) (length (now (answer .entry))) given ⌝ }
-    ensures says { λ r. ⌜ (tablesIn (now (tables .exit)), programIn (now (program .exit))) ≡ sheetRead (now (sheet .entry)) .value ⌝ }
+// Where a paper begins, into words that say nothing is up: "no file: nothing up".
+fn begin(given: bool, text: &[u8], tables: &TableWords, state: &mut StateWords) -> Place
+    requires { ⌜ stateIn (now state) ≡ start ⌝ }
+    ensures { λ r. ⌜ beside r (stateIn (now (state .exit)))
+        ≡ beginRead (queueRoom 8 (tablesIn (now (tables .entry)))) (tablesIn (now (tables .entry))) (beginningOf given (now (text .entry))) ⌝ }
 {
-    let said = read_sheet::fill_sheet(sheet, tables, program);
-    outcome_of(sheet, said, answer, given)
+    if given {
+        return read_start::fill_start(DEFAULT_DEPTH as u32, text, tables, state);
+    }
+    Place {
+        refused: 0,
+        place: 0,
+    }
 }
 
-// How far the two texts came, and how far the walk, where both are read.
+// What the sheet and the start say, in the lent words, whatever these held before. The state's are cleared first, right after they were made.
+pub fn open_paper(
+    sheet: &[u8],
+    given: bool,
+    start: &[u8],
+    tables: &mut TableWords,
+    program: &mut ProgramWords,
+    state: &mut StateWords,
+) -> Opened
+    ensures sheet { λ r. ⌜ beside (r .sheet) (tablesIn (now (tables .exit)), programIn (now (program .exit))) ≡ sheetRead (now (sheet .entry)) ⌝ }
+    ensures long { λ r. ⌜ r .long ≡ startLong (beginningOf given (now (start .entry))) ⌝ }
+    ensures begins { λ r. ⌜ beside (r .start) (stateIn (now (state .exit)))
+        ≡ beginRead (depthOf 8 (tablesIn (now (tables .exit)))) (tablesIn (now (tables .exit))) (beginningOf given (now (start .entry))) ⌝ }
+{
+    clear_state(state);
+    let said = read_sheet::fill_sheet(sheet, tables, program);
+    let begun = begin(given, start, tables, state);
+    let long = given & (LONGEST_START < start.len());
+    Opened {
+        sheet: said,
+        long,
+        start: begun,
+    }
+}
+
+// How far the texts came, and how far the walk, where all are read.
 pub(crate) struct Came {
     pub outcome: Outcome,
     pub passed: Passed,
 }
 
-// ".. the answer's lines, the steps": the walk starts where nothing is up, whatever the state's words held before. Words are made right before they are
+// ".. the answer's lines, the steps": the walk starts where the paper begins, whatever the state's words held before. Words are made right before they are
 // read into, so that they are cleared once.
-pub(crate) fn walk_texts(sheet: &[u8], answer: &[u8], state: &mut StateWords) -> Came
-    ensures { λ r. ⌜ came (r .outcome) (walked (r .passed) (stateIn (now (state .exit)))) ≡ course (now (sheet .entry)) (now (answer .entry)) ⌝ }
+pub(crate) fn walk_texts(
+    sheet: &[u8],
+    given: bool,
+    start: &[u8],
+    answer: &[u8],
+    state: &mut StateWords,
+) -> Came
+    ensures { λ r. ⌜ came (r .outcome) (walked (r .passed) (stateIn (now (state .exit)))) ≡ course (paper (now (sheet .entry)) given (now (start .entry))) (now (answer .entry)) ⌝ }
 {
-    clear_state(state);
-    let mut steps = [0u32; 3073];
-    let given = read_answer::fill_answer(answer, &mut steps);
     let mut tables = [0u32; 2002];
     let mut program = [0u32; 1281];
-    let outcome = read_sheet(sheet, answer, given, &mut tables, &mut program);
+    let opened = open_paper(sheet, given, start, &mut tables, &mut program, state);
+    let mut steps = [0u32; 3073];
+    let read = read_answer::fill_answer(answer, &mut steps);
+    let outcome = outcome_of(sheet, opened, answer, read);
     let passed = step_walk::walk(DEFAULT_DEPTH as u32, &tables, &program, &steps, state);
     Came { outcome, passed }
 }

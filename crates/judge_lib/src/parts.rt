@@ -18,18 +18,19 @@ pub fn part_of<'a>(s: &'a [u8], start: usize, size: usize) -> &'a [u8]
 }
 
 // The part of whichever text a place names.
-pub fn part_at<'a>(place: Place, sheet: &'a [u8], answer: &'a [u8]) -> &'a [u8]
-    ensures { λ r. ⌜ Part (holder (place .text) (sheet .entry) (answer .entry))
-        (min (place .start) (length (holder (place .text) (sheet .entry) (answer .entry) .now))) (place .size) r ⌝ }
+pub fn part_at<'a>(place: Place, sheet: &'a [u8], start: &'a [u8], answer: &'a [u8]) -> &'a [u8]
+    ensures { λ r. ⌜ Part (holder (place .text) (sheet .entry) (start .entry) (answer .entry))
+        (min (place .start) (length (holder (place .text) (sheet .entry) (start .entry) (answer .entry) .now))) (place .size) r ⌝ }
 {
     let text = place.text;
     match text {
         Text::Sheet => part_of(sheet, place.start, place.size),
+        Text::Start => part_of(start, place.start, place.size),
         _ => part_of(answer, place.start, place.size),
     }
 }
 
-// After 1 to 5 the three lines, and else the report that the buffer has, so many bytes.
+// After 1 to 5 and 50 the three lines, and else the report that the buffer has, so many bytes.
 pub fn fault_or_report(
     out: &mut [u8],
     text: Text,
@@ -41,6 +42,7 @@ pub fn fault_or_report(
 {
     match refused {
         1..=5 => write_report::write_fault(out, text, line, refused),
+        50 => write_report::write_fault(out, text, line, refused),
         _ => written,
     }
 }

@@ -18,6 +18,7 @@ fn fault_line(s: &[u8], n: u8, at: usize) -> usize
 {
     match n {
         1 => 0,
+        50 => 0,
         _ => read_lines::line_number(s, at),
     }
 }
@@ -101,6 +102,7 @@ pub fn fault_place(x: Text, s: &[u8], n: u8, at: usize) -> Place
 {
     match n {
         1 => empty_at(x, 0),
+        50 => empty_at(x, 0),
         _ => line_at(x, at, s),
     }
 }

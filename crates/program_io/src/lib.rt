@@ -59,6 +59,25 @@ pub fn read_named(name: &[u8], text: &mut [u8]) -> Read
     read
 }
 
+// A start: whether there is one, and how many bytes of it. "no file: nothing up": one that can't be opened counts as empty.
+pub struct Start {
+    pub given: bool,
+    pub size: usize,
+}
+
+pub fn read_start(name: &[u8], text: &mut [u8]) -> Start
+    ensures { λ r. ⌜ Counts (r .size) (now (text .exit)) ⌝ }
+{
+    let file = os::open_read(name);
+    let missing = (file < 0) && os::errno() == libc::ENOENT;
+    let read = read_text(file, text);
+    libc::close(file);
+    Start {
+        given: !missing,
+        size: read.size,
+    }
+}
+
 // The answer, from standard input; `unread` says on standard error that it could not be read.
 pub fn read_answer(answer: &mut [u8], unread: &[u8]) -> Read
     ensures { λ r. ⌜ Counts (r .size) (now (answer .exit)) ⌝ }

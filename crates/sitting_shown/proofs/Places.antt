@@ -13,6 +13,7 @@ which-short text.Neither = omega arith
 which-short text.Sheet = omega arith
 which-short text.Answer = omega arith
 which-short text.Times = omega arith
+which-short text.Start = omega arith
 
 pub places-fit : PlacesFit
 unfolding PlacesFit placeText

@@ -13,6 +13,7 @@ whichText text.Neither = bytes "-"
 whichText text.Sheet = bytes "sheet"
 whichText text.Answer = bytes "answer"
 whichText text.Times = bytes "times"
+whichText text.Start = bytes "start"
 
 unfoldable pub placeText : Place → List ℕ
 placeText p = bytes "place=" ++ whichText (p .text) ++ bytes "," ++ numberText (p .start) ++ bytes "," ++ numberText (p .size) ++ bytes "\n"

@@ -67,6 +67,7 @@ fn write_which(t: &mut [u8], at: usize, text: Text) -> usize
         Text::Sheet => write_items::write_key(t, at, b"sheet"),
         Text::Answer => write_items::write_key(t, at, b"answer"),
         Text::Times => write_items::write_key(t, at, b"times"),
+        Text::Start => write_items::write_key(t, at, b"start"),
         Text::Neither => write_items::write_key(t, at, b"-"),
     }
 }

@@ -13,7 +13,7 @@ use Rattle.model.specs.declared.Answer.{Answer}
 use Rattle.model.specs.declared.Configuration.{Configuration}
 use Rattle.model.specs.declared.Stepped.{Stepped}
 use Rattle.model.specs.declared.Concerned.the-variants.{NoPort}
-use Rattle.model.specs.Empty.{noStep, start}
+use Rattle.model.specs.Empty.{noStep}
 use Rattle.model.specs.View.{stepsOf}
 use Rattle.rules_spec.specs.Walk.{besideBy}
 use Rattle.step_walk.specs.Held.{heldStep, heldWalk}
@@ -37,14 +37,14 @@ kept-start = record { slow = omega arith; past = start-past }
 pub kept-more : {i : ℕ} {k l : Clock} → Kept i k → Paced mostSeconds k l → Kept (i + 1) l
 kept-more h g = record { slow = omega (arith, h .slow, g .slow); past = g .past }
 
-module _ (default : ℕ) (t : Tables) (p : Program) (a : Answer) (ts : Times) where
+module _ (default : ℕ) (t : Tables) (p : Program) (b : Configuration) (a : Answer) (ts : Times) where
   -- the walk has come to step i and to c, and the clock to k
   pub record Beside (i : ℕ) (c : Configuration) (k : Clock) : Type 0 where
-    pub walk-is : heldWalk default t p start (stepsOf a) ≡ rest default t p a i c
-    pub clock-is : heldClock default t p ts start (stepsOf a) atStart .now ≡ heldClock default t p ts c (drop i (stepsOf a)) k .now
+    pub walk-is : heldWalk default t p b (stepsOf a) ≡ rest default t p a i c
+    pub clock-is : heldClock default t p ts b (stepsOf a) atStart .now ≡ heldClock default t p ts c (drop i (stepsOf a)) k .now
 
-  pub at-start : Beside 0 start atStart
-  at-start = record { walk-is = walk-start default t p a start; clock-is = refl }
+  pub at-start : Beside 0 b atStart
+  at-start = record { walk-is = walk-start default t p a b; clock-is = refl }
 
   module _ (full : length (a .steps) ≡ 1024) {i : ℕ} {c : Configuration} {k : Clock} (here : Beside i c k) where
     module _ (m : Stepped) (within : i < min (a .count) 1024) (is : m ≡ heldStep default t p c (getD (a .steps) i noStep)) where
@@ -61,14 +61,14 @@ module _ (default : ℕ) (t : Tables) (p : Program) (a : Answer) (ts : Times) wh
       }
 
       pub at-refusal : m .refused ≢ 0
-          → Promised default t p a ts (record { passed = record { accepted = i; refused = m .refused; port = m .port }; mark = 0 }) (m .configuration)
+          → Promised default t p b a ts (record { passed = record { accepted = i; refused = m .refused; port = m .port }; mark = 0 }) (m .configuration)
       unfolding markAfter
       at-refusal d =
           let e = here .walk-is ∙ walk-refused default t p a c full i m within is d in
           record { walked-is = sym e; mark-is = rw (e, ne-eqb (m .refused) 0 d) }
 
     pub at-end : min (a .count) 1024 ≤ i
-        → Promised default t p a ts (record { passed = record { accepted = i; refused = 0; port = NoPort }; mark = markOf (ts .par) (k .now) }) c
+        → Promised default t p b a ts (record { passed = record { accepted = i; refused = 0; port = NoPort }; mark = markOf (ts .par) (k .now) }) c
     unfolding markAfter heldClock
     at-end h =
         let e = here .walk-is ∙ walk-end default t p a c full i h in

@@ -7,9 +7,8 @@ use Rattle.words.proofs.Whole.{state-words}
 use Rattle.timing_clock.specs.declared.TimedWalk.{TimedWalk}
 use Rattle.model.specs.declared.Configuration.{Configuration}
 use Rattle.model.specs.declared.Step.{Step}
-use Rattle.model.specs.Empty.{start}
 use Rattle.model.specs.View.{stepsOf}
-use Rattle.rules_spec.specs.Walk.{besideBy, walkAnswer}
+use Rattle.rules_spec.specs.Walk.{besideBy, walkFrom}
 use Rattle.timing_spec.specs.Clock.{Clock, atStart, tick, clockFrom, clockOf}
 use Rattle.timing_spec.specs.Mark.{markAfter}
 use Rattle.step_walk.specs.Held.{heldWalk, HeldStepIsTheStep, HeldWalkIsTheWalk}
@@ -21,15 +20,15 @@ made w m = record { passed = record { accepted = w .accepted; refused = w .refus
 
 pub no-other-timed-walk : NoOtherTimedWalk
 unfolding NoOtherTimedWalk
-no-other-timed-walk default t p a ts r q ws vs g h x y =
+no-other-timed-walk default t p b a ts r q ws vs g h x y =
     let same = x .walked-is ∙ sym (y .walked-is) in
     (ap₂ made same (x .mark-is ∙ sym (y .mark-is)), state-words ws vs (g .0) (h .0) (g .1) (h .1) (ap (λ (w : Walked). w .configuration) same))
 
 pub timed-as-ruled : TimedAsRuled
-unfolding TimedAsRuled HeldStepIsTheStep HeldWalkIsTheWalk heldClock walkAnswer clockOf clockFrom
-timed-as-ruled default t p a ts r c fits promised =
-    let walks = held-walk-is-the-walk default t p start (stepsOf a) fits in (
+unfolding TimedAsRuled HeldStepIsTheStep HeldWalkIsTheWalk heldClock walkFrom clockOf clockFrom
+timed-as-ruled default t p b a ts r c fits promised =
+    let walks = held-walk-is-the-walk default t p b (stepsOf a) fits in (
       promised .walked-is ∙ walks,
       promised .mark-is
-          ∙ (λ i. markAfter (walks i .refused) (ts .par) (besideBy (λ (d : Configuration) (s : Step). held-step-is-the-step default t p d s fits i) (tick ts) start (stepsOf a) atStart .now)),
+          ∙ (λ i. markAfter (walks i .refused) (ts .par) (besideBy (λ (d : Configuration) (s : Step). held-step-is-the-step default t p d s fits i) (tick ts) b (stepsOf a) atStart .now)),
     )

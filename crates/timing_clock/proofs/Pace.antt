@@ -16,7 +16,6 @@ use Rattle.model.specs.declared.Tables.{Tables}
 use Rattle.model.specs.declared.Program.{Program}
 use Rattle.model.specs.declared.Step.{Step}
 use Rattle.model.specs.declared.Configuration.{Configuration}
-use Rattle.model.specs.Empty.{start}
 use Rattle.model.specs.Verb.{fireVerb, endVerb}
 use Rattle.model.specs.View.{stepsOf}
 use Rattle.rules_spec.specs.Step.{step}
@@ -90,5 +89,5 @@ module _ (b : ℕ) (ts : Times) (few : (j : ℕ) → getD (ts .seconds) j 0 ≤ 
 
 pub clock-is-bounded : ClockIsBounded
 unfolding ClockIsBounded clockOf atStart
-clock-is-bounded default t p a ts l =
-    omega (arith, walk-paced 86400 ts (l .seconds) default t p (stepsOf a) start atStart start-past)
+clock-is-bounded default t p b a ts l =
+    omega (arith, walk-paced 86400 ts (l .seconds) default t p (stepsOf a) b atStart start-past)

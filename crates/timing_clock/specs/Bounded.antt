@@ -4,6 +4,7 @@ use lib.ListN.{length}
 use Rattle.model.specs.declared.Tables.{Tables}
 use Rattle.model.specs.declared.Program.{Program}
 use Rattle.model.specs.declared.Answer.{Answer}
+use Rattle.model.specs.declared.Configuration.{Configuration}
 use Rattle.model.specs.View.{stepsOf}
 use Rattle.times_spec.specs.declared.Times.{Times}
 use Rattle.times_spec.specs.Lawful.{Limited}
@@ -11,6 +12,6 @@ use Rattle.timing_spec.specs.Clock.{clockOf}
 
 unfoldable pub ClockIsBounded : Type 0
 ClockIsBounded =
-    (default : ℕ) (t : Tables) (p : Program) (a : Answer) (ts : Times)
+    (default : ℕ) (t : Tables) (p : Program) (b : Configuration) (a : Answer) (ts : Times)
     → Limited ts
-    → clockOf default t p a ts ≤ 86400 * length (stepsOf a)
+    → clockOf default t p b a ts ≤ 86400 * length (stepsOf a)

@@ -1,5 +1,5 @@
 // The clock of an answer beside its walk, and the mark that it comes to.
-// Promised: the walk is that of rules/specs, and the mark that of timed/specs, for every table, answer and times, and every program of walks/specs/Fits.
+// Promised: the walk is that of rules_spec/specs, and the mark that of timing_spec/specs, for every table, answer and times.
 use model::Concerned;
 use model::mask_at;
 use sets::member;
@@ -16,7 +16,6 @@ use words::TableWords;
 use words::answer::step_id;
 use words::answer::step_number;
 use words::answer::step_verb;
-use words::state::clear_state;
 use words::state::running;
 ghost use mathlib.Core.Path.{_≡_};
 ghost use mathlib.Core.Bool.{cond};
@@ -111,7 +110,7 @@ fn tick(
     }
 }
 
-// The walk of an answer from the empty start, with the clock beside it, of times with this par and these seconds.
+// The walk of an answer from what the state's words say, with the clock beside it, of times with this par and these seconds.
 pub fn walk_timed(
     default: u32,
     tables: &TableWords,
@@ -122,10 +121,9 @@ pub fn walk_timed(
     seconds: &[u32; 1024],
 ) -> TimedWalk
     ensures { λ r. ⌜ ((listed : List ℕ)
-        → Promised default (tablesIn (now (tables .entry))) (programIn (now (program .entry)))
+        → Promised default (tablesIn (now (tables .entry))) (programIn (now (program .entry))) (stateIn (now (state .entry)))
         (answerIn (now (answer .entry))) (timesIn par listed (now (seconds .entry))) r (stateIn (now (state .exit)))) ⌝ }
 {
-    clear_state(state);
     let n = step_count(answer);
     let mut noted = [0usize; 1024];
     let mut clock: usize = 0;

@@ -1,6 +1,7 @@
 -- No other outcome fits: each promise is an equation, or tells a part by where it lies.
 -- Assumes nothing.
 use mathlib.Core.Path.{refl, sym, _∙_}
+use Rattle.start_spec.specs.Paper.{paper}
 use Rattle.timing_spec.specs.Timed.{timed}
 use Rattle.timing_spec.specs.Once.{PromisedPlace}
 use Rattle.timing_spec.proofs.Once.{place-promised}
@@ -8,8 +9,8 @@ use Rattle.timing_lib.specs.Once.{NoOtherTimedPart, NoOtherTimedPrint}
 
 pub timed-part-once : NoOtherTimedPart
 unfolding NoOtherTimedPart
-timed-part-once s a x room r q h g =
-    let is : PromisedPlace (s .now) (a .now) (x .now) room (timed (s .now) (a .now) (x .now) room .judgement .place) = place-promised refl in
+timed-part-once s given b a x room r q h g =
+    let is : PromisedPlace (paper (s .now) given (b .now)) (a .now) (x .now) room (timed (paper (s .now) given (b .now)) (a .now) (x .now) room .judgement .place) = place-promised refl in
     let here = h _ is in
     let there = g _ is in
     (λ i. ((here .block ∙ sym (there .block)) i, (here .place ∙ sym (there .place)) i), here .holds ∙ sym (there .holds))

@@ -2,11 +2,12 @@
 -- Assumes nothing.
 use Prim.Native.Nat.{ℕ}
 use mathlib.Core.List.{List}
-use mathlib.Core.Path.{_≡_, refl, ap, _∙_}
+use mathlib.Core.Path.{_≡_, refl, sym, ap, _∙_}
 use lib.ListN.{length}
 use Rattle.model.specs.declared.Walked.{Walked}
 use Rattle.model.specs.declared.Text.{Text}
 use Rattle.model.specs.declared.Text.the-variants as text
+use Rattle.start_spec.specs.Paper.{Paper}
 use Rattle.judge_spec.specs.declared.Place.{Place}
 use Rattle.judge_spec.specs.Course.{faulty, reached}
 use Rattle.judge_spec.specs.Judged.{faultPlace, afterFault, inRoom, over}
@@ -15,7 +16,7 @@ use Rattle.timing_spec.specs.Timed.{timedCourse, markedReport, lentText, number
 use Rattle.timing_spec.specs.Once.{PromisedAnswer, PromisedPlace}
 use Rattle.timing_spec.proofs.Once.{place-promised}
 
-module _ (s a x : List ℕ) where
+module _ (s : Paper) (a x : List ℕ) where
   abbrev faultOf : Text → ℕ → ℕ → Marked
   faultOf k n at = record { judgement = numbered (numberIn k n) (afterFault k n at (lentText k s a x)); mark = 0 }
 
@@ -45,6 +46,12 @@ module _ (s a x : List ℕ) where
   unfolding afterFault over
   fault-answers old k n at e h = answers old (timed-fault (length old) k n at e) h refl
 
+  -- where the text at fault holds y
+  pub fault-answers-in : (old : List ℕ) (k : Text) (n at : ℕ) (y : List ℕ) {r : Timed} → lentText k s a x ≡ y → faulty k n at ≡ timedCourse s a x
+      → r ≡ record { verdict = numbered (numberIn k n) (afterFault k n at y) .verdict; mark = 0 } → PromisedAnswer s a x old r old
+  fault-answers-in old k n at y q e h =
+      fault-answers old k n at e (h ∙ ap (λ (z : List ℕ). record { verdict = numbered (numberIn k n) (afterFault k n at z) .verdict; mark = 0 }) (sym q))
+
   pub walk-answers : (old : List ℕ) (w : Walked) (m : ℕ) {r : Timed} {after : List ℕ} → reached (w, m) ≡ timedCourse s a x
       → r .verdict ≡ inRoom (length old) w (markedReport w m) a .verdict → r .mark ≡ markInRoom (length old) (markedReport w m) m
       → after ≡ over (inRoom (length old) w (markedReport w m) a .bytes) old → PromisedAnswer s a x old r after
@@ -55,6 +62,9 @@ module _ (s a x : List ℕ) where
       → PromisedPlace s a x room p
   unfolding afterFault
   fault-placed room k n at e h = place-promised (h ∙ ap (λ (j : Marked). j .judgement .place) (timed-fault room k n at e))
+
+  pub fault-placed-in : (room : ℕ) (k : Text) (n at : ℕ) (y : List ℕ) {p : Place} → lentText k s a x ≡ y → faulty k n at ≡ timedCourse s a x → p ≡ faultPlace k n at y → PromisedPlace s a x room p
+  fault-placed-in room k n at y q e h = fault-placed room k n at e (h ∙ ap (λ (z : List ℕ). faultPlace k n at z) (sym q))
 
   pub walk-placed : (room : ℕ) (w : Walked) (m : ℕ) {p : Place} → reached (w, m) ≡ timedCourse s a x → p ≡ inRoom room w (markedReport w m) a .place
       → PromisedPlace s a x room p

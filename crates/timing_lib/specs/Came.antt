@@ -12,10 +12,11 @@ use Rattle.words.specs.Words.{stateIn}
 use Rattle.step_walk.specs.Reached.{walked}
 use Rattle.timing_clock.specs.declared.TimedWalk.{TimedWalk}
 use Rattle.timing_lib.specs.declared.TimedOutcome.{TimedOutcome}
-use Rattle.timing_lib.specs.declared.TimedOutcome.the-variants.{InSheet, InAnswer, InTimes, Reached}
+use Rattle.timing_lib.specs.declared.TimedOutcome.the-variants.{InSheet, InStart, InAnswer, InTimes, Reached}
 
 abbrev pub came : TimedOutcome → TimedWalk → Configuration → Course (Walked × ℕ)
 came (InSheet n at) w c = faulty text.Sheet n at
+came (InStart n at) w c = faulty text.Start n at
 came (InAnswer n at) w c = faulty text.Answer n at
 came (InTimes n at) w c = faulty text.Times n at
 came Reached w c = reached (walked (w .passed) c, w .mark)

@@ -1,7 +1,8 @@
-// Timing: a sheet, an answer, a text of times and a lent buffer come to the judge's verdict, a report that ends in its mark, and the mark.
+// Timing: a sheet, a start, an answer, a text of times and a lent buffer come to the judge's verdict, a report that ends in its mark, and the mark.
 // Promised: on any bytes, every field and byte is what crates/timing_spec/specs says, and the line at fault is that very part of its text.
 use judge_lib::pairs::Outcome;
-use judge_lib::pairs::read_sheet;
+use judge_lib::pairs::open_paper;
+use judge_lib::pairs::outcome_of;
 use judge_lib::parts::part_at;
 use judge_lib::parts::part_of;
 use judge_spec::DEFAULT_DEPTH;
@@ -27,6 +28,7 @@ ghost use Rattle.item_spec.specs.Reader.{bytes};
 ghost use Rattle.model.specs.declared.Text.the-variants as text;
 ghost use Rattle.report_spec.specs.Report.{countText};
 ghost use Rattle.write_items.specs.Written.{Written};
+ghost use Rattle.start_spec.specs.Paper.{paper};
 ghost use Rattle.judge_spec.specs.Judged.{afterFault, over};
 ghost use Rattle.words.specs.Words.{tablesIn, programIn, answerIn, stateIn};
 ghost use Rattle.step_walk.specs.Fits.{PortsFit};
@@ -39,15 +41,16 @@ ghost use Rattle.timing_lib.specs.Came.{came, markedIn, inRoomOf};
 ghost use Rattle.timing_lib.specs.Part.{PromisedPart};
 ghost use Rattle.timing_lib.specs.Once.{PromisedPrint};
 
-// A text is refused with a reader's number at a place of it, or all three are read.
+// A text is refused with a reader's number at a place of it, or all are read.
 enum TimedOutcome {
     InSheet(u8, usize),
+    InStart(u8, usize),
     InAnswer(u8, usize),
     InTimes(u8, usize),
     Reached,
 }
 
-// How far the three texts came, and the walk and its mark where all are read.
+// How far the texts came, and the walk and its mark where all are read.
 struct Ended {
     outcome: TimedOutcome,
     walk: TimedWalk,
@@ -79,7 +82,7 @@ fn clock_pair(
     state: &mut StateWords,
 ) -> Ended
     ensures { λ r. ⌜ (PortsFit (programIn (now (program .entry))) → came (r .outcome) (r .walk) (stateIn (now (state .exit)))
-        ≡ clocked (tablesIn (now (tables .entry))) (programIn (now (program .entry))) (answerIn (now (steps .entry))) (now (times .entry))) ⌝ }
+        ≡ clocked (tablesIn (now (tables .entry))) (programIn (now (program .entry))) (stateIn (now (state .entry))) (answerIn (now (steps .entry))) (now (times .entry))) ⌝ }
 {
     let read = read_times::read_times(times);
     if read.refused != 0 {
@@ -101,17 +104,26 @@ fn clock_pair(
 }
 
 // "after the sheet and the answer are read and before any step"
-fn course(sheet: &[u8], answer: &[u8], times: &[u8], state: &mut StateWords) -> Ended
+fn course(
+    sheet: &[u8],
+    given: bool,
+    start: &[u8],
+    answer: &[u8],
+    times: &[u8],
+    state: &mut StateWords,
+) -> Ended
     ensures { λ r. ⌜ came (r .outcome) (r .walk) (stateIn (now (state .exit)))
-        ≡ timedCourse (now (sheet .entry)) (now (answer .entry)) (now (times .entry)) ⌝ }
+        ≡ timedCourse (paper (now (sheet .entry)) given (now (start .entry))) (now (answer .entry)) (now (times .entry)) ⌝ }
 {
-    let mut steps = [0u32; 3073];
-    let given = read_answer::fill_answer(answer, &mut steps);
     let mut tables = [0u32; 2002];
     let mut program = [0u32; 1281];
-    let outcome = read_sheet(sheet, answer, given, &mut tables, &mut program);
+    let opened = open_paper(sheet, given, start, &mut tables, &mut program, state);
+    let mut steps = [0u32; 3073];
+    let read = read_answer::fill_answer(answer, &mut steps);
+    let outcome = outcome_of(sheet, opened, answer, read);
     match outcome {
         Outcome::InSheet(n, at) => at_fault(TimedOutcome::InSheet(n, at)),
+        Outcome::InStart(n, at) => at_fault(TimedOutcome::InStart(n, at)),
         Outcome::InAnswer(n, at) => at_fault(TimedOutcome::InAnswer(n, at)),
         Outcome::Reached => clock_pair(&tables, &program, &steps, times, state),
     }
@@ -182,17 +194,30 @@ fn after_walk(w: TimedWalk, state: &StateWords, lent: &mut [u8]) -> Timed
 }
 
 // The verdict and the mark, and the report in the lent buffer.
-pub fn timed(sheet: &[u8], answer: &[u8], times: &[u8], report: &mut [u8]) -> Timed
-    ensures { λ r. ⌜ PromisedAnswer (now (sheet .entry)) (now (answer .entry)) (now (times .entry)) (now (report .entry)) r (now (report .exit)) ⌝ }
+pub fn timed(
+    sheet: &[u8],
+    given: bool,
+    start: &[u8],
+    answer: &[u8],
+    times: &[u8],
+    report: &mut [u8],
+) -> Timed
+    ensures { λ r. ⌜ PromisedAnswer (paper (now (sheet .entry)) given (now (start .entry))) (now (answer .entry)) (now (times .entry)) (now (report .entry)) r (now (report .exit)) ⌝ }
 {
     let mut state = [0u32; 930];
-    let ended = course(sheet, answer, times, &mut state);
+    let ended = course(sheet, given, start, answer, times, &mut state);
     let outcome = ended.outcome;
     let walk = ended.walk;
     match outcome {
         TimedOutcome::InSheet(n, at) => unmarked(judge_verdicts::after_fault(
             Text::Sheet,
             sheet,
+            n,
+            at,
+        )),
+        TimedOutcome::InStart(n, at) => unmarked(judge_verdicts::after_fault(
+            Text::Start,
+            start,
             n,
             at,
         )),
@@ -208,15 +233,23 @@ pub fn timed(sheet: &[u8], answer: &[u8], times: &[u8], report: &mut [u8]) -> Ti
 }
 
 // Which text held the line at fault, where the line starts, and how many bytes it has.
-pub fn timed_place(sheet: &[u8], answer: &[u8], times: &[u8], room: usize) -> Place
-    ensures { λ r. ⌜ PromisedPlace (now (sheet .entry)) (now (answer .entry)) (now (times .entry)) room r ⌝ }
+pub fn timed_place(
+    sheet: &[u8],
+    given: bool,
+    start: &[u8],
+    answer: &[u8],
+    times: &[u8],
+    room: usize,
+) -> Place
+    ensures { λ r. ⌜ PromisedPlace (paper (now (sheet .entry)) given (now (start .entry))) (now (answer .entry)) (now (times .entry)) room r ⌝ }
 {
     let mut state = [0u32; 930];
-    let ended = course(sheet, answer, times, &mut state);
+    let ended = course(sheet, given, start, answer, times, &mut state);
     let outcome = ended.outcome;
     let walk = ended.walk;
     match outcome {
         TimedOutcome::InSheet(n, at) => judge_verdicts::fault_place(Text::Sheet, sheet, n, at),
+        TimedOutcome::InStart(n, at) => judge_verdicts::fault_place(Text::Start, start, n, at),
         TimedOutcome::InAnswer(n, at) => judge_verdicts::fault_place(Text::Answer, answer, n, at),
         TimedOutcome::InTimes(n, at) => judge_verdicts::fault_place(Text::Times, times, n, at),
         TimedOutcome::Reached => {
@@ -231,32 +264,42 @@ pub fn timed_place(sheet: &[u8], answer: &[u8], times: &[u8], room: usize) -> Pl
 // The line at fault, as a part of whichever text held it.
 pub fn timed_offending<'a>(
     sheet: &'a [u8],
+    given: bool,
+    start: &'a [u8],
     answer: &'a [u8],
     times: &'a [u8],
     room: usize,
 ) -> &'a [u8]
-    ensures { λ r. ⌜ PromisedPart (sheet .entry) (answer .entry) (times .entry) room r ⌝ }
+    ensures { λ r. ⌜ PromisedPart (sheet .entry) given (start .entry) (answer .entry) (times .entry) room r ⌝ }
 {
-    let place = timed_place(sheet, answer, times, room);
+    let place = timed_place(sheet, given, start, answer, times, room);
     let text = place.text;
     match text {
         Text::Times => part_of(times, place.start, place.size),
-        _ => part_at(place, sheet, answer),
+        _ => part_at(place, sheet, start, answer),
     }
 }
 
-// What the `timing` program prints: the report with its mark, or after 1 to 5 and 40 to 42 the three lines.
-pub fn timed_print(sheet: &[u8], answer: &[u8], times: &[u8], out: &mut [u8; LENT_BYTES]) -> usize
-    ensures print { λ r. ⌜ PromisedPrint (now (sheet .entry)) (now (answer .entry)) (now (times .entry)) (now (out .entry)) r (now (out .exit)) ⌝ }
+// What the `timing` program prints: the report with its mark, or after 1 to 5, 50 and 40 to 42 the three lines.
+pub fn timed_print(
+    sheet: &[u8],
+    given: bool,
+    start: &[u8],
+    answer: &[u8],
+    times: &[u8],
+    out: &mut [u8; LENT_BYTES],
+) -> usize
+    ensures print { λ r. ⌜ PromisedPrint (paper (now (sheet .entry)) given (now (start .entry))) (now (answer .entry)) (now (times .entry)) (now (out .entry)) r (now (out .exit)) ⌝ }
     ensures counts { λ r. ⌜ Counts r (now (out .exit)) ⌝ }
 {
-    let ended = timed(sheet, answer, times, out);
+    let ended = timed(sheet, given, start, answer, times, out);
     let verdict = ended.verdict;
     let refused = verdict.refused;
     let text = verdict.text;
     match refused {
         1..=5 => write_report::write_fault(out, text, verdict.line, refused),
         40..=42 => write_report::write_fault(out, text, verdict.line, refused),
+        50 => write_report::write_fault(out, text, verdict.line, refused),
         _ => verdict.written,
     }
 }

@@ -37,6 +37,7 @@ text-short text.Neither = omega arith
 text-short text.Sheet = omega arith
 text-short text.Answer = omega arith
 text-short text.Times = omega arith
+text-short text.Start = omega arith
 
 pub fault-short : (x : Text) (at refused : ℕ) → length (faultText x at refused) ≤ 67
 unfolding faultText

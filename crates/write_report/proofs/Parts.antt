@@ -13,7 +13,10 @@ use Rattle.item_spec.specs.Write.{onlyIf, inTurn}
 use Rattle.write_items.specs.Written.{Written}
 use Rattle.write_items.proofs.Laws.{none}
 use Rattle.model.specs.declared.Walked.{Walked}
+use Rattle.item_spec.specs.Reader.{bytes}
+use Rattle.model.specs.declared.Configuration.{Configuration}
 use Rattle.report_spec.specs.Report.{report, reportWith}
+use Rattle.start_spec.specs.Round.{stateText, startText}
 use Rattle.write_report.specs.Lines.{endingPart, headPart, instancesPart, connectionsPart}
 
 -- ---- a line that may be absent
@@ -51,3 +54,7 @@ module _ (p : ℕ → Bool) (f : ℕ → List ℕ) (silent : (i : ℕ) → p i �
 pub parts : (w : Walked) → headPart (w .accepted) (w .refused) (w .port) (w .configuration .done) ++ instancesPart (w .configuration) ++ connectionsPart (w .configuration) ≡ report w
 unfolding headPart endingPart instancesPart connectionsPart report reportWith
 parts w = simp append-assoc
+
+pub start-parts : (c : Configuration) → bytes "start=1\n" ++ instancesPart c ++ connectionsPart c ≡ startText c
+unfolding instancesPart connectionsPart stateText startText
+start-parts c = simp append-assoc

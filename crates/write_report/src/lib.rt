@@ -1,4 +1,4 @@
-// The report and the fault lines: each line is written into the part of the lent buffer that is still free, and its writer answers the bytes used.
+// The report, the start and the fault lines: each line is written into the part of the lent buffer that is still free, and its writer answers the bytes used.
 // Promised: every byte of the lent buffer and the bytes used, cut where there is no room, for every state, reachable or not.
 use model::Concerned;
 use model::Text;
@@ -26,6 +26,7 @@ ghost use Rattle.sets.specs.Test.{tally};
 ghost use Rattle.report_spec.specs.Report.{countText, portText, instanceText, connectionText, instanceAt, connectionsText, report};
 ghost use Rattle.report_spec.specs.Faults.{textText, faultText};
 ghost use Rattle.rules_spec.specs.Standing.{standing};
+ghost use Rattle.start_spec.specs.Round.{startText};
 ghost use Rattle.write_items.specs.Written.{Written};
 ghost use Rattle.words.specs.Words.{stateIn};
 ghost use Rattle.write_report.specs.Lines.{endingPart, headPart, instancesPart, connectionsPart, reached};
@@ -209,6 +210,15 @@ pub fn write_report(
     used + write_connections(&mut t[used..], state)
 }
 
+// What the state is as the start of a paper: "the report's lines from `instances=` on, after a line `start=1`".
+pub fn write_start(t: &mut [u8], state: &StateWords) -> usize
+    ensures { λ r. ⌜ Written (now (t .entry)) (startText (stateIn (now (state .entry)))) (now (t .exit)) 0 r ⌝ }
+{
+    let mut used = write_key(t, 0, b"start=1\n");
+    used += write_instances(&mut t[used..], state);
+    used + write_connections(&mut t[used..], state)
+}
+
 // text=, nothing where neither text is at fault
 fn write_text(t: &mut [u8], x: Text) -> usize
     ensures { λ r. ⌜ Written (now (t .entry)) (textText x) (now (t .exit)) 0 r ⌝ }
@@ -218,6 +228,7 @@ fn write_text(t: &mut [u8], x: Text) -> usize
         Text::Sheet => write_key(t, 0, b"text=sheet\n"),
         Text::Answer => write_key(t, 0, b"text=answer\n"),
         Text::Times => write_key(t, 0, b"text=times\n"),
+        Text::Start => write_key(t, 0, b"text=start\n"),
     }
 }
 

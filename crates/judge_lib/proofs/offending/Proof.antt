@@ -6,4 +6,4 @@ use Rattle.judge_lib.proofs.offending.Tie as tie
 pub offending-spec : {M : Type 1} → statement M
 offending-spec =
     tie.close (tie.spec (λ c κs. search needs) (λ c κs. search needs)
-    (λ c. part-placed _ _ _ _ _ (c .before .place .ensures .place-is) (place-within _ _ _) (c .part-at .ensures)))
+    (λ c. part-placed _ (c .before .before .before .before .before .args .given) _ _ _ _ _ (c .before .place .ensures .place-is) (place-within _ _ _) (c .part-at .ensures)))

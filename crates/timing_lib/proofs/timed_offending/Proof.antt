@@ -5,15 +5,13 @@ use Rattle.timing_lib.proofs.timed_offending.Tie as tie
 
 returns : tie.Need-returns
 returns c =
-    let told = c .before in
-    let x = told .before .before .before .before .before .before .args in
-    part-placed (x .sheet) (x .answer) (x .times) _ (told .before .before .timed-place .ensures) (rw (told .enum-told .given .1) (c .part-of .ensures))
+    let x = c .before .before .before .before .before .before .before .before .args in
+    part-placed (x .sheet) (x .given) (x .start) (x .answer) (x .times) _ (c .before .before .before .timed-place .ensures) (rw (c .before .enum-told .given .1) (c .part-of .ensures))
 
 returns-2 : tie.Need-returns-2
 returns-2 c =
-    let here = c .before in
-    let x = here .before .before .before .before .before .args in
-    part-placed (x .sheet) (x .answer) (x .times) _ (here .before .timed-place .ensures) (rw (elsewhere _ (here .match .keys2) (x .sheet) (x .answer) (x .times)) at (c .part-at .ensures))
+    let x = c .before .before .before .before .before .before .before .args in
+    part-placed (x .sheet) (x .given) (x .start) (x .answer) (x .times) _ (c .before .before .timed-place .ensures) (rw (elsewhere _ (c .before .match .keys2) (x .sheet) (x .start) (x .answer) (x .times)) at (c .part-at .ensures))
 
 pub timed-offending-spec : {M : Type 1} → statement M
 timed-offending-spec = tie.close (tie.spec (λ c κs. search needs) (λ c. search needs) (λ c κs. search needs) (λ c κs. search needs) returns returns-2)

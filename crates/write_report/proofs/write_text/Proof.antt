@@ -8,8 +8,8 @@ pub write-text-spec : {M : Type 1} → statement M
 unfolding textText
 write-text-spec =
     tie.close
-    (tie.spec (λ c. search needs) (λ c. search needs) (λ c. search needs) (λ c κs. search needs) (λ c. search needs) (λ c. search needs)
-    (λ c κs. search needs) (λ c. search needs) (λ c. search needs) (λ c κs. search needs) (λ c. rw (c .enum-told .given .1) (none _ _))
+    (tie.spec (λ c. search needs) (λ c. search needs) (λ c. search needs) (λ c κs. search needs) (λ c. search needs) (λ c. search needs) (λ c κs. search needs) (λ c. search needs) (λ c. search needs) (λ c κs. search needs) (λ c. search needs) (λ c. search needs) (λ c κs. search needs) (λ c. rw (c .enum-told .given .1) (none _ _))
     (λ c. search needs) (λ c. rw (c .before .before .before .before .before .enum-told2 .given .1) (c .before .before .write-key .ensures))
     (λ c. search needs) (λ c. rw (c .before .before .before .before .before .enum-told3 .given .1) (c .before .before .write-key2 .ensures))
-    (λ c. search needs) (λ c. rw (c .before .before .before .before .before .enum-told4 .given .1) (c .before .before .write-key3 .ensures)))
+    (λ c. search needs) (λ c. rw (c .before .before .before .before .before .enum-told4 .given .1) (c .before .before .write-key3 .ensures))
+    (λ c. search needs) (λ c. rw (c .before .before .before .before .before .enum-told5 .given .1) (c .before .before .write-key4 .ensures)))
