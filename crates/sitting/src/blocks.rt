@@ -32,17 +32,18 @@ fn write_first(block: &mut [u8], at: usize, text: &[u8], size: usize) -> usize {
     write_items::write_key(block, at, &text[..n])
 }
 
-// What `judge` prints of this verdict: the report, or after 1 to 5 the three lines.
+// What `judge` prints of this verdict: the report, or after 1 to 5 and 50 the three lines.
 fn write_verdict(block: &mut [u8], at: usize, verdict: Verdict, report: &mut [u8]) -> usize {
     let refused = verdict.refused;
     let text = verdict.text;
-    match refused {
-        1..=5 => {
-            let used = write_report::write_fault(report, text, verdict.line, refused);
-            write_first(block, at, report, used)
-        }
-        _ => write_first(block, at, report, verdict.written),
-    }
+    let used = judge_lib::parts::fault_or_report(
+        report,
+        text,
+        verdict.line,
+        refused,
+        verdict.written,
+    );
+    write_first(block, at, report, used)
 }
 
 fn write_place(block: &mut [u8], at: usize, place: Place) -> usize {
@@ -67,25 +68,34 @@ fn write_offending(
     block: &mut [u8],
     at: usize,
     sheet: &[u8],
+    start: &[u8],
     answer: &[u8],
     place: Place,
 ) -> usize {
     let text = place.text;
     match text {
         Text::Sheet => write_part(block, at, sheet, place.start, place.size),
+        Text::Start => write_part(block, at, start, place.start, place.size),
         _ => write_part(block, at, answer, place.start, place.size),
     }
 }
 
 // One walk gives the report, the verdict and the place.
-fn write_judgement(block: &mut [u8], at: usize, sheet: &[u8], answer: &[u8]) -> usize {
+fn write_judgement(
+    block: &mut [u8],
+    at: usize,
+    sheet: &[u8],
+    given: bool,
+    start: &[u8],
+    answer: &[u8],
+) -> usize {
     let mut report = [0u8; LENT_BYTES];
-    let judged = judge_lib::judge_and_place(sheet, answer, &mut report);
+    let judged = judge_lib::judge_and_place(sheet, given, start, answer, &mut report);
     let verdict = judged.verdict;
     let place = judged.place;
     let a = write_verdict(block, at, verdict, &mut report);
     let b = write_place(block, a, place);
-    write_offending(block, b, sheet, answer, place)
+    write_offending(block, b, sheet, start, answer, place)
 }
 
 fn write_out(file: i32, block: &[u8], used: usize) -> bool {
@@ -108,9 +118,16 @@ pub(crate) fn write_unreadable(block: &mut [u8], name: &[u8]) -> usize {
     write_items::write_key(block, at, b"unreadable=1\n")
 }
 
-pub(crate) fn write_candidate(block: &mut [u8], name: &[u8], sheet: &[u8], answer: &[u8]) -> usize {
+pub(crate) fn write_candidate(
+    block: &mut [u8],
+    name: &[u8],
+    sheet: &[u8],
+    given: bool,
+    start: &[u8],
+    answer: &[u8],
+) -> usize {
     let at = write_shown(block, 0, b"candidate=", name);
-    write_judgement(block, at, sheet, answer)
+    write_judgement(block, at, sheet, given, start, answer)
 }
 
 // `candidates=`, and whether it was written.

@@ -1,8 +1,8 @@
-// A marker's aid: the sheet from sheet.txt in the current folder, and for each answer file that an argument names, in order, `candidate=` and its name,
-// what `judge` prints, `place=` and `offending=` with the line at fault; or `unreadable=1`; at the end `candidates=` and how many there were. A candidate's
-// bytes are shown as `sitting_shown` promises: `\xNN`, lower case. Each candidate is one write, and the first write that fails ends the sitting.
-// Called as `sitting -0 SHEET`, as bin/sitting calls it, it takes the sheet's path from there and the names, each ended by a NUL, from standard input, shows
-// them whole, and tells on descriptor 3 that all was written, and whether every answer was read.
+// A marker's aid: the sheet from sheet.txt and the start, where there is one, from start.txt in the current folder, and for each answer file that an argument
+// names, in order, `candidate=` and its name, what `judge` prints, `place=` and `offending=` with the line at fault; or `unreadable=1`; at the end
+// `candidates=` and how many there were. A candidate's bytes are shown as `sitting_shown` promises: `\xNN`, lower case. Each candidate is one write, and the
+// first write that fails ends the sitting. Called as `sitting -0 SHEET START`, as bin/sitting calls it, it takes the paths from there and the names, each
+// ended by a NUL, from standard input, shows them whole, and tells on descriptor 3 that all was written, and whether every answer was read.
 mod blocks;
 
 use blocks::LONGEST;
@@ -64,7 +64,15 @@ fn one_more(went: Went, unread: bool, written: bool) -> Went {
 }
 
 // The candidate whose answer stands in `path`, shown by this name.
-fn run_answer(block: &mut [u8], sheet: &[u8], path: &[u8], name: &[u8], went: Went) -> Went {
+fn run_answer(
+    block: &mut [u8],
+    sheet: &[u8],
+    given: bool,
+    start: &[u8],
+    path: &[u8],
+    name: &[u8],
+    went: Went,
+) -> Went {
     let mut answer = [0u8; 32769];
     let read = program_io::read_named(path, &mut answer);
     let size = read.size;
@@ -73,22 +81,36 @@ fn run_answer(block: &mut [u8], sheet: &[u8], path: &[u8], name: &[u8], went: We
         let used = write_unreadable(block, name);
         return one_more(went, true, print(block, used));
     }
-    let used = write_candidate(block, name, sheet, &answer[..size]);
+    let used = write_candidate(block, name, sheet, given, start, &answer[..size]);
     one_more(went, false, print(block, used))
 }
 
-fn run_path(block: &mut [u8], sheet: &[u8], path: &[u8], went: Went) -> Went {
+fn run_path(
+    block: &mut [u8],
+    sheet: &[u8],
+    given: bool,
+    start: &[u8],
+    path: &[u8],
+    went: Went,
+) -> Went {
     let from = shown_from(path);
-    run_answer(block, sheet, path, &path[from..], went)
+    run_answer(block, sheet, given, start, path, &path[from..], went)
 }
 
-fn run_argument(block: &mut [u8], sheet: &[u8], i: usize, went: Went) -> Went {
+fn run_argument(
+    block: &mut [u8],
+    sheet: &[u8],
+    given: bool,
+    start: &[u8],
+    i: usize,
+    went: Went,
+) -> Went {
     let mut path = [0u8; 4096];
     let size = name_of(i, &mut path);
-    run_path(block, sheet, &path[..size], went)
+    run_path(block, sheet, given, start, &path[..size], went)
 }
 
-fn begun() -> Went {
+fn none_yet() -> Went {
     Went {
         candidates: 0,
         unread: false,
@@ -98,27 +120,42 @@ fn begun() -> Went {
     }
 }
 
-fn run_arguments(block: &mut [u8], sheet: &[u8]) -> Went {
+fn run_arguments(block: &mut [u8], sheet: &[u8], given: bool, start: &[u8]) -> Went {
     let count = os::arg_count();
-    let mut went = begun();
+    let mut went = none_yet();
     let mut i: usize = 1;
     while i < count && went.written {
-        went = run_argument(block, sheet, i, went);
+        went = run_argument(block, sheet, given, start, i, went);
         i += 1;
     }
     went
 }
 
 // A name has ended.
-fn run_name(block: &mut [u8], sheet: &[u8], name: &[u8], went: Went) -> Went {
+fn run_name(
+    block: &mut [u8],
+    sheet: &[u8],
+    given: bool,
+    start: &[u8],
+    name: &[u8],
+    went: Went,
+) -> Went {
     let n = at_most(went.size, name);
-    run_answer(block, sheet, &name[..n], &name[..n], went)
+    run_answer(block, sheet, given, start, &name[..n], &name[..n], went)
 }
 
 // A name's next byte, or the NUL that ends it. Of a name longer than any path the first bytes are kept, by which no file can be opened.
-fn take_byte(block: &mut [u8], sheet: &[u8], name: &mut [u8], b: u8, went: Went) -> Went {
+fn take_byte(
+    block: &mut [u8],
+    sheet: &[u8],
+    given: bool,
+    start: &[u8],
+    name: &mut [u8],
+    b: u8,
+    went: Went,
+) -> Went {
     if b == 0 {
-        return run_name(block, sheet, name, went);
+        return run_name(block, sheet, given, start, name, went);
     }
     Went {
         candidates: went.candidates,
@@ -129,11 +166,19 @@ fn take_byte(block: &mut [u8], sheet: &[u8], name: &mut [u8], b: u8, went: Went)
     }
 }
 
-fn take_bytes(block: &mut [u8], sheet: &[u8], name: &mut [u8], bytes: &[u8], went: Went) -> Went {
+fn take_bytes(
+    block: &mut [u8],
+    sheet: &[u8],
+    given: bool,
+    start: &[u8],
+    name: &mut [u8],
+    bytes: &[u8],
+    went: Went,
+) -> Went {
     let mut so_far = went;
     let mut i: usize = 0;
     while i < bytes.len() && so_far.written {
-        so_far = take_byte(block, sheet, name, bytes[i], so_far);
+        so_far = take_byte(block, sheet, given, start, name, bytes[i], so_far);
         i += 1;
     }
     so_far
@@ -150,16 +195,25 @@ fn names_ended(went: Went, unread: bool) -> Went {
 }
 
 // The last name may lack its NUL.
-fn last_name(block: &mut [u8], sheet: &[u8], name: &[u8], went: Went) -> Went {
+fn last_name(
+    block: &mut [u8],
+    sheet: &[u8],
+    given: bool,
+    start: &[u8],
+    name: &[u8],
+    went: Went,
+) -> Went {
     if went.size == 0 {
         return names_ended(went, false);
     }
-    names_ended(run_name(block, sheet, name, went), false)
+    names_ended(run_name(block, sheet, given, start, name, went), false)
 }
 
 fn next_names(
     block: &mut [u8],
     sheet: &[u8],
+    given: bool,
+    start: &[u8],
     name: &mut [u8],
     bytes: &mut [u8],
     went: Went,
@@ -171,17 +225,24 @@ fn next_names(
         return names_ended(went, true);
     }
     if size == 0 {
-        return last_name(block, sheet, name, went);
+        return last_name(block, sheet, given, start, name, went);
     }
-    take_bytes(block, sheet, name, &bytes[..size], went)
+    take_bytes(block, sheet, given, start, name, &bytes[..size], went)
 }
 
-fn run_names(block: &mut [u8], sheet: &[u8], name: &mut [u8], bytes: &mut [u8]) -> Went {
-    let mut went = begun();
+fn run_names(
+    block: &mut [u8],
+    sheet: &[u8],
+    given: bool,
+    start: &[u8],
+    name: &mut [u8],
+    bytes: &mut [u8],
+) -> Went {
+    let mut went = none_yet();
     // A loop that is proved ends, so it counts its turns down.
     let mut turns = u64::MAX;
     while 0 < turns && went.written && !went.ended {
-        went = next_names(block, sheet, name, bytes, went);
+        went = next_names(block, sheet, given, start, name, bytes, went);
         turns -= 1;
     }
     went
@@ -199,7 +260,10 @@ fn print_last(block: &mut [u8], went: Went) -> bool {
 fn sit(block: &mut [u8]) {
     let mut sheet = [0u8; 32769];
     let n = program_io::read_named(b"sheet.txt", &mut sheet).size;
-    let went = run_arguments(block, &sheet[..n]);
+    let mut start = [0u8; 8193];
+    let begun = program_io::read_start(b"start.txt", &mut start);
+    let b = begun.size;
+    let went = run_arguments(block, &sheet[..n], begun.given, &start[..b]);
     print_last(block, went);
 }
 
@@ -208,9 +272,20 @@ fn sit_for_script(block: &mut [u8]) {
     let k = name_of(2, &mut path);
     let mut sheet = [0u8; 32769];
     let n = program_io::read_named(&path[..k], &mut sheet).size;
+    let j = name_of(3, &mut path);
+    let mut start = [0u8; 8193];
+    let begun = program_io::read_start(&path[..j], &mut start);
+    let b = begun.size;
     let mut name = [0u8; 4096];
     let mut bytes = [0u8; 65536];
-    let went = run_names(block, &sheet[..n], &mut name, &mut bytes);
+    let went = run_names(
+        block,
+        &sheet[..n],
+        begun.given,
+        &start[..b],
+        &mut name,
+        &mut bytes,
+    );
     if print_last(block, went) {
         program_io::tell_of(went.unread, false);
     }

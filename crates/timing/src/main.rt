@@ -10,10 +10,20 @@ fn main() {
     let n = io::read_full(os::open_read(b"sheet.txt"), &mut sheet);
     let mut times = [0u8; 32769];
     let k = io::read_full(os::open_read(b"times.txt"), &mut times);
+    let mut start = [0u8; 8193];
+    let begun = program_io::read_start(b"start.txt", &mut start);
+    let b = begun.size;
     let mut answer = [0u8; 32769];
     let read = program_io::read_answer(&mut answer, b"timing: standard input");
     let m = read.size;
     let mut out = [0u8; LENT_BYTES];
-    let used = timing_lib::timed_print(&sheet[..n], &answer[..m], &times[..k], &mut out);
+    let used = timing_lib::timed_print(
+        &sheet[..n],
+        begun.given,
+        &start[..b],
+        &answer[..m],
+        &times[..k],
+        &mut out,
+    );
     program_io::finish(&out[..used], read.failed);
 }

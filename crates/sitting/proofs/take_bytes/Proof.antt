@@ -6,10 +6,10 @@ use Rattle.sitting.proofs.take_bytes.Statement.{statement}
 use Rattle.sitting.proofs.take_bytes.Tie as tie
 
 abbrev Inv-loop : tie.InvT-loop
-Inv-loop block₀ sheet name₀ bytes so-far₀ i₀ block name so-far i = (length block ≡ length block₀) × (length name ≡ length name₀)
+Inv-loop block₀ sheet given start name₀ bytes so-far₀ i₀ block name so-far i = (length block ≡ length block₀) × (length name ≡ length name₀)
 
 abbrev μ-loop : tie.MeasureT-loop
-μ-loop block₀ sheet name₀ bytes so-far₀ i₀ block name so-far i = length bytes - i
+μ-loop block₀ sheet given start name₀ bytes so-far₀ i₀ block name so-far i = length bytes - i
 
 pub take-bytes-spec : {M : Type 1} → statement M
 take-bytes-spec =
