@@ -322,7 +322,7 @@ static void damage_plan(struct plan *p, struct pair *pair, unsigned number)
 {
     struct random *r = &p->random;
     struct draft *text = chance(r, 60) ? &pair->sheet : &pair->answer;
-    if (number == 1) damage_length(r, text);
+    if (number == 1) damage_length(r, text, LONGEST_TEXT);
     if (number == 2) damage_form(r, text);
     if (number == 3) damage_number(r, text, &plan_edges);
     if (number == 5) damage_end(r, text);
@@ -338,6 +338,7 @@ void generate_plan(uint64_t seed, uint64_t index, struct pair *pair)
     if (aim == 4) break_plan(&plan);
     write_plan(&plan, pair);
     damage_plan(&plan, pair, aim);
+    pair->started = false;
     cut_to_case(&pair->sheet);
     cut_to_case(&pair->answer);
     pair->room = draw_room(&plan.random, pair, aim == 6, judge_plan);

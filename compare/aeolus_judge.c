@@ -193,22 +193,21 @@ static struct result run_plan(const struct universe *u, struct deployment *d, co
     return ran;
 }
 
-void judge_plan(const uint8_t *sheet, size_t sheetlen, const uint8_t *answer, size_t answerlen, uint8_t *report, size_t room,
-                struct result *result)
+void judge_plan(const struct texts *texts, uint8_t *report, size_t room, struct result *result)
 {
     static struct universe u;
     static struct action actions[MOST_ACTIONS];
     uint8_t bytes[LONGEST_PLAN_REPORT];
     unsigned count = 0;
     struct deployment d = { .bindings = 0 };
-    struct reader of_sheet = reader_of(sheet, sheetlen), of_answer = reader_of(answer, answerlen);
+    struct reader of_sheet = reader_of(texts->sheet), of_answer = reader_of(texts->answer);
 
-    if (sheetlen > LONGEST_TEXT) { *result = after_length(SHEET); return; }
-    if (answerlen > LONGEST_TEXT) { *result = after_length(ANSWER); return; }
+    if (texts->sheet.length > LONGEST_TEXT) { *result = after_whole(TOO_LONG, SHEET); return; }
+    if (texts->answer.length > LONGEST_TEXT) { *result = after_whole(TOO_LONG, ANSWER); return; }
     if (!read_universe(&of_sheet, &u)) { *result = after_fault(&of_sheet, SHEET); return; }
     if (!read_plan(&of_answer, u.types, actions, &count)) { *result = after_fault(&of_answer, ANSWER); return; }
     struct result ran = run_plan(&u, &d, actions, count);
-    ran.place = ran.accepted < count ? step_place(answer, answerlen, ran.accepted) : (struct place){ ANSWER, answerlen, 0 };
+    ran.place = ran.accepted < count ? step_place(texts->answer, ran.accepted) : (struct place){ ANSWER, texts->answer.length, 0 };
     ran.length = write_plan_report(bytes, ran.accepted, ran.refused, &d);
     *result = in_room(ran, bytes, report, room);
 }

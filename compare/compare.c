@@ -23,16 +23,20 @@ struct stream { uint8_t *bytes; size_t length, size; };
 /* The cases of one run of the command, what is expected of it, and where each case starts in both. */
 struct cases { struct stream input, expected; size_t input_at[AT_ONCE + 1], expected_at[AT_ONCE + 1]; unsigned count; };
 
-/* Appends a case and its answer; gives back its number. */
-typedef unsigned appender(uint64_t seed, uint64_t index, struct cases *cases);
+/* The number of a case, whether it has a start, and whether the number is one of the start. */
+struct tally { unsigned number; bool started, of_start; };
+
+/* Appends a case and its answer. */
+typedef struct tally appender(uint64_t seed, uint64_t index, struct cases *cases);
 
 struct job {
     appender *append;
     const char *folder;
     char **command;
     uint64_t count, seen[NUMBERS], total;
+    uint64_t seen_of_start[NUMBERS], started;
     const char *kind;
-    bool texts;                       /* whether a case is two texts */
+    bool texts;                       /* whether a case is texts */
 };
 
 static void fail(const char *what)
@@ -84,33 +88,47 @@ static const char *path_of(const struct job *job, const char *name)
 
 /* ---- the cases ---- */
 
-static unsigned append_texts(struct cases *cases, const struct pair *pair, const char *word, judging *judge)
+static void append_draft(struct stream *s, const struct draft *text) { append_bytes(s, text->bytes, text->length); }
+
+/* `START` is `STARTLEN `, `- ` where a case has no start, and nothing in a plan. */
+static void append_input(struct stream *s, const struct pair *pair, const char *word, const char *start)
+{
+    char line[LONGEST_RESULT];
+    int length = snprintf(line, sizeof line, "%s %zu %s%zu %zu\n", word, pair->sheet.length, start, pair->answer.length, pair->room);
+    append_bytes(s, line, (size_t)length);
+    append_draft(s, &pair->sheet);
+    if (pair->started) append_draft(s, &pair->start);
+    append_draft(s, &pair->answer);
+}
+
+static struct tally append_answer(struct stream *s, const struct pair *pair, judging *judge)
 {
     static uint8_t report[GREATEST_ROOM];
     char line[LONGEST_RESULT];
+    struct texts texts = texts_of(pair);
     struct result result;
-    int length = snprintf(line, sizeof line, "%s %zu %zu %zu\n", word, pair->sheet.length, pair->answer.length, pair->room);
-    append_bytes(&cases->input, line, (size_t)length);
-    append_bytes(&cases->input, pair->sheet.bytes, pair->sheet.length);
-    append_bytes(&cases->input, pair->answer.bytes, pair->answer.length);
-    judge(pair->sheet.bytes, pair->sheet.length, pair->answer.bytes, pair->answer.length, report, pair->room, &result);
-    append_bytes(&cases->expected, line, result_line(line, &result));
-    append_bytes(&cases->expected, report, result.length);
-    return result.refused;
+    judge(&texts, report, pair->room, &result);
+    append_bytes(s, line, result_line(line, &result));
+    append_bytes(s, report, result.length);
+    return (struct tally){ result.refused, pair->started, result.text == START };
 }
 
-static unsigned append_pair(uint64_t seed, uint64_t index, struct cases *cases)
+static struct tally append_pair(uint64_t seed, uint64_t index, struct cases *cases)
 {
     static struct pair pair;
+    char start[32] = "- ";
     generate_pair(seed, index, &pair);
-    return append_texts(cases, &pair, "case", judge);
+    if (pair.started) snprintf(start, sizeof start, "%zu ", pair.start.length);
+    append_input(&cases->input, &pair, "case", start);
+    return append_answer(&cases->expected, &pair, judge);
 }
 
-static unsigned append_plan(uint64_t seed, uint64_t index, struct cases *cases)
+static struct tally append_plan(uint64_t seed, uint64_t index, struct cases *cases)
 {
     static struct pair pair;
     generate_plan(seed, index, &pair);
-    return append_texts(cases, &pair, "plan", judge_plan);
+    append_input(&cases->input, &pair, "plan", "");
+    return append_answer(&cases->expected, &pair, judge_plan);
 }
 
 /* The name of a hall's case is its index. */
@@ -122,7 +140,7 @@ static void append_lent(struct stream *s, uint64_t index, const uint8_t *bytes)
     s->length += (size_t)(ink_byte(at, '\n') - first);
 }
 
-static unsigned append_hall(uint64_t seed, uint64_t index, struct cases *cases)
+static struct tally append_hall(uint64_t seed, uint64_t index, struct cases *cases)
 {
     static struct lent lent;
     static uint8_t before[LENT_BYTES], after[LENT_BYTES];
@@ -134,7 +152,7 @@ static unsigned append_hall(uint64_t seed, uint64_t index, struct cases *cases)
     uint8_t *first = make_room(&cases->expected, LONGEST_HALL_ANSWER), *at = ink_number(ink_byte(first, 'c'), (uint32_t)index);
     at = ink_changes(ink_refusal(at, refusal), before, after);
     cases->expected.length += (size_t)(ink_byte(at, '\n') - first);
-    return refusal.number;
+    return (struct tally){ refusal.number, false, false };
 }
 
 static void make_cases(struct job *job, uint64_t seed, uint64_t from, uint64_t count, struct cases *cases)
@@ -144,7 +162,10 @@ static void make_cases(struct job *job, uint64_t seed, uint64_t from, uint64_t c
     for (unsigned k = 0; k < count; k++) {
         cases->input_at[k] = cases->input.length;
         cases->expected_at[k] = cases->expected.length;
-        job->seen[job->append(seed, from + k, cases)]++;
+        struct tally tally = job->append(seed, from + k, cases);
+        job->seen[tally.number]++;
+        job->started += tally.started;
+        job->seen_of_start[tally.number] += tally.of_start;
     }
     cases->input_at[count] = cases->input.length;
     cases->expected_at[count] = cases->expected.length;
@@ -203,17 +224,22 @@ static void show(const char *title, const struct stream *s, size_t start, size_t
     printf("--- %s\n%.*s\n", title, (int)(end - start), (const char *)s->bytes + start);
 }
 
-/* The case as the command got it, and a pair's two texts beside it. */
+/* The case as the command got it, and its texts beside it; no start of another case is left there. */
 static void keep_case(const struct job *job, const struct cases *cases, unsigned k)
 {
     const uint8_t *bytes = cases->input.bytes + cases->input_at[k];
     size_t length = cases->input_at[k + 1] - cases->input_at[k];
+    char *after;
     write_file(path_of(job, "differs.case"), bytes, length);
+    remove(path_of(job, "differs.start"));
     if (!job->texts) return;
     const uint8_t *sheet = (const uint8_t *)memchr(bytes, '\n', length) + 1;
-    size_t sheetlen = strtoul((const char *)bytes + 5, NULL, 10);
+    size_t sheetlen = strtoul((const char *)bytes + 5, &after, 10), startlen = 0;
+    bool started = job->append == append_pair && after[1] != '-';
+    if (started) startlen = strtoul(after, NULL, 10);
     write_file(path_of(job, "differs.sheet"), sheet, sheetlen);
-    write_file(path_of(job, "differs.answer"), sheet + sheetlen, length - (size_t)(sheet - bytes) - sheetlen);
+    if (started) write_file(path_of(job, "differs.start"), sheet + sheetlen, startlen);
+    write_file(path_of(job, "differs.answer"), sheet + sheetlen + startlen, length - (size_t)(sheet - bytes) - sheetlen - startlen);
 }
 
 static bool agree(const struct job *job, const struct cases *cases, uint64_t seed, uint64_t from)
@@ -252,7 +278,7 @@ static bool compare_seed(struct job *job, uint64_t seed)
     return true;
 }
 
-/* The numbers that must occur: of two texts 1 to 6, in the hall 7; then the steps', or the actions'. */
+/* The numbers that must occur: of texts 1 to 6, in the hall 7; then the steps', or the actions'. */
 static bool due(const struct job *job, unsigned number)
 {
     if (number >= 1 && number <= 7) return job->texts == (number < 7);
@@ -260,18 +286,25 @@ static bool due(const struct job *job, unsigned number)
     return number == 0 || (number >= 10 && number <= 18) || (number >= 20 && number <= 22) || (number >= 30 && number <= 38);
 }
 
-/* Prints the shares; whether each number that must occur has half a percent. */
+/* Prints a number's share; whether it is as great as one in so many. */
+static bool share(unsigned number, uint64_t seen, uint64_t total, unsigned many)
+{
+    bool rare = seen * many < total;
+    fprintf(stderr, "%4u %8" PRIu64 " %6.2f%%%s\n", number, seen, 100.0 * (double)seen / (double)total, rare ? " too rare" : "");
+    return !rare;
+}
+
+/* Prints the shares; whether each number that must occur has half a percent, and each of a start one percent of the starts. */
 static bool shares(const struct job *job)
 {
+    static const unsigned of_start[] = { 1, 2, 3, 4, 5, 50 };
     bool enough = true;
     fprintf(stderr, "%" PRIu64 " cases of %s\n", job->total, job->kind);
-    for (unsigned number = 0; number < NUMBERS; number++) {
-        if (!due(job, number)) continue;
-        bool rare = job->seen[number] * 200 < job->total;
-        enough = enough && !rare;
-        fprintf(stderr, "%4u %8" PRIu64 " %6.2f%%%s\n", number, job->seen[number],
-                100.0 * (double)job->seen[number] / (double)job->total, rare ? " too rare" : "");
-    }
+    for (unsigned number = 0; number < NUMBERS; number++)
+        if (due(job, number)) enough = share(number, job->seen[number], job->total, 200) && enough;
+    if (job->started == 0) return enough;
+    fprintf(stderr, "%" PRIu64 " with a start, whose own numbers are\n", job->started);
+    for (unsigned k = 0; k < 6; k++) enough = share(of_start[k], job->seen_of_start[of_start[k]], job->started, 100) && enough;
     return enough;
 }
 

@@ -304,20 +304,29 @@ void damage_number(struct random *r, struct draft *text, const struct edges *edg
 void damage_end(struct random *r, struct draft *text)
 {
     static const char *const words[] = { "\n", " ", "x", "\r\n", "step=next\n", "do=wait,0\n", "do=add", "sheet=1\n",
-                                         "answer=1\nsteps=0\n", "0" };
+                                         "answer=1\nsteps=0\n", "0", "connection=0,0,1,0\n" };
     size_t times = chance(r, 80) ? 1 : pick_from(r, 2, 400);
     if (chance(r, 10)) splice(text, (struct span){ text->length, 0 }, "", 1);
     else
-        while (times-- > 0) insert(text, text->length, words[pick(r, 10)]);
+        while (times-- > 0) insert(text, text->length, words[pick(r, 11)]);
 }
 
-/* Bytes appended up to a length at the text's limit or past it. */
-void damage_length(struct random *r, struct draft *text)
+/* A line that goes on as a list does, until the text has that length. */
+static void stretch_list(struct random *r, struct draft *text, size_t length)
 {
-    static const size_t lengths[] = { LONGEST_TEXT - 1, LONGEST_TEXT, LONGEST_TEXT + 1, LONGEST_TEXT + 1, LONGEST_TEXT + 2,
-                                      36000, 40000, 40000 };
-    size_t length = lengths[pick(r, 8)];
+    struct span line = draw_line(r, text);
+    size_t end = line.start + line.length;
+    if (length > text->length && (length - text->length) % 2 == 1) insert(text, end, "+10");
+    while (text->length < length) insert(text, end, "+0");
+}
+
+/* Bytes appended up to a length at the text's limit or past it, or a list in it that is so long. */
+void damage_length(struct random *r, struct draft *text, size_t longest)
+{
+    static const unsigned past[] = { 1, 1, 2, 3232, 7232, 7232 };
+    size_t length = chance(r, 25) ? longest - pick(r, 2) : longest + past[pick(r, 6)];
     uint8_t byte = (uint8_t)"\nx0"[pick(r, 3)];
+    if (chance(r, 15)) stretch_list(r, text, length);
     if (text->length < length) memset(text->bytes + text->length, byte, length - text->length);
     text->length = length;
 }

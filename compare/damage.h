@@ -8,13 +8,13 @@
 struct edge { const char *key; unsigned count; unsigned numbers[6]; };
 struct edges { const struct edge *row; unsigned count; };
 
-/* Those of the first paper's two texts. */
+/* Those of the first paper's sheet and answer. */
 extern const struct edges sheet_edges;
 
 void damage_form(struct random *r, struct draft *text);
 void damage_number(struct random *r, struct draft *text, const struct edges *edges);
 void damage_end(struct random *r, struct draft *text);
-void damage_length(struct random *r, struct draft *text);
+void damage_length(struct random *r, struct draft *text, size_t longest);
 
 /* Breaks a type's `initial`, `tran` or use port so that its line gets 4; false where the type has none. */
 bool damage_tables(struct random *r, struct tables *tables);

@@ -1,11 +1,11 @@
-/* Pairs of texts from a seed: a paper aimed at a number, written out, damaged where the aim is a fault of the texts. */
+/* The texts of papers from a seed: a paper aimed at a number, written out, damaged where the aim is a fault of the texts. */
 #include "generate.h"
 
 #include "damage.h"
 #include "ink.h"
 #include "protocol.h"
 
-/* ---- a paper as two texts ---- */
+/* ---- a paper's sheet and answer ---- */
 
 static uint8_t *ink_port(uint8_t *at, const struct port *port)
 {
@@ -134,7 +134,7 @@ static void fill_to_the_limit(struct paper *paper, struct draft *text)
     fill_sheet(paper, text, LONGEST_TEXT + pick(&paper->random, 2));
 }
 
-/* ---- pairs ---- */
+/* ---- the texts ---- */
 
 /* How often each number is aimed at. */
 static const unsigned aims[39] = {
@@ -155,9 +155,9 @@ static void make_long(struct paper *paper, struct pair *pair)
     struct random *r = &paper->random;
     write_texts(paper, pair);
     if (chance(r, 30)) fill_to_the_limit(paper, &pair->sheet);
-    else if (chance(r, 50)) damage_length(r, &pair->sheet);
-    else damage_length(r, &pair->answer);
-    if (chance(r, 10)) damage_length(r, &pair->answer);
+    else if (chance(r, 50)) damage_length(r, &pair->sheet, LONGEST_TEXT);
+    else damage_length(r, &pair->answer, LONGEST_TEXT);
+    if (chance(r, 10)) damage_length(r, &pair->answer, LONGEST_TEXT);
     if (chance(r, 15)) damage_form(r, &pair->sheet);
 }
 
@@ -175,11 +175,18 @@ static void make_faulty(struct paper *paper, struct pair *pair, unsigned number)
     if (chance(r, 5)) damage_number(r, chance(r, 50) ? &pair->sheet : &pair->answer, &sheet_edges);
 }
 
+struct texts texts_of(const struct pair *pair)
+{
+    struct bytes start = { pair->started ? pair->start.bytes : NULL, pair->start.length };
+    return (struct texts){ { pair->sheet.bytes, pair->sheet.length }, start, { pair->answer.bytes, pair->answer.length } };
+}
+
 static size_t report_length(const struct pair *pair, judging *judge)
 {
     static uint8_t report[GREATEST_ROOM];
+    struct texts texts = texts_of(pair);
     struct result result;
-    judge(pair->sheet.bytes, pair->sheet.length, pair->answer.bytes, pair->answer.length, report, sizeof report, &result);
+    judge(&texts, report, sizeof report, &result);
     return result.length;
 }
 
@@ -208,15 +215,29 @@ static unsigned steps_aim(struct random *r, unsigned aim)
     return aim >= 10 ? aim : 0;
 }
 
+/* A third of the papers have a start, half of these a faulty one; what else is faulty is drawn beside that. */
+static unsigned draw_start_aim(struct paper *paper)
+{
+    static const unsigned numbers[] = { 0, 1, 2, 3, 4, 5, 50 }, weights[] = { 45, 6, 7, 16, 17, 4, 5 };
+    paper->started = chance(&paper->random, 34);
+    return paper->started ? numbers[pick_weighted(&paper->random, weights, 7)] : 0;
+}
+
 void generate_pair(uint64_t seed, uint64_t index, struct pair *pair)
 {
     static struct paper paper;
     paper.random = random_of(seed, index);
-    unsigned aim = pick_weighted(&paper.random, aims, 39);
+    unsigned aim = pick_weighted(&paper.random, aims, 39), start_aim = draw_start_aim(&paper);
     draw_paper(&paper, steps_aim(&paper.random, aim));
     if (aim == 1) make_long(&paper, pair);
     else if (aim >= 2 && aim <= 5) make_faulty(&paper, pair, aim);
     else write_texts(&paper, pair);
+    pair->started = paper.started;
+    if (paper.started) write_start(&paper, &pair->start, start_aim);
+    if (start_aim == 1 && chance(&paper.random, 30)) {
+        struct draft *other = chance(&paper.random, 50) ? &pair->sheet : &pair->answer;
+        damage_length(&paper.random, other, LONGEST_TEXT);
+    }
     cut_to_case(&pair->sheet);
     cut_to_case(&pair->answer);
     pair->room = draw_room(&paper.random, pair, aim == 6, judge);

@@ -1,4 +1,4 @@
-/* Cases from a seed: papers (a sheet with an answer walked on it), pairs of texts, and what is lent to the hall. */
+/* Cases from a seed: papers (a sheet, a start or none, and an answer walked on them), their texts, and what is lent to the hall. */
 #ifndef GENERATE_H
 #define GENERATE_H
 
@@ -13,9 +13,11 @@ struct paper {
     struct random random;
     struct tables tables;
     struct program program;
+    struct configuration start;       /* where the walk begins, nothing up without a start */
     struct configuration configuration;
     struct step step[STEPS];
     unsigned steps;
+    bool started;
     unsigned aim;                     /* the number that the last step shall be refused with, 0 for none */
     bool halfway;                     /* whether 31 is sought at a place with only some of its transitions ended */
     bool full;                        /* whether 64 connections are to stand before the aim is sought */
@@ -25,7 +27,7 @@ struct paper {
 };
 
 struct draft { uint8_t bytes[LONGEST_DRAFT]; size_t length; };
-struct pair { struct draft sheet, answer; size_t room; };
+struct pair { struct draft sheet, start, answer; bool started; size_t room; };
 
 /* A lawful type near the limits with long lists, and a lawful type well below them. */
 void draw_great_type(struct random *random, struct type *type);
@@ -39,7 +41,13 @@ void start_paper(struct paper *paper, unsigned aim);
 bool draw_allowed(struct paper *paper);
 bool draw_refused(struct paper *paper, unsigned number);
 
-/* A paper walked to its end, or to a step refused with the aim where one was found. */
+/* A state that the tables permit, reached by a walk or not: the walk goes on from there. */
+void draw_start(struct paper *paper);
+
+/* Makes a use port active in the start without an active provide port behind it, where it can: 50. */
+void unserve_start(struct paper *paper);
+
+/* A paper walked to its end, or to a step refused with the aim where one was found; with a start where `started` says so. */
 void draw_paper(struct paper *paper, unsigned aim);
 
 /* An instruction and a step within the limits of their lines, lawful or not at their turn. */
@@ -51,6 +59,11 @@ bool draw_connection(struct paper *paper, struct instruction *con);
 
 void write_sheet(const struct paper *paper, struct draft *text);
 void write_answer(const struct paper *paper, struct draft *text);
+
+/* The start as it is, or spoilt towards a number of its own: 1 to 5, 50. */
+void write_start(struct paper *paper, struct draft *text, unsigned aim);
+
+struct texts texts_of(const struct pair *pair);
 
 /* A room for the judge's report: mostly the program's own; else around the report's length, where 6 begins. */
 size_t draw_room(struct random *r, const struct pair *pair, bool short_room, judging *judge);

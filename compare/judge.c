@@ -2,7 +2,7 @@
 #include "judge.h"
 
 #include "ink.h"
-#include "reader.h"
+#include "state.h"
 
 /* The longest report has 32 instances with all sets full and 64 connections: below 10,000 bytes whatever they hold. */
 enum { LONGEST_REPORT = 16384 };
@@ -95,7 +95,7 @@ static bool step_line(struct reader *r, struct step *step)
     return line_done(r);
 }
 
-/* ---- the two texts, in their fixed order ---- */
+/* ---- the sheet and the answer, in their fixed order ---- */
 
 static bool read_transitions(struct reader *r, struct type *type)
 {
@@ -167,65 +167,6 @@ static bool read_answer(struct reader *r, struct step *steps, unsigned *count)
 
 /* ---- the report ---- */
 
-static uint8_t *ink_queue(uint8_t *at, const struct instance *i)
-{
-    if (i->queued == 0) return ink_byte(at, '-');
-    at = ink_number(at, i->queue[0]);
-    for (unsigned k = 1; k < i->queued; k++) at = ink_number(ink_byte(at, '+'), i->queue[k]);
-    return at;
-}
-
-/* "`instance=id,type,marked,running,ended,queue`" */
-static uint8_t *ink_instance(uint8_t *at, unsigned id, const struct instance *i)
-{
-    at = ink_byte(ink_number(ink_word(at, "instance="), id), ',');
-    at = ink_byte(ink_number(at, i->kind), ',');
-    at = ink_byte(ink_list(at, i->marked), ',');
-    at = ink_byte(ink_list(at, i->running), ',');
-    at = ink_byte(ink_list(at, i->ended), ',');
-    return ink_byte(ink_queue(at, i), '\n');
-}
-
-static uint8_t *ink_instances(uint8_t *at, const struct configuration *c)
-{
-    unsigned count = 0;
-    for (unsigned id = 0; id < INSTANCES; id++) count += c->instance[id].present;
-    at = ink_line(at, "instances=", count);
-    for (unsigned id = 0; id < INSTANCES; id++)
-        if (c->instance[id].present) at = ink_instance(at, id, &c->instance[id]);
-    return at;
-}
-
-/* "`connection=user,useport,provider,provideport`" */
-static uint8_t *ink_connection(uint8_t *at, const struct connection *n)
-{
-    at = ink_byte(ink_number(ink_word(at, "connection="), n->user), ',');
-    at = ink_byte(ink_number(at, n->useport), ',');
-    at = ink_byte(ink_number(at, n->provider), ',');
-    return ink_byte(ink_number(at, n->provideport), '\n');
-}
-
-static unsigned rank(const struct connection *n) { return n->user * 16u + n->useport; }
-
-/* "per connection by user then port": sorted by insertion into `sorted`. */
-static void sort_connections(const struct configuration *c, const struct connection **sorted)
-{
-    for (unsigned k = 0; k < c->count; k++) {
-        unsigned at = k;
-        for (; at > 0 && rank(sorted[at - 1]) > rank(&c->connection[k]); at--) sorted[at] = sorted[at - 1];
-        sorted[at] = &c->connection[k];
-    }
-}
-
-static uint8_t *ink_connections(uint8_t *at, const struct configuration *c)
-{
-    const struct connection *sorted[CONNECTIONS];
-    sort_connections(c, sorted);
-    at = ink_line(at, "connections=", c->count);
-    for (unsigned k = 0; k < c->count; k++) at = ink_connection(at, sorted[k]);
-    return at;
-}
-
 /* C-11: "in a line `port=` after `refused=`; it is `-` for every verdict but 34 and 38" */
 static uint8_t *ink_port(uint8_t *at, unsigned port)
 {
@@ -237,8 +178,7 @@ static size_t write_report(uint8_t *bytes, unsigned accepted, struct refusal ref
     uint8_t *at = ink_line(bytes, "accepted=", accepted);
     at = ink_port(ink_line(at, "refused=", refusal.number), refusal.port);
     at = ink_line(at, "next=", c->done);
-    at = ink_instances(at, c);
-    return (size_t)(ink_connections(at, c) - bytes);
+    return (size_t)(ink_state(at, c) - bytes);
 }
 
 /* ---- the whole ---- */
@@ -253,26 +193,52 @@ static struct result after_walk(struct result walked, struct refusal refusal, co
     return in_room(walked, bytes, report, room);
 }
 
-void judge(const uint8_t *sheet, size_t sheetlen, const uint8_t *answer, size_t answerlen, uint8_t *report, size_t room,
-           struct result *result)
+/* "The three lengths come first (sheet, start, answer)"; SHEET, START or ANSWER, or NO_TEXT where none is too long. */
+static enum text too_long(const struct texts *texts)
 {
-    struct tables tables;
-    struct program program;
-    struct step steps[STEPS];
-    unsigned count = 0;
-    struct configuration c = { .count = 0 };
-    struct reader of_sheet = reader_of(sheet, sheetlen), of_answer = reader_of(answer, answerlen);
-    struct result walked = { .place = { ANSWER, answerlen, 0 } };
-    struct refusal refusal = { 0, NO_PORT };
+    if (texts->sheet.length > LONGEST_TEXT) return SHEET;
+    if (texts->start.at != NULL && texts->start.length > LONGEST_START) return START;
+    return texts->answer.length > LONGEST_TEXT ? ANSWER : NO_TEXT;
+}
 
-    if (sheetlen > LONGEST_TEXT) { *result = after_length(SHEET); return; }
-    if (answerlen > LONGEST_TEXT) { *result = after_length(ANSWER); return; }
-    if (!read_sheet(&of_sheet, &tables, &program)) { *result = after_fault(&of_sheet, SHEET); return; }
-    if (!read_answer(&of_answer, steps, &count)) { *result = after_fault(&of_answer, ANSWER); return; }
-    while (walked.accepted < count && refusal.number == 0) {
-        refusal = take_step(&tables, &program, &c, &steps[walked.accepted]);
+/* What the texts say; without a start nothing is up. */
+struct said { struct tables tables; struct program program; struct configuration configuration; struct step step[STEPS]; unsigned steps; };
+
+/* 50 "for an unserved use port, after the start's last line" */
+static bool started(struct bytes start, struct said *said, struct result *result)
+{
+    memset(&said->configuration, 0, sizeof said->configuration);
+    if (start.at == NULL) return true;
+    struct reader of_start = reader_of(start);
+    if (!read_start(&of_start, &said->tables, &said->configuration)) *result = after_fault(&of_start, START);
+    else if (!all_served(&said->tables, &said->configuration)) *result = after_whole(UNSERVED, START);
+    else return true;
+    return false;
+}
+
+/* "then the lines in that order"; whether all was read, and the result says why not. */
+static bool read_texts(const struct texts *texts, struct said *said, struct result *result)
+{
+    struct reader of_sheet = reader_of(texts->sheet), of_answer = reader_of(texts->answer);
+    enum text longer = too_long(texts);
+    if (longer != NO_TEXT) *result = after_whole(TOO_LONG, longer);
+    else if (!read_sheet(&of_sheet, &said->tables, &said->program)) *result = after_fault(&of_sheet, SHEET);
+    else if (!started(texts->start, said, result)) return false;
+    else if (!read_answer(&of_answer, said->step, &said->steps)) *result = after_fault(&of_answer, ANSWER);
+    else return true;
+    return false;
+}
+
+void judge(const struct texts *texts, uint8_t *report, size_t room, struct result *result)
+{
+    struct said said;
+    struct result walked = { .place = { ANSWER, texts->answer.length, 0 } };
+    struct refusal refusal = { 0, NO_PORT };
+    if (!read_texts(texts, &said, result)) return;
+    while (walked.accepted < said.steps && refusal.number == 0) {
+        refusal = take_step(&said.tables, &said.program, &said.configuration, &said.step[walked.accepted]);
         if (refusal.number == 0) walked.accepted++;
     }
-    if (refusal.number != 0) walked.place = step_place(answer, answerlen, walked.accepted);
-    *result = after_walk(walked, refusal, &c, report, room);
+    if (refusal.number != 0) walked.place = step_place(texts->answer, walked.accepted);
+    *result = after_walk(walked, refusal, &said.configuration, report, room);
 }

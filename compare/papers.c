@@ -109,10 +109,13 @@ static struct port twin_port(struct random *r, const struct type *type, const st
     return port;
 }
 
-/* The aims that need ports; 65 connections are to be had only with many. */
+/* The aims that need ports, a start's connections among them; 65 connections are to be had only with many. */
+enum { OF_A_START = 50 };
+
 static unsigned fewest_ports(unsigned aim)
 {
     if (aim == 16) return 10;
+    if (aim == OF_A_START) return 3;
     return (aim >= 13 && aim <= 18) || aim == 22 || (aim >= 34 && aim <= 36) || aim == 38 ? 2 : 0;
 }
 
@@ -157,12 +160,13 @@ static void draw_tables(struct paper *paper)
     static const unsigned weights[RICHNESSES] = { 58, 30, 9, 3 };
     struct random *r = &paper->random;
     enum richness richness = (enum richness)pick_weighted(r, weights, RICHNESSES);
+    bool wired = paper->started && chance(r, 50);
     memset(&paper->tables, 0, sizeof paper->tables);
     paper->tables.depth = (uint8_t)pick(r, DEPTH + 1);
     paper->tables.count = (uint8_t)(richness == MEDIUM ? pick_from(r, 1, 4) : draw_size(r, 1, TYPES, richness));
     for (unsigned k = 0; k < paper->tables.count; k++) {
         enum richness own = richness > SMALL && chance(r, 60) ? richness - 1 : richness;
-        draw_type(r, &paper->tables.type[k], own, paper->full ? 16 : paper->aim);
+        draw_type(r, &paper->tables.type[k], own, paper->full ? 16 : wired ? OF_A_START : paper->aim);
     }
 }
 
@@ -456,6 +460,7 @@ void start_paper(struct paper *paper, unsigned aim)
     paper->aim = aim;
     paper->steps = 0;
     memset(&paper->program, 0, sizeof paper->program);
+    memset(&paper->start, 0, sizeof paper->start);
     memset(&paper->configuration, 0, sizeof paper->configuration);
     paper->halfway = chance(&paper->random, 40);
     paper->full = aim == 16 || (aim == 15 && chance(&paper->random, 25));
@@ -466,6 +471,7 @@ void start_paper(struct paper *paper, unsigned aim)
 void draw_paper(struct paper *paper, unsigned aim)
 {
     start_paper(paper, aim);
+    if (paper->started) draw_start(paper);
     unsigned length = draw_length(&paper->random), ready = pick(&paper->random, 40), idle = 0;
     if (aim != 0 && length < 200) length = 200;
     while (paper->steps < length && idle < 6) {

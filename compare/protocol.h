@@ -1,4 +1,4 @@
-/* How a result is said by a program that judges many pairs: one line, then the report's bytes. */
+/* How a result is said by a program that judges many papers: one line, then the report's bytes. */
 #ifndef PROTOCOL_H
 #define PROTOCOL_H
 
@@ -11,7 +11,7 @@ enum { LONGEST_CASE = 40000, GREATEST_ROOM = 16384, LONGEST_RESULT = 128 };
 /* Writes the line `REFUSED ACCEPTED NEXT TEXT LINE WHICH START LEN REPORTLEN`; answers its length. */
 static inline size_t result_line(char *line, const struct result *r)
 {
-    static const char *const names[] = { "-", "sheet", "answer" };
+    static const char *const names[] = { "-", "sheet", "start", "answer" };
     return (size_t)snprintf(line, LONGEST_RESULT, "%u %u %u %s %u %s %zu %zu %zu\n", r->refused, r->accepted, r->next,
                             names[r->text], r->line, names[r->place.text], r->place.start, r->place.length, r->length);
 }

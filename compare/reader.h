@@ -1,4 +1,4 @@
-/* Reading a text line by line, "The two texts" of the rules' document: items, the lines that both papers have, faults and places. */
+/* Reading a text line by line, "The two texts" of the rules' document: items, the lines that all texts have, faults and places. */
 #ifndef READER_H
 #define READER_H
 
@@ -6,14 +6,14 @@
 
 #include "result.h"
 
-enum { TOO_LONG = 1, FORM = 2, LIMIT = 3, BREACH = 4, LEFT_OVER = 5, NO_ROOM = 6 };
+enum { TOO_LONG = 1, FORM = 2, LIMIT = 3, BREACH = 4, LEFT_OVER = 5, NO_ROOM = 6, UNSERVED = 50 };
 
 /* A text on the way: `line` is where the line being read starts, `at` the cursor in it. */
 struct reader { const uint8_t *start, *line, *at, *end; unsigned lines; unsigned fault; };
 
-static inline struct reader reader_of(const uint8_t *text, size_t length)
+static inline struct reader reader_of(struct bytes text)
 {
-    return (struct reader){ text, text, text, text + length, 0, 0 };
+    return (struct reader){ text.at, text.at, text.at, text.at + text.length, 0, 0 };
 }
 
 /* ---- items: each answers whether the form is kept ---- */
@@ -92,7 +92,7 @@ static inline bool end_line(struct reader *r)
     return take_byte(r, '\n');
 }
 
-/* `sheet=1`, `answer=1` and `type=`: another number than the one due is a form fault. */
+/* `sheet=1`, `start=1`, `answer=1` and `type=`: another number than the one due is a form fault. */
 static inline bool due_line(struct reader *r, const char *key, unsigned due)
 {
     unsigned number;
@@ -145,18 +145,18 @@ static inline struct result after_fault(const struct reader *r, enum text text)
     return (struct result){ r->fault, 0, 0, r->lines + 1, text, place, 0 };
 }
 
-/* "for 1, the empty start of that text" */
-static inline struct result after_length(enum text text)
+/* "for 1, the empty start of that text"; C-20's 50 is "answered as 1 is". */
+static inline struct result after_whole(unsigned number, enum text text)
 {
-    return (struct result){ TOO_LONG, 0, 0, 0, text, { text, 0, 0 }, 0 };
+    return (struct result){ number, 0, 0, 0, text, { text, 0, 0 }, 0 };
 }
 
 /* "for a step, its line": the steps' lines come after two others. */
-static inline struct place step_place(const uint8_t *answer, size_t answerlen, unsigned step)
+static inline struct place step_place(struct bytes answer, unsigned step)
 {
     size_t start = 0;
-    for (unsigned k = 0; k < step + 2; k++) start += to_line_end(answer + start, answer + answerlen) + 1;
-    return (struct place){ ANSWER, start, to_line_end(answer + start, answer + answerlen) };
+    for (unsigned k = 0; k < step + 2; k++) start += to_line_end(answer.at + start, answer.at + answer.length) + 1;
+    return (struct place){ ANSWER, start, to_line_end(answer.at + start, answer.at + answer.length) };
 }
 
 /* "a report that doesn't fit gives 6 in place of the steps' number", and leaves the buffer as it was */

@@ -1,4 +1,4 @@
-"""make.py: writes stdin and stdout of the program `compare_batch`: pairs of texts of `judge_tests` by the model beside them, and the cases of the Aeolus paper by
+"""make.py: writes stdin and stdout of the program `compare_batch`: papers of `judge_tests` by the model beside them, and the cases of the Aeolus paper by
 the judge in C of compare/ and by what each case says of itself. Needs a C compiler."""
 import os
 import subprocess
@@ -12,8 +12,10 @@ sys.path[:0] = [os.path.join(here, "..", name) for name in ("judge_tests", "aeol
 from cases import cases as plans
 from model import judge
 from pairs import pairs
+from starts import starts
 
-# a pair of `judge_tests` and a room: no refusal, a refused step, a fault in the sheet, one in the answer, both texts empty, the report's very length, a byte less, none
+# a paper of `judge_tests` and a room: no refusal, a refused step, a fault in the sheet, one in the answer, both texts empty, the report's very length, a byte less,
+# none; then papers with a start: no refusal, a refused step, the report's very length, a byte less, and each number of a start
 cases = [
     ("pair", 8192),
     ("pair_service_in_use", 16384),
@@ -23,12 +25,23 @@ cases = [
     ("pair", 123),
     ("pair", 122),
     ("pair_service_in_use", 0),
+    ("start_of_a_running_pair", 8192),
+    ("start_in_use", 8192),
+    ("start_with_nothing_up", 123),
+    ("start_and_no_steps", 0),
+    ("start_too_long", 8192),
+    ("start_of_an_empty_file", 8192),
+    ("start_past_the_places", 0),
+    ("start_id_twice", 8192),
+    ("start_with_a_byte_after", 8192),
+    ("start_unserved", 8192),
+    ("start_good_and_answer_faulty", 8192),
 ]
 
 
 def said(case, room):
-    sheet, answer = texts[case]
-    found = judge(sheet, answer, room)
+    sheet, start, answer = texts[case]
+    found = judge(sheet, answer, room, start)
     text = found.text if found.text != "neither" else "-"
     fields = found.refused, found.accepted, found.next, text, found.line, *found.place, len(found.report)
     return " ".join(map(str, fields)) + "\n" + found.report
@@ -45,7 +58,7 @@ def judged_in_c(folder, case):
 def plans_judged():
     """What the judge in C answers, held to what each case says: refused, accepted, text, line."""
     with tempfile.TemporaryDirectory() as folder:
-        sources = ["batch.c", "judge.c", "rules.c", "aeolus_judge.c", "aeolus.c"]
+        sources = ["batch.c", "judge.c", "start.c", "state.c", "rules.c", "aeolus_judge.c", "aeolus.c"]
         subprocess.run(["cc", "-std=c11", "-O1", "-o", os.path.join(folder, "batch"), *sources], cwd=os.path.join(here, "..", "..", "compare"), check=True)
         for name, sheet, answer, said_so in plans:
             out = judged_in_c(folder, as_plan(sheet, answer))
@@ -60,12 +73,17 @@ def plans_judged():
             yield as_plan(sheet, answer, room), judged_in_c(folder, as_plan(sheet, answer, room))
 
 
-texts = {name: (sheet, answer) for name, sheet, answer, _ in pairs}
+def as_case(case, room):
+    sheet, start, answer = texts[case]
+    length = b"-" if start is None else b"%d" % len(start)
+    return b"case %d %s %d %d\n" % (len(sheet), length, len(answer), room) + sheet + (start or b"") + answer
+
+
+texts = {name: (sheet, None, answer) for name, sheet, answer, _ in pairs}
+texts |= {name: (sheet, start, answer) for name, sheet, start, answer, _ in starts}
 planned = list(plans_judged())
 with open(os.path.join(here, "stdin"), "wb") as file:
-    for case, room in cases:
-        sheet, answer = texts[case]
-        file.write(b"case %d %d %d\n" % (len(sheet), len(answer), room) + sheet + answer)
-    file.write(b"".join(case for case, _ in planned) + b"case 1 0 00\nx")
+    file.write(b"".join(as_case(*case) for case in cases))
+    file.write(b"".join(case for case, _ in planned) + b"case 1 - 0 00\nx")
 with open(os.path.join(here, "stdout"), "wb") as file:
     file.write("".join(said(*case) for case in cases).encode() + b"".join(out for _, out in planned) + b"bad header\n")

@@ -174,7 +174,7 @@ def state_of(x):
         ends = [(x["source"][k * 32 + t], x["destination"][k * 32 + t]) for t in range(v["transitions"])]
         behaviors = [members(m) for m in x["behaviors"][k * 8 : k * 8 + v["behaviors"]]]
         ports = [(x["uses"][q] == 1, members(x["places"][q]), members(x["transitions"][q])) for q in range(k * 16, k * 16 + v["ports"])]
-        types.append(rules.Type(members(v["initial"]), ends, behaviors, ports))
+        types.append(rules.Type(v["places"], members(v["initial"]), ends, behaviors, ports))
     fields = {"del": ["id"], "wait": ["id"], "add": ["id", "number"], "pushb": ["id", "number"]}
     four = ["id", "number", "provider", "provideport"]
     program = [(WORDS[n["verb"]], [n[f] for f in fields.get(WORDS[n["verb"]], four)]) for n in x["program"][: x["instructions"]]]

@@ -1,9 +1,10 @@
-"""make.py: writes data/, args and stdout of the program `judge_tests` from pairs.py and model.py, and checks that the two agree."""
+"""make.py: writes data/, args and stdout of the program `judge_tests` from pairs.py, starts.py and model.py, and checks that they agree."""
 import os
 import shutil
 
 from model import judge, printed
 from pairs import pairs
+from starts import check_cuts, starts
 
 here = os.path.dirname(os.path.abspath(__file__))
 
@@ -13,21 +14,24 @@ def write(name, content):
         file.write(content)
 
 
-def expected(name, sheet, answer, said):
-    judgement = judge(sheet, answer)
+def expected(name, sheet, start, answer, said):
+    judgement = judge(sheet, answer, start=start)
     found = judgement.refused, judgement.accepted, judgement.text, judgement.line, judgement.port
     if found != said:
-        raise SystemExit(f"{name}: pairs.py says {said}, and model.py says {found}")
-    return f"case={name}\n{printed(sheet, answer)}place={','.join(map(str, judgement.place))}\n"
+        raise SystemExit(f"{name}: it says {said}, and model.py says {found}")
+    return f"case={name}\n{printed(sheet, answer, start)}place={','.join(map(str, judgement.place))}\n"
 
 
-names = [name for name, _, _, _ in pairs]
+papers = [(name, sheet, None, answer, said) for name, sheet, answer, said in pairs] + starts
+names = [paper[0] for paper in papers]
 assert len(set(names)) == len(names) and max(map(len, names)) <= 64
-output = "".join(expected(*pair) for pair in pairs)
+check_cuts()
+output = "".join(expected(*paper) for paper in papers)
 shutil.rmtree(os.path.join(here, "data"), ignore_errors=True)
 os.makedirs(os.path.join(here, "data"))
-for name, sheet, answer, _ in pairs:
-    write(f"data/{name}.sheet", sheet)
-    write(f"data/{name}.answer", answer)
+for name, sheet, start, answer, _ in papers:
+    for ending, text in ("sheet", sheet), ("start", start), ("answer", answer):
+        if text is not None:
+            write(f"data/{name}.{ending}", text)
 write("args", "".join(name + "\n" for name in names).encode())
 write("stdout", output.encode())

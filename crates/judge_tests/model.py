@@ -3,6 +3,7 @@ import re
 from dataclasses import dataclass, field
 
 LONGEST = 32768
+LONGEST_START = 8192  # C-20
 DEFAULT_DEPTH = 8  # the second paper, C-15
 CONNECTIONS = 64
 
@@ -21,7 +22,7 @@ class Refused(Exception):
         self.number, self.port = number, port
 
 
-# ---- the two texts
+# ---- the texts
 
 
 class Lines:
@@ -106,6 +107,7 @@ def verb(key, limits):
 
 @dataclass
 class Type:
+    places: int
     initial: set
     transitions: list
     behaviors: list
@@ -158,7 +160,7 @@ def read_type(lines, due_number):
             raise Fault(4)
         return items[0] == b"use", set(of_places), set(of_transitions)
 
-    return Type(marked, ends, sets, [lines.read(port) for _ in range(ports)])
+    return Type(places, marked, ends, sets, [lines.read(port) for _ in range(ports)])
 
 
 def read_sheet(text):
@@ -233,6 +235,16 @@ class State:
                 if not self.active(come, port):
                     return True
         return False
+
+    def served(self):
+        """Whether each active use port is connected to an active provide port."""
+        for identity, instance in self.instances.items():
+            for port, (use, _, _) in enumerate(self.types[instance.kind].ports):
+                if use and self.active(instance, port):
+                    provider, provideport = self.connections.get((identity, port), (None, None))
+                    if provider is None or not self.active(self.instances[provider], provideport):
+                        return False
+        return True
 
     def is_port(self, identity, port, use):
         ports = self.types[self.instances[identity].kind].ports
@@ -372,6 +384,63 @@ class State:
         return "".join(line + "\n" for line in lines)
 
 
+# ---- a start: the second paper, C-20
+
+
+def queued(item):
+    return [] if item == b"-" else [number(x) for x in item.split(b"+")]
+
+
+def read_start(text, state):
+    """Fills the state from a start; `state` has the sheet's depth and types."""
+    lines = Lines(text)
+    lines.read(due(b"start=", 1))
+
+    def instance(line):
+        items = after(b"instance=", line).split(b",")
+        if len(items) != 6:
+            raise Fault(2)
+        identity, kind = number(items[0]), number(items[1])
+        marked, running, ended = (members(x) for x in items[2:5])
+        queue = queued(items[5])
+        below([identity, kind], [32, len(state.types)])
+        own = state.types[kind]
+        below(marked, [own.places] * len(marked))
+        below(running + ended, [len(own.transitions)] * len(running + ended))
+        below(queue + [len(queue)], [len(own.behaviors)] * len(queue) + [state.depth + 1])
+        held = set(running) | set(ended)
+        if any(identity <= other for other in state.instances):
+            raise Fault(4)
+        if set(running) & set(ended) or not held <= (own.behaviors[queue[0]] if queue else set()):
+            raise Fault(4)
+        state.instances[identity] = Instance(kind, set(marked), set(running), set(ended), queue)
+
+    for _ in range(lines.read(count(b"instances=", 0, 32))):
+        lines.read(instance)
+
+    def connection(line):
+        items = after(b"connection=", line).split(b",")
+        if len(items) != 4:
+            raise Fault(2)
+        user, useport, provider, provideport = (number(x) for x in items)
+        below([user, useport, provider, provideport], [32, 16, 32, 16])
+        ends = (user, useport, True), (provider, provideport, False)
+        for identity, port, _ in ends:
+            if identity in state.instances:
+                below([port], [len(state.types[state.instances[identity].kind].ports)])
+        if any((user, useport) <= other for other in state.connections):
+            raise Fault(4)
+        if user == provider or not all(identity in state.instances and state.is_port(identity, port, use) for identity, port, use in ends):
+            raise Fault(4)
+        state.connections[user, useport] = provider, provideport
+
+    for _ in range(lines.read(count(b"connections=", 0, CONNECTIONS))):
+        lines.read(connection)
+    lines.end()
+    if not state.served():
+        raise Fault(50)
+
+
 # ---- the whole
 
 
@@ -388,20 +457,32 @@ class Judgement:
 
 
 def at_fault(name, text, fault):
-    if fault.number == 1:
-        return Judgement(1, text=name, place=(name, 0, 0))
+    if fault.number in (1, 50):
+        return Judgement(fault.number, text=name, place=(name, 0, 0))
     size = len(text[fault.place :].split(b"\n")[0])
     return Judgement(fault.number, text=name, line=1 + text[: fault.place].count(b"\n"), place=(name, fault.place, size))
 
 
-def judge(sheet, answer, room=8192):
-    for name, text in ("sheet", sheet), ("answer", answer):
-        if len(text) > LONGEST:
+def started(sheet, start):
+    """The state that the steps begin in; nothing is up without a start (None)."""
+    state = State(*read_sheet(sheet))
+    if start is not None:
+        read_start(start, state)
+    return state
+
+
+def judge(sheet, answer, room=8192, start=None):
+    for name, text, longest in ("sheet", sheet, LONGEST), ("start", start or b"", LONGEST_START), ("answer", answer, LONGEST):
+        if len(text) > longest:
             return at_fault(name, text, Fault(1))
     try:
-        state = State(*read_sheet(sheet))
+        read_sheet(sheet)
     except Fault as fault:
         return at_fault("sheet", sheet, fault)
+    try:
+        state = started(sheet, start)
+    except Fault as fault:
+        return at_fault("start", start, fault)
     try:
         steps = read_answer(answer)
     except Fault as fault:
@@ -422,9 +503,9 @@ def judge(sheet, answer, room=8192):
     return Judgement(refused, accepted, state.done, place=place, report=report, port=port)
 
 
-def printed(sheet, answer):
+def printed(sheet, answer, start=None):
     """What the `judge` program prints."""
-    judgement = judge(sheet, answer)
-    if 1 <= judgement.refused <= 5:
+    judgement = judge(sheet, answer, start=start)
+    if judgement.text != "neither":
         return f"text={judgement.text}\nline={judgement.line}\nrefused={judgement.refused}\n"
     return judgement.report

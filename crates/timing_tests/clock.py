@@ -2,7 +2,7 @@
 import re
 from fractions import Fraction
 
-from model import LONGEST, Judgement, State, judge, read_answer, read_sheet
+from model import LONGEST, Judgement, judge, read_answer, started
 
 NUMBER = rb"(0|[1-9][0-9]{0,6})"
 
@@ -46,9 +46,10 @@ def read_times(text):
     return par, seconds
 
 
-def clock_of(sheet, answer, seconds):
-    """The clock after an answer in which every step is allowed."""
-    state, clock, noted = State(*read_sheet(sheet)), 0, {}
+def clock_of(sheet, start, answer, seconds):
+    """The clock after an answer in which every step is allowed; C-20: what runs at the start was noted at 0."""
+    state, clock = started(sheet, start), 0
+    noted = {(identity, transition): 0 for identity, instance in state.instances.items() for transition in instance.running}
     for word, values in read_answer(answer):
         if word == "fire":
             identity, place = values
@@ -68,10 +69,10 @@ def mark_of(par, clock):
     return min(1000, whole + (share - whole > Fraction(1, 2)))
 
 
-def timed(sheet, answer, times):
-    """The judgement and the mark."""
-    judgement = judge(sheet, answer)
-    if 1 <= judgement.refused <= 5:
+def timed(sheet, start, answer, times):
+    """The judgement and the mark; `start` is None where there is none."""
+    judgement = judge(sheet, answer, start=start)
+    if judgement.text != "neither":
         return judgement, 0
     try:
         par, seconds = read_times(times)
@@ -80,7 +81,7 @@ def timed(sheet, answer, times):
             return Judgement(fault.number, text="times", place=("times", 0, 0)), 0
         size = len(times[fault.place :].split(b"\n")[0])
         return Judgement(fault.number, text="times", line=1 + times[: fault.place].count(b"\n"), place=("times", fault.place, size)), 0
-    mark = 0 if judgement.refused else mark_of(par, clock_of(sheet, answer, seconds))
+    mark = 0 if judgement.refused else mark_of(par, clock_of(sheet, start, answer, seconds))
     judgement.report += f"mark={mark}\n"
     return judgement, mark
 

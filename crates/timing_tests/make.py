@@ -16,8 +16,8 @@ def write(name, content):
         file.write(content)
 
 
-def expected(name, sheet, answer, times, said):
-    judgement, mark = timed(sheet, answer, times or b"")
+def expected(name, sheet, start, answer, times, said):
+    judgement, mark = timed(sheet, start, answer, times or b"")
     found = judgement.refused, mark, judgement.text, judgement.line
     if found != said:
         raise SystemExit(f"{name}: triples.py says {said}, and clock.py says {found}")
@@ -29,8 +29,8 @@ assert len(set(names)) == len(names) and max(map(len, names)) <= 64
 output = "".join(expected(*triple) for triple in triples)
 shutil.rmtree(os.path.join(here, "data"), ignore_errors=True)
 os.makedirs(os.path.join(here, "data"))
-for name, sheet, answer, times, _ in triples:
-    for ending, text in ("sheet", sheet), ("answer", answer), ("times", times):
+for name, sheet, start, answer, times, _ in triples:
+    for ending, text in ("sheet", sheet), ("start", start), ("answer", answer), ("times", times):
         if text is not None:
             write(f"data/{name}.{ending}", text)
 write("args", "".join(name + "\n" for name in names).encode())

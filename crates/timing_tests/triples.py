@@ -1,6 +1,7 @@
-"""The triples of texts that the program `timing_tests` runs. What a triple must come to is said beside it: the number and the mark,
-or the text, the line and the number of a fault."""
+"""The texts that the program `timing_tests` runs, in triples of sheet, answer and times, some with a start before the answer. What they must come to is said
+beside them: the number and the mark, or the text, the line and the number of a fault."""
 from pairs import A, P, Plus, answer, example, forked, move, nexts, pairs, provider, sheet, up0
+from starts import cut, encoded, start
 
 # two components of one type, whose one behavior goes from place 0 to place 1; no port stands in the way
 alone = (2, "0", ["0,1"], ["0"], [])
@@ -21,14 +22,14 @@ def seconds(par, first, second):
     return times(par, f"0,0,{first}", f"1,0,{second}")
 
 
-def case(name, text, steps, third, mark, refused=0):
-    """Three texts that are read: the mark, and the number of the step that is refused or 0."""
-    triples.append((name, text.encode(), steps.encode(), third.encode(), (refused, mark, "neither", 0)))
+def case(name, text, steps, third, mark, refused=0, first=None):
+    """Texts that are read: the mark, and the number of the step that is refused or 0."""
+    triples.append((name, text.encode(), encoded(first), steps.encode(), third.encode(), (refused, mark, "neither", 0)))
 
 
-def fault(name, third, line, refused, text=twins, steps=one_by_one, which="times"):
+def fault(name, third, line, refused, text=twins, steps=one_by_one, which="times", first=None):
     """A text that is refused, the times if no other is named: its line from 1 (0 for a length), and the number."""
-    triples.append((name, text.encode(), steps.encode(), None if third is None else third.encode(), (refused, 0, which, line)))
+    triples.append((name, text.encode(), encoded(first), steps.encode(), encoded(third), (refused, 0, which, line)))
 
 
 # ---- the proved cases
@@ -156,3 +157,34 @@ fault("answer_faulty_and_times_too_long", "#" * 32769, 1, 2, steps="answer=2\n",
 fault("all_faulty", "", 1, 2, text="", steps="", which="sheet")
 fault("answer_faulty_and_times_good", some, 3, 5, steps="answer=1\nsteps=0\n#", which="answer")
 fault("times_before_any_step", times(1, "0,0,86401"), 4, 41, steps=too_soon)
+
+# ---- what runs at the start was noted at 0
+running = start(["0,0,-,0,-,0", "1,0,0,-,-,0"])
+nothing = sheet([alone], [])
+case("running_at_the_start", nothing, answer("end,0,0"), seconds(15, 20, 30), 750, first=running)
+case("running_at_the_start_and_one_fired_beside_it", nothing, answer("fire,1,0", "end,0,0", "end,1,0"), seconds(15, 20, 30), 500, first=running)
+case("running_at_the_start_ended_after_the_other", nothing, answer("fire,1,0", "end,1,0", "end,0,0"), seconds(15, 20, 30), 500, first=running)
+case("running_at_the_start_ended_before_a_fire", nothing, answer("end,0,0", "fire,1,0", "end,1,0"), seconds(15, 20, 30), 300, first=running)
+case("both_running_at_the_start", nothing, answer("end,1,0", "end,0,0"), seconds(15, 20, 30), 500, first=start(["0,0,-,0,-,0", "1,0,-,0,-,0"]))
+case("running_at_the_start_and_never_ended", nothing, answer("fire,1,0"), seconds(15, 20, 30), 1000, first=running)
+case("ended_at_the_start_takes_no_time", nothing, answer("enter,0,1", "finish,0"), seconds(15, 20, 30), 1000, first=start(["0,0,-,-,0,0"]))
+case("running_at_the_start_not_listed", nothing, answer("end,0,0"), times(15, "1,0,30"), 1000, first=running)
+case("two_of_one_component_running_at_the_start", sheet([(3, "0", ["0,1", "0,2"], ["0+1"], [])], []), answer("end,31,1", "end,31,0"), times(15, "31,0,20", "31,1,30"), 500, first=start(["31,0,-,0+1,-,0"]))
+case("fired_again_after_the_start_is_noted_again", sheet([provider], ["pushb,0,1", "pushb,0,0"]), answer(nexts(2), "end,0,0", "enter,0,1", "finish,0", move(0, 1, 1, 0), "finish,0", up0), times(27, "0,0,20", "0,1,5"), 600, first=start(["0,0,-,0,-,0"]))
+case("nothing_up_at_the_start", twins, one_by_one, seconds(15, 20, 30), 300, first=start())
+case("refused_step_from_a_start", nothing, answer("end,1,0"), seconds(15, 20, 30), 0, 31, first=running)
+maintenance = next(cut(text, steps, 35) for name, text, steps, _ in pairs if name == "maintenance")
+rest, reached, left = (text.decode() for text in maintenance)
+case("maintenance_from_its_35th_step", rest, left, example("times").replace("par=200", "par=60"), 667, first=reached)
+second = {name: example(name, "second-year") for name in ("sheet", "start", "answer", "times")}
+case("second_year", second["sheet"], second["answer"], second["times"], 833, first=second["start"])
+fault("start_faulty", some, 1, 2, which="start", first="start=2\n")
+fault("start_empty", some, 1, 2, which="start", first="")
+fault("start_too_long", some, 0, 1, which="start", first="#" * 8193)
+fault("start_unserved", some, 0, 50, text=P, which="start", first=start(["1,1,1,-,-,-"]))
+fault("start_and_times_faulty", "", 3, 3, which="start", first=start(["32,0,-,-,-,-"]))
+fault("start_unserved_and_times_faulty", "", 0, 50, text=P, which="start", first=start(["1,1,1,-,-,-"]))
+fault("start_faulty_and_times_too_long", "#" * 32769, 3, 4, which="start", first=start(["0,0,-,0,-,-"]))
+fault("start_good_answer_and_times_faulty", "", 1, 2, steps="", which="answer", first=running)
+fault("start_good_and_times_faulty", times(0), 2, 41, first=running)
+fault("sheet_and_start_and_times_faulty", "", 1, 2, text="", which="sheet", first="")

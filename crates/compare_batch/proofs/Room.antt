@@ -12,6 +12,7 @@ use Rattle.io.specs.Counts.{Counts}
 use Rattle.io.proofs.Counting.{counts}
 use Rattle.model.specs.declared.Walked.{Walked}
 use Rattle.report_spec.specs.Report.{report}
+use Rattle.start_spec.specs.Paper.{Paper}
 use Rattle.judge_spec.specs.declared.Verdict.{Verdict}
 use Rattle.judge_spec.specs.Course.{Course, faulty, reached, course}
 use Rattle.judge_spec.specs.Judged.{Judgement, afterFault, noRoom, afterWalk, inRoom, ending, judged, over, buffer}
@@ -20,7 +21,7 @@ use Rattle.judge_spec.specs.Judged.{Judgement, afterFault, noRoom, afterWalk, i
 abbrev Fits : ℕ → Judgement → Type 0
 Fits room j = (j .verdict .written ≡ length (j .bytes)) × (length (j .bytes) ≤ room)
 
-module _ (s a : List ℕ) (room : ℕ) where
+module _ (s : Paper) (a : List ℕ) (room : ℕ) where
   fits-ending : (z : Course Walked) → Fits room (ending s a room z)
   unfolding ending afterFault inRoom afterWalk noRoom
   fits-ending (faulty x n at) = (refl, zero-le)
@@ -38,7 +39,7 @@ pub counted : (bytes old : List ℕ) {n : ℕ} {new : List ℕ} → n ≡ length
 unfolding over
 counted bytes old {n} {new} e few is = counts n new (rw (e, is) (simp (length-append, length-drop) (omega (arith, few))))
 
-pub written-counts : (s a old : List ℕ) {v : Verdict} {new : List ℕ} → v ≡ judged s a (length old) .verdict → new ≡ buffer s a old → Counts (v .written) new
+pub written-counts : (s : Paper) (a old : List ℕ) {v : Verdict} {new : List ℕ} → v ≡ judged s a (length old) .verdict → new ≡ buffer s a old → Counts (v .written) new
 written-counts s a old {v} {new} e is =
     let f = fits s a (length old) in
     counted (judged s a (length old) .bytes) old (rw e (f .0)) (f .1) is

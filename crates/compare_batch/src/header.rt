@@ -10,12 +10,15 @@ const LONGEST: u32 = 40000;
 
 const WIDEST: u32 = 16384;
 
-pub(crate) const HEADER: usize = 23;
+pub(crate) const HEADER: usize = 29;
 
-// What a header says, and how many bytes it has itself; 0 where no header stands there. `plan` is whether the texts are the Aeolus paper's.
+// What a header says, and how many bytes it has itself; 0 where no header stands there. `plan` is whether the texts are the Aeolus paper's, `given` whether
+// there is a start.
 pub(crate) struct Header {
     pub plan: bool,
+    pub given: bool,
     pub sheet: usize,
+    pub start: usize,
     pub answer: usize,
     pub room: usize,
     pub size: usize,
@@ -26,17 +29,30 @@ fn no_header() -> Header
 {
     Header {
         plan: false,
+        given: false,
         sheet: 0,
+        start: 0,
         answer: 0,
         room: 0,
         size: 0,
     }
 }
 
-fn header_of(plan: bool, sheet: u32, answer: u32, room: u32, size: usize) -> Header
+// What a header says of the paper.
+struct Paper {
+    plan: bool,
+    given: bool,
+    sheet: u32,
+    start: u32,
+}
+
+fn header_of(paper: Paper, answer: u32, room: u32, size: usize) -> Header
     ensures { λ r. ⌜ Small r ⌝ }
 {
-    if LONGEST < sheet {
+    if LONGEST < paper.sheet {
+        return no_header();
+    }
+    if LONGEST < paper.start {
         return no_header();
     }
     if LONGEST < answer {
@@ -49,8 +65,10 @@ fn header_of(plan: bool, sheet: u32, answer: u32, room: u32, size: usize) -> Hea
         return no_header();
     }
     Header {
-        plan,
-        sheet: sheet as usize,
+        plan: paper.plan,
+        given: paper.given,
+        sheet: paper.sheet as usize,
+        start: paper.start as usize,
         answer: answer as usize,
         room: room as usize,
         size,
@@ -61,26 +79,66 @@ pub(crate) fn read_header(s: &[u8]) -> Header
     ensures { λ r. ⌜ Small r ⌝ }
 {
     if let Due::Past(a) = read_items::past_key(s, 0, b"case ") {
-        return read_lengths(s, a, false);
+        return read_case(s, a);
     }
     if let Due::Past(a) = read_items::past_key(s, 0, b"plan ") {
-        return read_lengths(s, a, true);
+        return read_plan(s, a);
     }
     no_header()
 }
 
-// What follows the word of a header.
-fn read_lengths(s: &[u8], a: usize, plan: bool) -> Header
+// A sheet's length, and a start's or `-` for no start.
+fn read_case(s: &[u8], at: usize) -> Header
     ensures { λ r. ⌜ Small r ⌝ }
 {
-    let Number::Got(sheet, b) = read_items::number_then(s, a, b' ', Digits::Five) else {
+    let Number::Got(sheet, a) = read_items::number_then(s, at, b' ', Digits::Five) else {
         return no_header();
     };
-    let Number::Got(answer, c) = read_items::number_then(s, b, b' ', Digits::Five) else {
+    if let Due::Past(b) = read_items::past_key(s, a, b"- ") {
+        let paper = Paper {
+            plan: false,
+            given: false,
+            sheet,
+            start: 0,
+        };
+        return read_rest(s, b, paper);
+    }
+    let Number::Got(start, b) = read_items::number_then(s, a, b' ', Digits::Five) else {
         return no_header();
     };
-    let Number::Got(room, size) = read_items::number_then(s, c, b'\n', Digits::Five) else {
+    let paper = Paper {
+        plan: false,
+        given: true,
+        sheet,
+        start,
+    };
+    read_rest(s, b, paper)
+}
+
+fn read_plan(s: &[u8], at: usize) -> Header
+    ensures { λ r. ⌜ Small r ⌝ }
+{
+    let Number::Got(sheet, a) = read_items::number_then(s, at, b' ', Digits::Five) else {
         return no_header();
     };
-    header_of(plan, sheet, answer, room, size)
+    let paper = Paper {
+        plan: true,
+        given: false,
+        sheet,
+        start: 0,
+    };
+    read_rest(s, a, paper)
+}
+
+// The answer's length and the room.
+fn read_rest(s: &[u8], at: usize, paper: Paper) -> Header
+    ensures { λ r. ⌜ Small r ⌝ }
+{
+    let Number::Got(answer, a) = read_items::number_then(s, at, b' ', Digits::Five) else {
+        return no_header();
+    };
+    let Number::Got(room, size) = read_items::number_then(s, a, b'\n', Digits::Five) else {
+        return no_header();
+    };
+    header_of(paper, answer, room, size)
 }

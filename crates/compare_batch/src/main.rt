@@ -1,5 +1,6 @@
-// For tests: standard input holds cases until it ends, each a line `case SHEETLEN ANSWERLEN ROOM` and the bytes of the two texts, or `plan ..` for two texts of
-// the Aeolus paper. Out goes for each a line `REFUSED ACCEPTED NEXT TEXT LINE WHICH START LEN REPORTLEN` (a plan has no NEXT: 0) and the report.
+// For tests: standard input holds cases until it ends, each a line `case SHEETLEN STARTLEN ANSWERLEN ROOM` (STARTLEN is `-` where there is no start) and the
+// bytes of the texts, or `plan SHEETLEN ANSWERLEN ROOM` and two texts of the Aeolus paper. Out goes for each a line `REFUSED ACCEPTED NEXT TEXT LINE WHICH
+// START LEN REPORTLEN` (a plan has no NEXT: 0) and the report.
 // Promised by `judge_lib` and `aeolus_lib`: what each line says, and the report's bytes.
 mod flow;
 mod header;
@@ -25,6 +26,7 @@ ghost use Rattle.compare_batch.specs.Within.{Small, Inside};
 fn write_text(out: &mut [u8], at: usize, text: Text) -> usize {
     match text {
         Text::Sheet => write_items::write_key(out, at, b" sheet "),
+        Text::Start => write_items::write_key(out, at, b" start "),
         Text::Answer => write_items::write_key(out, at, b" answer "),
         _ => write_items::write_key(out, at, b" - "),
     }
@@ -55,10 +57,10 @@ fn write_place(out: &mut [u8], at: usize, place: Place, written: usize) -> usize
     write_items::write_byte(out, d, b'\n')
 }
 
-fn judge_answer(sheet: &[u8], answer: &[u8], report: &mut [u8]) -> Judged
+fn judge_answer(sheet: &[u8], given: bool, start: &[u8], answer: &[u8], report: &mut [u8]) -> Judged
     ensures { λ r. ⌜ Counts (r .verdict .written) (now (report .exit)) ⌝ }
 {
-    judge_lib::judge_and_place(sheet, answer, report)
+    judge_lib::judge_and_place(sheet, given, start, answer, report)
 }
 
 fn judge_plan(sheet: &[u8], answer: &[u8], report: &mut [u8]) -> Judged
@@ -80,26 +82,29 @@ fn judge_plan(sheet: &[u8], answer: &[u8], report: &mut [u8]) -> Judged
     Judged { verdict, place }
 }
 
-fn judge(plan: bool, sheet: &[u8], answer: &[u8], report: &mut [u8]) -> Judged
+// The texts of a case stand one after the other, past its header.
+fn judge(case: &[u8], header: Header, report: &mut [u8]) -> Judged
+    requires { ⌜ Small header ⌝ }
+    requires { ⌜ header .size + header .sheet + header .start + header .answer ≤ length (now case) ⌝ }
     ensures { λ r. ⌜ Counts (r .verdict .written) (now (report .exit)) ⌝ }
 {
-    if plan {
-        judge_plan(sheet, answer, report)
+    let a = header.size;
+    let b = a + header.sheet;
+    let c = b + header.start;
+    let d = c + header.answer;
+    if header.plan {
+        judge_plan(&case[a..b], &case[c..d], report)
     } else {
-        judge_answer(sheet, answer, report)
+        judge_answer(&case[a..b], header.given, &case[b..c], &case[c..d], report)
     }
 }
 
-// The line and the report of one pair, with as much room as `report_spec` has.
-fn judge_pair(
-    plan: bool,
-    sheet: &[u8],
-    answer: &[u8],
-    report: &mut [u8],
-    out: &mut [u8],
-    used: usize,
-) -> usize {
-    let judged = judge(plan, sheet, answer, report);
+// The line and the report of one case, with as much room as `report` has.
+fn judge_texts(case: &[u8], header: Header, report: &mut [u8], out: &mut [u8], used: usize) -> usize
+    requires { ⌜ Small header ⌝ }
+    requires { ⌜ header .size + header .sheet + header .start + header .answer ≤ length (now case) ⌝ }
+{
+    let judged = judge(case, header, report);
     let verdict = judged.verdict;
     let place = judged.place;
     let written = verdict.written;
@@ -109,17 +114,18 @@ fn judge_pair(
 }
 
 fn judge_within(
-    plan: bool,
-    sheet: &[u8],
-    answer: &[u8],
+    case: &[u8],
+    header: Header,
     report: &mut [u8],
-    room: usize,
     out: &mut [u8],
     used: usize,
 ) -> usize
-    requires { ⌜ room ≤ length (now report) ⌝ }
+    requires { ⌜ Small header ⌝ }
+    requires { ⌜ header .size + header .sheet + header .start + header .answer ≤ length (now case) ⌝ }
+    requires { ⌜ header .room ≤ length (now report) ⌝ }
 {
-    judge_pair(plan, sheet, answer, &mut report[..room], out, used)
+    let room = header.room;
+    judge_texts(case, header, &mut report[..room], out, used)
 }
 
 fn judge_case(
@@ -130,21 +136,10 @@ fn judge_case(
     used: usize,
 ) -> usize
     requires { ⌜ Small header ⌝ }
-    requires { ⌜ header .size + header .sheet + header .answer ≤ length (now case) ⌝ }
+    requires { ⌜ header .size + header .sheet + header .start + header .answer ≤ length (now case) ⌝ }
 {
-    let a = header.size;
-    let b = a + header.sheet;
-    let c = b + header.answer;
     let at = place_for(out, used);
-    judge_within(
-        header.plan,
-        &case[a..b],
-        &case[b..c],
-        report,
-        header.room,
-        out,
-        at,
-    )
+    judge_within(case, header, report, out, at)
 }
 
 fn bad_header(out: &mut [u8], flow: Flow) -> Flow
@@ -171,7 +166,7 @@ fn run_texts(
     requires { ⌜ Small header ⌝ }
     ensures { λ r. ⌜ Inside r (now (input .exit)) ⌝ }
 {
-    let need = header.size + header.sheet + header.answer;
+    let need = header.size + header.sheet + header.start + header.answer;
     let whole = gather(input, out, flow, need);
     let at = whole.at;
     let to = whole.to;

@@ -1,7 +1,27 @@
-// Runs each pair of texts that an argument names, NAME.sheet and NAME.answer beside it: its name, what `judge` prints, and the place of the line at fault.
+// Runs each paper and answer that an argument names, NAME.sheet, NAME.answer and, where there is one, NAME.start: its name, what `judge` prints, and the place
+// of the line at fault.
 // Promised by `judge_lib`: every byte between the name and the place, and the place. A pair is a line of pairs.py or papers.py, and make.py writes the rest.
 use judge_spec::LENT_BYTES;
 use libc::STDOUT_FILENO;
+
+fn print_case(name: &[u8], sheet: &[u8], given: bool, start: &[u8], answer: &[u8]) {
+    let mut out = [0u8; LENT_BYTES];
+    let used = judge_lib::print(sheet, given, start, answer, &mut out);
+    io::write_all(STDOUT_FILENO, b"case=");
+    io::write_all(STDOUT_FILENO, name);
+    io::write_all(STDOUT_FILENO, b"\n");
+    io::write_all(STDOUT_FILENO, &out[..used]);
+    sitting_shown::print_place(judge_lib::place(sheet, given, start, answer, LENT_BYTES));
+}
+
+fn run_started(name: &[u8], sheet: &[u8], answer: &[u8]) {
+    let mut path = [0u8; 80];
+    let l = sitting_shown::path_of(&mut path, name, b".start");
+    let mut start = [0u8; 8193];
+    let begun = program_io::read_start(&path[..l], &mut start);
+    let b = begun.size;
+    print_case(name, sheet, begun.given, &start[..b], answer);
+}
 
 fn run_case(i: usize) {
     let mut name = [0u8; 64];
@@ -10,13 +30,7 @@ fn run_case(i: usize) {
     let n = sitting_shown::read_named(&name[..k], b".sheet", &mut sheet);
     let mut answer = [0u8; 32769];
     let m = sitting_shown::read_named(&name[..k], b".answer", &mut answer);
-    let mut out = [0u8; LENT_BYTES];
-    let used = judge_lib::print(&sheet[..n], &answer[..m], &mut out);
-    io::write_all(STDOUT_FILENO, b"case=");
-    io::write_all(STDOUT_FILENO, &name[..k]);
-    io::write_all(STDOUT_FILENO, b"\n");
-    io::write_all(STDOUT_FILENO, &out[..used]);
-    sitting_shown::print_place(judge_lib::place(&sheet[..n], &answer[..m], LENT_BYTES));
+    run_started(&name[..k], &sheet[..n], &answer[..m]);
 }
 
 fn main() {

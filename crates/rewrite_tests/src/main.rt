@@ -44,7 +44,7 @@ fn print_answered(done: Rewritten, found: usize) {
 fn print_judged(sheet: &[u8], answer: &[u8]) {
     io::write_all(STDOUT_FILENO, sheet);
     let mut report = [0u8; LENT_BYTES];
-    let used = judge_lib::print(sheet, answer, &mut report);
+    let used = judge_lib::print(sheet, false, b"", answer, &mut report);
     io::write_all(STDOUT_FILENO, &report[..used]);
 }
 
