@@ -20,7 +20,7 @@ use Rattle.read_spec.specs.Place.{lineNumber}
 use Rattle.read_chain.specs.Whole.{Whole, beside}
 use Rattle.read_chain.specs.declared.Place.{Place}
 use Rattle.read_sheet.specs.Form.{formRead}
-use Rattle.judge_spec.specs.Judged.{faultLine, over}
+use Rattle.judge_spec.specs.Judged.{over}
 use Rattle.write_items.specs.Written.{Written}
 use Rattle.write_items.proofs.Laws.{fits-all}
 use Rattle.form_cells.specs.Cells.{gap, stands, firstAfter, commasAfter, linesFrom, unmarked, linesOf}
@@ -76,13 +76,12 @@ lines-are s old new n w l =
 -- ---- the line at fault
 module _ (n at : ℕ) (s : List ℕ) where
   pub fault-none : n ≤ 1 → record { refused = n; line = 0 } ≡ faultAt n at s
-  unfolding lineAtFault faultLine
-  fault-none l =
-      by-test (eqb n 0) (λ e. rw e) (λ e. let q : n ≡ 1 = omega (arith, eqb-false n 0 e) in rw q)
+  unfolding lineAtFault
+  fault-none l = rw (le-leb n 1 l, lineAtFault)
 
   pub fault-some : 1 < n → (line : ℕ) → line ≡ lineNumber s at → record { refused = n; line = line } ≡ faultAt n at s
-  unfolding lineAtFault faultLine
-  fault-some l line e = rw (ne-eqb n 0 (λ q. omega (arith, q)), ne-eqb n 1 (λ q. omega (arith, q)), faultLine, e)
+  unfolding lineAtFault
+  fault-some l line e = rw (lt-leb n 1 l, lineAtFault, e)
 
 -- a fault told of the lines s, which were read by m
 pub said-so : (m : List ℕ → Whole (Tables × Program)) (s t : List ℕ) {r : Fault} {p : Place} {x : Tables × Program} → t ≡ s → beside p x ≡ m t

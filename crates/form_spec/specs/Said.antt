@@ -3,7 +3,7 @@ use Prim.Native.Nat.{ℕ}
 use mathlib.Core.List.{List, _++_}
 use mathlib.Core.Bool.{true, false, cond}
 use mathlib.Core.Path.{_≡_}
-use lib.Dec.{eqb}
+use lib.Dec.{leb}
 use lib.ListN.{length}
 use Rattle.item_spec.specs.Reader.{bytes}
 use Rattle.item_spec.specs.Refusal.{tooLong}
@@ -11,8 +11,7 @@ use Rattle.model.specs.declared.Tables.{Tables}
 use Rattle.model.specs.declared.Program.{Program}
 use Rattle.model.specs.Empty.{noTables, noProgram}
 use Rattle.read_spec.specs.Limits.{lengthOk}
-use Rattle.read_spec.specs.Place.{lfs}
-use Rattle.judge_spec.specs.Judged.{faultLine}
+use Rattle.read_spec.specs.Place.{lfs, lineNumber}
 use Rattle.read_chain.specs.Whole.{Whole}
 use Rattle.read_sheet.specs.Sheet.{sheetRead}
 use Rattle.read_sheet.specs.Form.{formRead}
@@ -23,9 +22,9 @@ pub record Said : Type 0 where
   pub line : ℕ
   pub value : Tables × Program
 
--- docs/FORM.md: "the number and the row at fault, counted from 1"; 0 where none is
+-- docs/FORM.md: "the number and the row at fault, counted from 1"; 0 where none is, and 01: "0 for number 1"
 unfoldable pub lineAtFault : ℕ → ℕ → List ℕ → ℕ
-lineAtFault n at s = cond (eqb n 0) 0 (faultLine n at s)
+lineAtFault n at s = cond (leb n tooLong) 0 (lineNumber s at)
 
 -- of the lines s, of which w was read
 abbrev pub said : List ℕ → Whole (Tables × Program) → Said
