@@ -116,7 +116,7 @@ told-step x e =
     end-not-finish : eqb (x .verb) endVerb ≡ true → eqb (x .verb) finishVerb ≡ false
     end-not-finish c = rw (eqb-true (x .verb) endVerb c)
 
-step-lawful : (x : Step) → stepFault x ≡ 0 → stepLawful x ≡ true
+pub step-lawful : (x : Step) → stepFault x ≡ 0 → stepLawful x ≡ true
 unfolding stepLawful stepFault
 step-lawful x e =
     by-test (eqb (x .verb) nextVerb) (λ a. rw a)

@@ -36,7 +36,7 @@ or-assoc a b c =
     by-cases (ℕ-discrete a 0) (λ e. or-zero a (orNumber b c) e ∙ ap (λ (n : ℕ). orNumber n c) (sym (or-zero a b e)))
     (λ e. or-some a (orNumber b c) e ∙ sym (ap (λ (n : ℕ). orNumber n c) (or-some a b e) ∙ or-some a c e))
 
-or-none : (a : ℕ) → orNumber a 0 ≡ a
+pub or-none : (a : ℕ) → orNumber a 0 ≡ a
 or-none a = by-cases (ℕ-discrete a 0) (λ e. or-zero a 0 e ∙ sym e) (λ e. or-some a 0 e)
 
 -- one more at the end
