@@ -21,7 +21,7 @@ use Rattle.write_spec.specs.Texts.{firstOf, transitionRow, behaviorRow, 
 use Rattle.write_spec.proofs.Turns.{or-both, first-zero, limit-met, clauses-met}
 
 -- ---- a type
-port-met : (k p u w : Bool) → (not k ⇒ 2 ∣ not p ⇒ 3 ∣ (u && not w) ⇒ 4 ∣ 0) ≡ 0 → (k ≡ true) × (p ≡ true) × ((not u || w) ≡ true)
+pub port-met : (k p u w : Bool) → (not k ⇒ 2 ∣ not p ⇒ 3 ∣ (u && not w) ⇒ 4 ∣ 0) ≡ 0 → (k ≡ true) × (p ≡ true) × ((not u || w) ≡ true)
 port-met true true true true e = (refl, refl, refl)
 port-met true true true false e = absurd (omega arith)
 port-met true true false w e = (refl, refl, refl)
@@ -81,7 +81,7 @@ module _ (t : Tables) (i : ℕ) where
       (all-of (v .ports) (portLawful t i) (λ x h. port-lawful x (first-zero groupFault (v .ports) groups x h)))
 
 -- ---- an instruction
-do-lawful : (n : ℕ) (x : Instruction) → doFault n x ≡ 0 → instructionLawful n x ≡ true
+pub do-lawful : (n : ℕ) (x : Instruction) → doFault n x ≡ 0 → instructionLawful n x ≡ true
 unfolding doFault instructionLawful
 do-lawful n x e =
     by-test (eqb (x .verb) addVerb) (λ a. let h = limit-met (idOk (x .id) && typeOk n (x .number)) (rw a at e) in rw (and-left (idOk (x .id)) (typeOk n (x .number)) h, a) (and-right (idOk (x .id)) (typeOk n (x .number)) h))

@@ -79,14 +79,14 @@ module _ (t : Tables) (i : ℕ) (law : typeLawful t i ≡ true) where
 
 -- ---- an instruction
 -- what holds of it by each verb that a line says
-record Told (n : ℕ) (x : Instruction) : Type 0 where
-  none : doFault n x ≡ 0
-  digits : DigitsOf (spoken x)
+pub record Told (n : ℕ) (x : Instruction) : Type 0 where
+  pub none : doFault n x ≡ 0
+  pub digits : DigitsOf (spoken x)
 
 small : (a : ℕ) → idOk a ≡ true → Digits a
 small a e = omega (arith, leb-true a 31 e)
 
-told : (n : ℕ) (x : Instruction) → n ≤ 16 → instructionLawful n x ≡ true → Told n x
+pub told : (n : ℕ) (x : Instruction) → n ≤ 16 → instructionLawful n x ≡ true → Told n x
 unfolding instructionLawful doFault spoken
 told n x few e =
     let (id, rest) = both (idOk (x .id)) e in
@@ -114,6 +114,9 @@ told n x few e =
         by-test (eqb (x .verb) conVerb) (λ k. rw (eqb-true (x .verb) conVerb k)) (λ k. rw (eqb-true (x .verb) dconVerb (or-not (eqb (x .verb) conVerb) _ c k)))
 
 -- ---- the sheet
+pub masked : (n m : ℕ) → n ≤ 32 → maskOk n m ≡ true → Mask m
+masked n m l e = lt-of-lt-of-le (ltb-true m (2 ^ n) e) (pow-mono l)
+
 module _ (t : Tables) (p : Program) (law : Lawful t p) where
   record Sheet : Type 0 where
     depth : depthOk (t .depth) ≡ true
@@ -147,9 +150,6 @@ module _ (t : Tables) (p : Program) (law : Lawful t p) where
   sheet-none =
       rw (parts .depth, parts .count, first-none (typeFault t) (t .count) (λ i h. type-none t i (parts .type i h)), parts .program)
       (first-none (λ j. doFault (t .count) (instructionRow p j)) (p .count) (λ j h. line-told j h .none))
-
-  masked : (n m : ℕ) → n ≤ 32 → maskOk n m ≡ true → Mask m
-  masked n m l e = lt-of-lt-of-le (ltb-true m (2 ^ n) e) (pow-mono l)
 
   module _ (i : ℕ) (h : i < t .count) where
     abbrev at : Kept t i

@@ -1,100 +1,60 @@
 -- A written sheet is read as what it says, or refused with its number.
 -- Assumes nothing.
-use Prim.Native.Nat.{ℕ, zero, suc, _+_, _-_, _*_, _≤_, _<_}
-use mathlib.Core.List.{List, [], _∷_, _++_, append-nil}
-use mathlib.Core.Bool.{Bool, true, false, not, _&&_, _||_, cond}
-use mathlib.Core.Path.{_≡_, refl, sym, ap, ap₂, subst, _∙_}
-use mathlib.Core.Logic.{_≢_}
+use Prim.Native.Nat.{ℕ, suc, _+_, _-_, _*_, _≤_, _<_}
+use mathlib.Core.Bool.{Bool, _&&_}
+use mathlib.Core.Path.{_≡_, refl, sym, subst}
 use native.Mathlib.Omega.{arith}
-use native.Mathlib.Nat.{zero-add}
-use lib.Dec.{eqb, leb, ltb}
-use lib.ListN.{getD, set}
+use lib.Dec.{leb}
 use borrow.Author.Tests.{leb-true}
 use Rattle.item_spec.proofs.Tests.{and-right}
 use Rattle.item_spec.specs.Reader.{bytes}
 use Rattle.item_spec.specs.Write.{inTurn}
 use Rattle.sets.specs.Test.{anyBelow}
-use Rattle.model.specs.declared.ComponentType.{ComponentType}
-use Rattle.model.specs.declared.Transitions.{Transitions}
-use Rattle.model.specs.declared.Ports.{Ports}
 use Rattle.model.specs.declared.Tables.{Tables}
-use Rattle.model.specs.declared.Instruction.{Instruction}
 use Rattle.model.specs.declared.Program.{Program}
-use Rattle.model.specs.Empty.{noType, noTables, noProgram, noInstruction}
-use Rattle.model.specs.View.{typeOf, listOf}
+use Rattle.model.specs.View.{typeOf}
 use Rattle.read_spec.specs.Limits.{depthOk, typesOk, placesOk, transitionsOk, behaviorsOk, portsOk, programOk}
-use Rattle.read_spec.specs.Lines.{Lines, on, stop, runOn, line, each}
-use Rattle.read_spec.specs.Kinds.{dueLine, countLine, initialLine, tranLine, behaviorLine, portLine, doLine}
-use Rattle.read_spec.specs.Fill.{headed, withType, withTransition, withPort, programOf, withInstruction}
+use Rattle.read_spec.specs.Lines.{each}
+use Rattle.read_spec.specs.Kinds.{tranLine, behaviorLine, portLine, doLine}
+use Rattle.read_spec.specs.Fill.{headed, programOf}
 use Rattle.read_spec.specs.Texts.{tranAt, behaviorAt, portAt, typeLines, instructionAt, sheet}
-use Rattle.rules_spec.specs.Refusal.{_⇒_∣_, orNumber}
 use Rattle.report_spec.specs.Report.{countText}
 use Rattle.write_spec.specs.Kinds.{limitFault, initialText, initialFault, tranText, tranFault, behaviorText, behaviorFault, portLineText, portFault, doText, doFault}
 use Rattle.write_spec.specs.Texts.{firstOf, transitionRow, behaviorRow, portRow, instructionRow, typeText, typeFault, sheetText, sheetFault}
-use Rattle.write_spec.specs.Cleared.{rowSaid, column, cleared, spoken, clearedProgram}
+use Rattle.write_spec.specs.Cleared.{cleared, clearedProgram}
 use Rattle.write_spec.specs.Round.{Digits, Mask, Held}
 use Rattle.write_spec.proofs.Turns.{limit-met}
 use Rattle.write_spec.proofs.Says.{Says, says-line, says-then, says-map, says-made, says-rows, says-all, Ends, ends-then, ends-here}
 use Rattle.write_spec.proofs.Written.{says-due, says-count, says-initial, says-tran, says-behavior, says-port, says-do}
-use Rattle.write_spec.proofs.Columns.{column-same, column-none, column-set, up-none, up-next, upTo, to-none, to-next}
+use Rattle.write_spec.proofs.Columns.{upTo}
+use Rattle.write_spec.proofs.Tables.{transitionsOf, behaviorsOf, portsOf, tran-none, behavior-none, port-none, tran-made, behavior-made, port-made, trans, behaves, gates, saidTo, type-made, head-said, programTo, program-made, program-none}
 
 module _ (t : Tables) (p : Program) (held : Held t p) where
-  -- ---- the rows of a kind, of which the slots p are said
-  abbrev transitionsOf : (ℕ → Bool) → Transitions
-  transitionsOf said = record { source = column 512 said 0 (λ r. getD (t .transitions .source) r 0); destination = column 512 said 0 (λ r. getD (t .transitions .destination) r 0) }
-
-  abbrev behaviorsOf : (ℕ → Bool) → List ℕ
-  behaviorsOf said = column 128 said 0 (λ r. getD (t .behaviors) r 0)
-
-  abbrev portsOf : (ℕ → Bool) → Ports
-  portsOf said = record { uses = column 256 said 0 (λ r. getD (t .ports .uses) r 0); places = column 256 said 0 (λ r. getD (t .ports .places) r 0); transitions = column 256 said 0 (λ r. getD (t .ports .transitions) r 0) }
-
   module _ (said : ℕ → Bool) (lo : ℕ) where
-    tran-turn : (n j : ℕ) → Digits (transitionRow t j .0) × Digits (transitionRow t j .1) → lo ≤ j → Says (tranAt n j (transitionsOf (upTo said lo j))) (tranText (transitionRow t j)) (tranFault n (transitionRow t j)) (transitionsOf (upTo said lo (suc j)))
-    unfolding tranAt withTransition
+    tran-turn : (n j : ℕ) → Digits (transitionRow t j .0) × Digits (transitionRow t j .1) → lo ≤ j → Says (tranAt n j (transitionsOf t (upTo said lo j))) (tranText (transitionRow t j)) (tranFault n (transitionRow t j)) (transitionsOf t (upTo said lo (suc j)))
+    unfolding tranAt
     tran-turn n j w l =
-        let f = to-next said lo j l in
-        says-map (tranLine n) _ (ap₂ (λ (a b : List ℕ). record { source = a; destination = b }) (column-set 512 0 _ _ _ j f) (column-set 512 0 _ _ _ j f))
+        says-map (tranLine n) _ (tran-made t said lo j l)
         (says-tran n (transitionRow t j) (w .0) (w .1))
 
-    behavior-turn : (k j : ℕ) → Mask (behaviorRow t j) → k ≤ 32 → lo ≤ j → Says (behaviorAt k j (behaviorsOf (upTo said lo j))) (behaviorText (behaviorRow t j)) (behaviorFault k (behaviorRow t j)) (behaviorsOf (upTo said lo (suc j)))
+    behavior-turn : (k j : ℕ) → Mask (behaviorRow t j) → k ≤ 32 → lo ≤ j → Says (behaviorAt k j (behaviorsOf t (upTo said lo j))) (behaviorText (behaviorRow t j)) (behaviorFault k (behaviorRow t j)) (behaviorsOf t (upTo said lo (suc j)))
     unfolding behaviorAt
-    behavior-turn k j w h l = says-map (behaviorLine k) _ (column-set 128 0 _ _ _ j (to-next said lo j l)) (says-behavior k (behaviorRow t j) h w)
+    behavior-turn k j w h l = says-map (behaviorLine k) _ (behavior-made t said lo j l) (says-behavior k (behaviorRow t j) h w)
 
-    port-turn : (n k m j : ℕ) → Mask (portRow t j .1) × Mask (portRow t j .2) → n ≤ 32 → k ≤ 32 → lo ≤ j → Says (portAt n k m j (portsOf (upTo said lo j))) (portLineText (portRow t j)) (portFault n k m (portRow t j)) (portsOf (upTo said lo (suc j)))
-    unfolding portAt withPort
+    port-turn : (n k m j : ℕ) → Mask (portRow t j .1) × Mask (portRow t j .2) → n ≤ 32 → k ≤ 32 → lo ≤ j → Says (portAt n k m j (portsOf t (upTo said lo j))) (portLineText (portRow t j)) (portFault n k m (portRow t j)) (portsOf t (upTo said lo (suc j)))
+    unfolding portAt
     port-turn n k m j w hn hk l =
-        let f = to-next said lo j l in
-        says-map (portLine n k m) _ (made (column-set 256 0 _ _ _ j f) (column-set 256 0 _ _ _ j f) (column-set 256 0 _ _ _ j f))
+        says-map (portLine n k m) _ (port-made t said lo j l)
         (says-port n k m (portRow t j) hn hk (w .0) (w .1))
-      where
-        made : {a b c d e f : List ℕ} → a ≡ b → c ≡ d → e ≡ f → _≡_ {A = Ports} (record { uses = a; places = c; transitions = e }) (record { uses = b; places = d; transitions = f })
-        made x y z = rw (x, y, z)
 
   -- ---- the rows of type i
   -- row x of lo on
   at-row : (P : ℕ → Type 0) (lo n j : ℕ) → ((x : ℕ) → x < n → P (lo + x)) → lo ≤ j → j < lo + n → P j
   at-row P lo n j f l h = let e : lo + (j - lo) ≡ j = omega arith in subst P e (f (j - lo) (omega arith))
 
-  abbrev trans : ℕ → ℕ → Bool
-  trans n = rowSaid n 32 (λ i. typeOf t i .transitions)
-
-  abbrev behaves : ℕ → ℕ → Bool
-  behaves n = rowSaid n 8 (λ i. typeOf t i .behaviors)
-
-  abbrev gates : ℕ → ℕ → Bool
-  gates n = rowSaid n 16 (λ i. typeOf t i .ports)
-
   -- the tables of which the first n types are said
   abbrev pub tablesTo : ℕ → Tables
-  tablesTo n = record {
-    depth = t .depth;
-    count = t .count;
-    types = column 16 (λ r. ltb r n) noType (typeOf t);
-    transitions = transitionsOf (trans n);
-    behaviors = behaviorsOf (behaves n);
-    ports = portsOf (gates n);
-  }
+  tablesTo n = saidTo t n
 
   module _ (i : ℕ) (here : i < t .count) where
     abbrev places : ℕ
@@ -106,83 +66,64 @@ module _ (t : Tables) (p : Program) (held : Held t p) where
     abbrev transitions : ℕ
     transitions = typeOf t i .transitions
 
-    pub tran-rows : Says (each (tranAt places) transitions (i * 32) (transitionsOf (trans i)))
-        (inTurn (λ x. tranText (transitionRow t (i * 32 + x))) transitions) (firstOf (λ x. tranFault places (transitionRow t (i * 32 + x))) transitions) (transitionsOf (trans (suc i)))
+    pub tran-rows : Says (each (tranAt places) transitions (i * 32) (transitionsOf t (trans t i)))
+        (inTurn (λ x. tranText (transitionRow t (i * 32 + x))) transitions) (firstOf (λ x. tranFault places (transitionRow t (i * 32 + x))) transitions) (transitionsOf t (trans t (suc i)))
     unfolding anyBelow
     tran-rows =
-        let f = to-none (trans i) (i * 32) in
-        says-rows (tranAt places) (λ j. tranText (transitionRow t j)) (λ j. tranFault places (transitionRow t j)) (λ j. transitionsOf (upTo (trans i) (i * 32) j)) (i * 32) (i * 32 + transitions)
-        (λ j l h. tran-turn (trans i) (i * 32) places j (at-row (λ j. Digits (transitionRow t j .0) × Digits (transitionRow t j .1)) (i * 32) transitions j (λ x b. held .transition i x here b) l h) l) transitions (transitionsOf (trans i))
-        (ap₂ (λ (a b : List ℕ). record { source = a; destination = b }) (column-same 512 0 _ _ _ f) (column-same 512 0 _ _ _ f)) refl
+        says-rows (tranAt places) (λ j. tranText (transitionRow t j)) (λ j. tranFault places (transitionRow t j)) (λ j. transitionsOf t (upTo (trans t i) (i * 32) j)) (i * 32) (i * 32 + transitions)
+        (λ j l h. tran-turn (trans t i) (i * 32) places j (at-row (λ j. Digits (transitionRow t j .0) × Digits (transitionRow t j .1)) (i * 32) transitions j (λ x b. held .transition i x here b) l h) l) transitions (transitionsOf t (trans t i))
+        (tran-none t (trans t i) (i * 32)) refl
 
-    pub behavior-rows : transitions ≤ 32 → Says (each (behaviorAt transitions) (typeOf t i .behaviors) (i * 8) (behaviorsOf (behaves i)))
-        (inTurn (λ x. behaviorText (behaviorRow t (i * 8 + x))) (typeOf t i .behaviors)) (firstOf (λ x. behaviorFault transitions (behaviorRow t (i * 8 + x))) (typeOf t i .behaviors)) (behaviorsOf (behaves (suc i)))
+    pub behavior-rows : transitions ≤ 32 → Says (each (behaviorAt transitions) (typeOf t i .behaviors) (i * 8) (behaviorsOf t (behaves t i)))
+        (inTurn (λ x. behaviorText (behaviorRow t (i * 8 + x))) (typeOf t i .behaviors)) (firstOf (λ x. behaviorFault transitions (behaviorRow t (i * 8 + x))) (typeOf t i .behaviors)) (behaviorsOf t (behaves t (suc i)))
     unfolding anyBelow
     behavior-rows h =
-        says-rows (behaviorAt transitions) (λ j. behaviorText (behaviorRow t j)) (λ j. behaviorFault transitions (behaviorRow t j)) (λ j. behaviorsOf (upTo (behaves i) (i * 8) j)) (i * 8) (i * 8 + typeOf t i .behaviors)
-        (λ j l b. behavior-turn (behaves i) (i * 8) transitions j (at-row (λ j. Mask (behaviorRow t j)) (i * 8) (typeOf t i .behaviors) j (λ x b. held .behavior i x here b) l b) h l) (typeOf t i .behaviors) (behaviorsOf (behaves i)) (column-same 128 0 _ _ _ (to-none (behaves i) (i * 8))) refl
+        says-rows (behaviorAt transitions) (λ j. behaviorText (behaviorRow t j)) (λ j. behaviorFault transitions (behaviorRow t j)) (λ j. behaviorsOf t (upTo (behaves t i) (i * 8) j)) (i * 8) (i * 8 + typeOf t i .behaviors)
+        (λ j l b. behavior-turn (behaves t i) (i * 8) transitions j (at-row (λ j. Mask (behaviorRow t j)) (i * 8) (typeOf t i .behaviors) j (λ x b. held .behavior i x here b) l b) h l) (typeOf t i .behaviors) (behaviorsOf t (behaves t i)) (behavior-none t (behaves t i) (i * 8)) refl
 
-    pub port-rows : places ≤ 32 → transitions ≤ 32 → Says (each (portAt places transitions initial) (typeOf t i .ports) (i * 16) (portsOf (gates i)))
-        (inTurn (λ x. portLineText (portRow t (i * 16 + x))) (typeOf t i .ports)) (firstOf (λ x. portFault places transitions initial (portRow t (i * 16 + x))) (typeOf t i .ports)) (portsOf (gates (suc i)))
+    pub port-rows : places ≤ 32 → transitions ≤ 32 → Says (each (portAt places transitions initial) (typeOf t i .ports) (i * 16) (portsOf t (gates t i)))
+        (inTurn (λ x. portLineText (portRow t (i * 16 + x))) (typeOf t i .ports)) (firstOf (λ x. portFault places transitions initial (portRow t (i * 16 + x))) (typeOf t i .ports)) (portsOf t (gates t (suc i)))
     unfolding anyBelow
     port-rows hn hk =
-        says-rows (portAt places transitions initial) (λ j. portLineText (portRow t j)) (λ j. portFault places transitions initial (portRow t j)) (λ j. portsOf (upTo (gates i) (i * 16) j)) (i * 16) (i * 16 + typeOf t i .ports)
-        (λ j l b. port-turn (gates i) (i * 16) places transitions initial j (at-row (λ j. Mask (portRow t j .1) × Mask (portRow t j .2)) (i * 16) (typeOf t i .ports) j (λ x b. held .port i x here b) l b) hn hk l) (typeOf t i .ports) (portsOf (gates i)) (same (to-none (gates i) (i * 16))) refl
-      where
-        same : {p q : ℕ → Bool} → ((r : ℕ) → p r ≡ q r) → portsOf p ≡ portsOf q
-        same f = rw (column-same 256 0 (λ r. getD (t .ports .uses) r 0) _ _ f, column-same 256 0 (λ r. getD (t .ports .places) r 0) _ _ f, column-same 256 0 (λ r. getD (t .ports .transitions) r 0) _ _ f)
+        says-rows (portAt places transitions initial) (λ j. portLineText (portRow t j)) (λ j. portFault places transitions initial (portRow t j)) (λ j. portsOf t (upTo (gates t i) (i * 16) j)) (i * 16) (i * 16 + typeOf t i .ports)
+        (λ j l b. port-turn (gates t i) (i * 16) places transitions initial j (at-row (λ j. Mask (portRow t j .1) × Mask (portRow t j .2)) (i * 16) (typeOf t i .ports) j (λ x b. held .port i x here b) l b) hn hk l) (typeOf t i .ports) (portsOf t (gates t i)) (port-none t (gates t i) (i * 16)) refl
 
     -- ---- type i
     pub sixteen : {n : ℕ} → limitFault (leb 1 n && leb n 16) ≡ 0 → n ≤ 32
     sixteen {n} e = omega (arith, leb-true n 16 (and-right (leb 1 n) (leb n 16) (limit-met _ e)))
 
     type-says : i < 16 → Says (typeLines i (tablesTo i)) (typeText t i) (typeFault t i) (tablesTo (suc i))
-    unfolding typeLines typeText typeFault withType
+    unfolding typeLines typeText typeFault
     type-says small =
         says-then _ _ (countText (bytes "type=") i) _ 0 _ tt _ (says-line _ (says-due (bytes "type=") i (omega arith))) λ _.
         says-then _ _ (countText (bytes "places=") places) _ (limitFault (placesOk places)) _ places _ (says-line _ (says-count (bytes "places=") placesOk places (held .places i here))) λ a.
         says-then _ _ (initialText initial) _ (initialFault places initial) _ initial _ (says-line _ (says-initial places initial (sixteen a) (held .initial i here))) λ b.
         says-then _ _ (countText (bytes "transitions=") transitions) _ (limitFault (transitionsOk transitions)) _ transitions _ (says-line _ (says-count (bytes "transitions=") transitionsOk transitions (held .transitions i here))) λ c.
         let few : transitions ≤ 32 = leb-true transitions 32 (limit-met _ c) in
-        says-then _ _ (inTurn (λ x. tranText (transitionRow t (i * 32 + x))) transitions) _ (firstOf (λ x. tranFault places (transitionRow t (i * 32 + x))) transitions) _ (transitionsOf (trans (suc i))) _ tran-rows λ _.
+        says-then _ _ (inTurn (λ x. tranText (transitionRow t (i * 32 + x))) transitions) _ (firstOf (λ x. tranFault places (transitionRow t (i * 32 + x))) transitions) _ (transitionsOf t (trans t (suc i))) _ tran-rows λ _.
         says-then _ _ (countText (bytes "behaviors=") (typeOf t i .behaviors)) _ (limitFault (behaviorsOk (typeOf t i .behaviors))) _ (typeOf t i .behaviors) _ (says-line _ (says-count (bytes "behaviors=") behaviorsOk (typeOf t i .behaviors) (held .behaviors i here))) λ _.
-        says-then _ _ (inTurn (λ x. behaviorText (behaviorRow t (i * 8 + x))) (typeOf t i .behaviors)) _ (firstOf (λ x. behaviorFault transitions (behaviorRow t (i * 8 + x))) (typeOf t i .behaviors)) _ (behaviorsOf (behaves (suc i))) _ (behavior-rows few) λ _.
+        says-then _ _ (inTurn (λ x. behaviorText (behaviorRow t (i * 8 + x))) (typeOf t i .behaviors)) _ (firstOf (λ x. behaviorFault transitions (behaviorRow t (i * 8 + x))) (typeOf t i .behaviors)) _ (behaviorsOf t (behaves t (suc i))) _ (behavior-rows few) λ _.
         says-then _ _ (countText (bytes "ports=") (typeOf t i .ports)) _ (limitFault (portsOk (typeOf t i .ports))) _ (typeOf t i .ports) _ (says-line _ (says-count (bytes "ports=") portsOk (typeOf t i .ports) (held .ports i here))) λ _.
-        says-made _ _ (ap (λ (ks : List ComponentType). record { depth = t .depth; count = t .count; types = ks; transitions = transitionsOf (trans (suc i)); behaviors = behaviorsOf (behaves (suc i)); ports = portsOf (gates (suc i)) })
-        (column-set 16 noType (typeOf t) _ _ i (up-next i))) (port-rows (sixteen a) few)
+        says-made _ _ (type-made t i) (port-rows (sixteen a) few)
 
   -- ---- the sheet
   pub head-is : headed (t .depth) (t .count) ≡ tablesTo 0
-  unfolding headed noTables anyBelow
-  head-is =
-      rw (
-        column-none 16 noType (typeOf t) (λ r. ltb r 0) up-none,
-        column-none 512 0 (λ r. getD (t .transitions .source) r 0) (λ r. false) (λ r. refl),
-        column-none 512 0 (λ r. getD (t .transitions .destination) r 0) (λ r. false) (λ r. refl),
-        column-none 128 0 (λ r. getD (t .behaviors) r 0) (λ r. false) (λ r. refl),
-        column-none 256 0 (λ r. getD (t .ports .uses) r 0) (λ r. false) (λ r. refl),
-        column-none 256 0 (λ r. getD (t .ports .places) r 0) (λ r. false) (λ r. refl),
-        column-none 256 0 (λ r. getD (t .ports .transitions) r 0) (λ r. false) (λ r. refl),
-      )
+  head-is = head-said t
 
   types-say : t .count ≤ 16 → Says (each typeLines (t .count) 0 (headed (t .depth) (t .count))) (inTurn (typeText t) (t .count)) (firstOf (typeFault t) (t .count)) (cleared t)
   unfolding cleared
   types-say few = says-all typeLines (typeText t) (typeFault t) tablesTo (t .count) (λ i h. type-says i h (omega arith)) (headed (t .depth) (t .count)) (sym head-is)
 
-  abbrev programTo : ℕ → Program
-  programTo j = record { instructions = column 256 (λ r. ltb r j) noInstruction (λ r. spoken (instructionRow p r)); count = p .count }
-
-  do-turn : (n j : ℕ) → j < p .count → Says (instructionAt n j (programTo j)) (doText (instructionRow p j)) (doFault n (instructionRow p j)) (programTo (suc j))
-  unfolding instructionAt withInstruction
+  do-turn : (n j : ℕ) → j < p .count → Says (instructionAt n j (programTo p j)) (doText (instructionRow p j)) (doFault n (instructionRow p j)) (programTo p (suc j))
+  unfolding instructionAt
   do-turn n j h =
-      says-map (doLine n) _ (ap (λ (xs : List Instruction). record { instructions = xs; count = p .count }) (column-set 256 noInstruction (λ r. spoken (instructionRow p r)) _ _ j (up-next j)))
+      says-map (doLine n) _ (program-made p j)
       (says-do n (instructionRow p j) (held .instruction j h))
 
   pub program-says : (n : ℕ) → Says (each (instructionAt n) (p .count) 0 (programOf (p .count))) (inTurn (λ j. doText (instructionRow p j)) (p .count)) (firstOf (λ j. doFault n (instructionRow p j)) (p .count)) (clearedProgram p)
-  unfolding clearedProgram programOf noProgram
+  unfolding clearedProgram
   program-says n =
-      says-all (instructionAt n) (λ j. doText (instructionRow p j)) (λ j. doFault n (instructionRow p j)) programTo (p .count) (λ j h. do-turn n j h) (programOf (p .count))
-      (ap (λ (xs : List Instruction). record { instructions = xs; count = p .count }) (column-none 256 noInstruction (λ r. spoken (instructionRow p r)) (λ r. ltb r 0) up-none))
+      says-all (instructionAt n) (λ j. doText (instructionRow p j)) (λ j. doFault n (instructionRow p j)) (programTo p) (p .count) (λ j h. do-turn n j h) (programOf (p .count)) (program-none p)
 
   pub sheet-says : Ends sheet (sheetText t p) (sheetFault t p) (cleared t, clearedProgram p)
   unfolding sheet sheetText sheetFault

@@ -1,15 +1,13 @@
 -- The reading of an answer stops at its first faulty line.
 -- Assumes nothing.
-use Prim.Native.Nat.{ℕ, zero, suc, _<_}
-use mathlib.Core.Bool.{Bool, true}
-use mathlib.Core.List.{List, [], _∷_, _++_, append-nil}
-use mathlib.Core.Path.{_≡_, refl, sym, ap, ap₂, _∙_}
+use Prim.Native.Nat.{ℕ, suc}
+use mathlib.Core.List.{List, [], _∷_, _++_}
+use mathlib.Core.Path.{ap}
 use native.Mathlib.Omega.{arith}
 use native.Mathlib.Nat.{zero-add}
 use lib.Dec.{ltb}
 use borrow.Author.Tests.{leb-true}
 use Rattle.item_spec.specs.Reader.{bytes}
-use Rattle.item_spec.specs.Write.{inTurn}
 use Rattle.model.specs.declared.Step.{Step}
 use Rattle.model.specs.declared.Answer.{Answer}
 use Rattle.model.specs.Empty.{noStep, noAnswer}
@@ -20,31 +18,15 @@ use Rattle.read_spec.specs.Fill.{answerOf, withStep}
 use Rattle.read_spec.specs.Texts.{stepAt, answer}
 use Rattle.rules_spec.specs.Refusal.{orNumber}
 use Rattle.report_spec.specs.Report.{countText}
-use Rattle.write_spec.specs.Kinds.{limitFault, stepText, stepFault}
-use Rattle.write_spec.specs.Texts.{firstOf, stepRow, answerText, answerFault}
+use Rattle.write_spec.specs.Kinds.{limitFault}
+use Rattle.write_spec.specs.Texts.{stepRow, answerText, answerFault}
 use Rattle.write_spec.specs.Cleared.{column, spokenStep, clearedAnswer}
-use Rattle.write_spec.specs.Round.{Digits, DigitsOfStep, anAnswer}
-use Rattle.write_spec.specs.Stops.{Row, textOf, faultOf, rowsFrom, Stopped, dueRow, countRow, rowOfStep, answerRows, AnswersStopAtTheFirst}
-use Rattle.write_spec.proofs.Turns.{or-none, turn-from, first-from}
+use Rattle.write_spec.specs.Stops.{textOf, faultOf, rowsFrom, Stopped, dueRow, countRow, rowOfStep, answerRows, AnswersStopAtTheFirst}
 use Rattle.write_spec.proofs.Written.{says-step}
 use Rattle.write_spec.proofs.Columns.{column-none, column-set, up-none, up-next}
 use Rattle.write_spec.proofs.Answer.{told-step, step-lawful}
-use Rattle.write_spec.proofs.Tells.{Tells, tells-due, tells-count, tells-map, tells-rows, stops-then, stops-last, text-from, fault-from}
+use Rattle.write_spec.proofs.Tells.{Tells, tells-due, tells-count, tells-map, tells-rows, stops-then, stops-last, text-all, fault-all}
 
--- rows of one line each
-pub text-rows : (row : ℕ → Row) (n : ℕ) → textOf (rowsFrom (λ j. row j ∷ []) n 0) ≡ inTurn (λ j. row j .text) n
-unfolding textOf
-text-rows row n =
-    text-from (λ j. row j ∷ []) (λ j. row j .text) (λ j. append-nil (row j .text)) n 0
-    ∙ sym (turn-from 0 (λ j. row j .text) (λ j. row j .text) (λ x. ap (λ (j : ℕ). row j .text) (sym (zero-add x))) n)
-
-pub fault-rows : (row : ℕ → Row) (n : ℕ) → faultOf (rowsFrom (λ j. row j ∷ []) n 0) ≡ firstOf (λ j. row j .fault) n
-unfolding faultOf
-fault-rows row n =
-    fault-from (λ j. row j ∷ []) (λ j. row j .fault) (λ j. or-none (row j .fault)) n 0
-    ∙ sym (first-from 0 (λ j. row j .fault) (λ j. row j .fault) (λ x. ap (λ (j : ℕ). row j .fault) (sym (zero-add x))) n)
-
--- ---- an answer
 module _ (a : Answer) where
   abbrev answerTo : ℕ → Answer
   answerTo j = record { steps = column 1024 (λ r. ltb r j) noStep (λ r. spokenStep (stepRow a r)); count = a .count }
@@ -72,7 +54,7 @@ module _ (a : Answer) where
 pub answers-stop-at-the-first : AnswersStopAtTheFirst
 unfolding AnswersStopAtTheFirst textOf faultOf answerRows answerText answerFault
 answers-stop-at-the-first = record {
-  are-the-text = λ a. ap (λ (l : List ℕ). countText (bytes "answer=") 1 ++ (countText (bytes "steps=") (a .count) ++ l)) (text-rows (λ j. rowOfStep (stepRow a j)) (a .count));
-  have-its-fault = λ a. ap (λ (n : ℕ). orNumber (limitFault (stepsOk (a .count))) n) (fault-rows (λ j. rowOfStep (stepRow a j)) (a .count));
+  are-the-text = λ a. ap (λ (l : List ℕ). countText (bytes "answer=") 1 ++ (countText (bytes "steps=") (a .count) ++ l)) (text-all (λ j. rowOfStep (stepRow a j)) (a .count));
+  have-its-fault = λ a. ap (λ (n : ℕ). orNumber (limitFault (stepsOk (a .count))) n) (fault-all (λ j. rowOfStep (stepRow a j)) (a .count));
   stops = answer-stops;
 }

@@ -4,16 +4,17 @@ use Prim.Native.Nat.{ℕ, zero, suc, _+_, _<_, _≤_}
 use mathlib.Core.List.{List, [], _∷_, _++_, append-assoc, append-nil}
 use mathlib.Core.Bool.{Bool, true}
 use mathlib.Core.Path.{_≡_, refl, sym, ap, ap₂, subst, _∙_}
-use mathlib.Core.Logic.{_≢_}
 use native.Mathlib.Omega.{arith}
-use native.Mathlib.Nat.{add-zero}
+use native.Mathlib.Nat.{add-zero, zero-add}
 use Rattle.item_spec.specs.Reader.{Reader}
-use Rattle.read_spec.specs.Lines.{Run, on, stop, Lines, runOn, line, lineOf, each, handOn, atEnd}
+use Rattle.item_spec.specs.Write.{inTurn}
+use Rattle.read_spec.specs.Lines.{on, Lines, runOn, line, lineOf, each, handOn, atEnd}
 use Rattle.read_spec.specs.Kinds.{dueLine, countLine}
 use Rattle.rules_spec.specs.Refusal.{orNumber}
+use Rattle.write_spec.specs.Texts.{firstOf}
 use Rattle.write_spec.specs.Round.{Digits}
 use Rattle.write_spec.specs.Stops.{Row, textOf, faultOf, rowsFrom, Stopped, dueRow, countRow}
-use Rattle.write_spec.proofs.Turns.{inTurnFrom, firstFrom, or-zero, or-both, or-assoc, limit-met}
+use Rattle.write_spec.proofs.Turns.{inTurnFrom, firstFrom, turn-from, first-from, or-zero, or-both, or-assoc, or-none, limit-met}
 use Rattle.write_spec.proofs.Says.{SaysLine}
 use Rattle.write_spec.proofs.Written.{says-due, says-count}
 
@@ -28,15 +29,46 @@ unfolding faultOf
 fault-append [] ys = refl
 fault-append (x ∷ xs) ys = ap (λ (n : ℕ). orNumber (x .fault) n) (fault-append xs ys) ∙ or-assoc (x .fault) (faultOf xs) (faultOf ys)
 
-pub text-from : (f : ℕ → List Row) (g : ℕ → List ℕ) → ((i : ℕ) → textOf (f i) ≡ g i) → (n i : ℕ) → textOf (rowsFrom f n i) ≡ inTurnFrom g n i
+text-from : (f : ℕ → List Row) (g : ℕ → List ℕ) → ((i : ℕ) → textOf (f i) ≡ g i) → (n i : ℕ) → textOf (rowsFrom f n i) ≡ inTurnFrom g n i
 unfolding textOf rowsFrom inTurnFrom
 text-from f g e zero i = refl
 text-from f g e (suc n) i = text-append (f i) (rowsFrom f n (suc i)) ∙ ap₂ _++_ (e i) (text-from f g e n (suc i))
 
-pub fault-from : (f : ℕ → List Row) (g : ℕ → ℕ) → ((i : ℕ) → faultOf (f i) ≡ g i) → (n i : ℕ) → faultOf (rowsFrom f n i) ≡ firstFrom g n i
+fault-from : (f : ℕ → List Row) (g : ℕ → ℕ) → ((i : ℕ) → faultOf (f i) ≡ g i) → (n i : ℕ) → faultOf (rowsFrom f n i) ≡ firstFrom g n i
 unfolding faultOf rowsFrom firstFrom
 fault-from f g e zero i = refl
 fault-from f g e (suc n) i = fault-append (f i) (rowsFrom f n (suc i)) ∙ ap₂ (λ (a b : ℕ). orNumber a b) (e i) (fault-from f g e n (suc i))
+
+-- as they are written in turn
+module _ (rows : ℕ → List Row) (lo : ℕ) where
+  pub text-turns : (f : ℕ → List ℕ) → ((x : ℕ) → f x ≡ textOf (rows (lo + x))) → (n : ℕ) → textOf (rowsFrom rows n lo) ≡ inTurn f n
+  text-turns f e n = text-from rows (λ j. textOf (rows j)) (λ j. refl) n lo ∙ sym (turn-from lo f (λ j. textOf (rows j)) e n)
+
+  pub fault-turns : (f : ℕ → ℕ) → ((x : ℕ) → f x ≡ faultOf (rows (lo + x))) → (n : ℕ) → faultOf (rowsFrom rows n lo) ≡ firstOf f n
+  fault-turns f e n = fault-from rows (λ j. faultOf (rows j)) (λ j. refl) n lo ∙ sym (first-from lo f (λ j. faultOf (rows j)) e n)
+
+-- one line to a turn
+module _ (row : ℕ → Row) (n : ℕ) where
+  pub text-rows : (lo : ℕ) → textOf (rowsFrom (λ j. row j ∷ []) n lo) ≡ inTurn (λ x. row (lo + x) .text) n
+  unfolding textOf
+  text-rows lo = text-turns (λ j. row j ∷ []) lo (λ x. row (lo + x) .text) (λ x. sym (append-nil (row (lo + x) .text))) n
+
+  pub fault-rows : (lo : ℕ) → faultOf (rowsFrom (λ j. row j ∷ []) n lo) ≡ firstOf (λ x. row (lo + x) .fault) n
+  unfolding faultOf
+  fault-rows lo = fault-turns (λ j. row j ∷ []) lo (λ x. row (lo + x) .fault) (λ x. sym (or-none (row (lo + x) .fault))) n
+
+  -- from the first slot on
+  pub text-all : textOf (rowsFrom (λ j. row j ∷ []) n 0) ≡ inTurn (λ j. row j .text) n
+  unfolding textOf
+  text-all = text-turns (λ j. row j ∷ []) 0 (λ j. row j .text) (λ x. sym (append-nil (row x .text)) ∙ ap (λ (j : ℕ). textOf (row j ∷ [])) (sym (zero-add x))) n
+
+  pub fault-all : faultOf (rowsFrom (λ j. row j ∷ []) n 0) ≡ firstOf (λ j. row j .fault) n
+  unfolding faultOf
+  fault-all = fault-turns (λ j. row j ∷ []) 0 (λ j. row j .fault) (λ x. sym (or-none (row x .fault)) ∙ ap (λ (j : ℕ). faultOf (row j ∷ [])) (sym (zero-add x))) n
+
+pub one-none : (x : Row) → faultOf (x ∷ []) ≡ 0 → x .fault ≡ 0
+unfolding faultOf
+one-none x e = or-both (x .fault) 0 e .0
 
 -- ---- where a reader stops
 -- a reader that is another one after these bytes
@@ -100,6 +132,12 @@ module _ {A B : Type 0} (m : Lines A) (f : A → Lines B) (xs ys : List Row) (a 
 pub tells-map : {A B : Type 0} (m : Reader A) (g : A → B) (x : Row) (a : A) {b : B} → g a ≡ b → (x .fault ≡ 0 → x .Held) → (x .Held → SaysLine m (x .text) (x .fault) a)
     → Tells (λ s. runOn (line m s) (λ a. handOn (g a))) (x ∷ []) b
 tells-map m g x a q few h = rw (← q) (tells-then (line m) (λ a. handOn (g a)) (x ∷ []) [] a (g a) (tells-line m x a few h) (λ _. tells-give (g a)))
+
+-- a run of lines, and what is made of its value
+pub tells-made : {A B : Type 0} (m : Lines A) (g : A → B) (xs : List Row) (a : A) {b : B} → g a ≡ b → Tells m xs a → Tells (λ s. runOn (m s) (λ a. handOn (g a))) xs b
+tells-made m g xs a q h =
+    rw (← q) (subst (λ (l : List Row). Tells (λ s. runOn (m s) (λ a. handOn (g a))) l (g a)) (append-nil xs)
+    (tells-then m (λ a. handOn (g a)) xs [] a (g a) h (λ _. tells-give (g a))))
 
 -- as many turns
 module _ {A : Type 0} (f : ℕ → A → Lines A) (rows : ℕ → List Row) (value : ℕ → A) (lo hi : ℕ)
