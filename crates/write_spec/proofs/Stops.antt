@@ -21,11 +21,12 @@ use Rattle.report_spec.specs.Report.{countText}
 use Rattle.write_spec.specs.Kinds.{limitFault}
 use Rattle.write_spec.specs.Texts.{stepRow, answerText, answerFault}
 use Rattle.write_spec.specs.Cleared.{column, spokenStep, clearedAnswer}
+use Rattle.write_spec.specs.Round.{anAnswer}
 use Rattle.write_spec.specs.Stops.{textOf, faultOf, rowsFrom, Stopped, dueRow, countRow, rowOfStep, answerRows, AnswersStopAtTheFirst}
 use Rattle.write_spec.proofs.Written.{says-step}
 use Rattle.write_spec.proofs.Columns.{column-none, column-set, up-none, up-next}
 use Rattle.write_spec.proofs.Answer.{told-step, step-lawful}
-use Rattle.write_spec.proofs.Tells.{Tells, tells-due, tells-count, tells-map, tells-rows, stops-then, stops-last, text-all, fault-all}
+use Rattle.write_spec.proofs.Tells.{Tells, tells-due, tells-count, tells-map, tells-rows, stops-then, stops-last, stopped-all, text-all, fault-all}
 
 module _ (a : Answer) where
   abbrev answerTo : ℕ → Answer
@@ -53,8 +54,8 @@ module _ (a : Answer) where
 
 pub answers-stop-at-the-first : AnswersStopAtTheFirst
 unfolding AnswersStopAtTheFirst textOf faultOf answerRows answerText answerFault
-answers-stop-at-the-first = record {
-  are-the-text = λ a. ap (λ (l : List ℕ). countText (bytes "answer=") 1 ++ (countText (bytes "steps=") (a .count) ++ l)) (text-all (λ j. rowOfStep (stepRow a j)) (a .count));
-  have-its-fault = λ a. ap (λ (n : ℕ). orNumber (limitFault (stepsOk (a .count))) n) (fault-all (λ j. rowOfStep (stepRow a j)) (a .count));
-  stops = answer-stops;
-}
+answers-stop-at-the-first =
+    stopped-all anAnswer answerRows
+    (λ a. ap (λ (l : List ℕ). countText (bytes "answer=") 1 ++ (countText (bytes "steps=") (a .count) ++ l)) (text-all (λ j. rowOfStep (stepRow a j)) (a .count)))
+    (λ a. ap (λ (n : ℕ). orNumber (limitFault (stepsOk (a .count))) n) (fault-all (λ j. rowOfStep (stepRow a j)) (a .count)))
+    answer-stops

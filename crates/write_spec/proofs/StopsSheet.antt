@@ -24,7 +24,7 @@ use Rattle.report_spec.specs.Report.{countText}
 use Rattle.write_spec.specs.Kinds.{limitFault, initialText, initialFault, tranFault, behaviorFault, portFault}
 use Rattle.write_spec.specs.Texts.{transitionRow, behaviorRow, portRow, instructionRow, typeText, typeFault, sheetText, sheetFault}
 use Rattle.write_spec.specs.Cleared.{spoken, cleared, clearedProgram}
-use Rattle.write_spec.specs.Round.{Digits, Mask}
+use Rattle.write_spec.specs.Round.{Digits, Mask, aSheet}
 use Rattle.write_spec.specs.Stops.{Row, textOf, faultOf, rowsFrom, Stopped, dueRow, countRow, rowOfInitial, rowOfTran, rowOfBehavior, rowOfPort, rowOfDo, typeRows, sheetRows, SheetsStopAtTheFirst}
 use Rattle.write_spec.proofs.Turns.{limit-met, clauses-met}
 use Rattle.write_spec.proofs.Written.{says-initial, says-tran, says-behavior, says-port, says-do}
@@ -32,7 +32,7 @@ use Rattle.write_spec.proofs.Columns.{upTo}
 use Rattle.write_spec.proofs.Tables.{transitionsOf, behaviorsOf, portsOf, tran-none, behavior-none, port-none, tran-made, behavior-made, port-made, trans, behaves, gates, saidTo, type-made, head-said, programTo, program-made, program-none}
 use Rattle.write_spec.proofs.Lawful.{told, masked}
 use Rattle.write_spec.proofs.Faultless.{port-met, do-lawful}
-use Rattle.write_spec.proofs.Tells.{Tells, tells-line, tells-due, tells-count, tells-then, tells-map, tells-made, tells-rows, stops-then, stops-last, one-none, text-append, fault-append, text-turns, fault-turns, text-rows, fault-rows, text-all, fault-all}
+use Rattle.write_spec.proofs.Tells.{Tells, tells-line, tells-due, tells-count, tells-then, tells-map, tells-made, tells-rows, stops-then, stops-last, stopped-all, one-none, text-append, fault-append, text-turns, fault-turns, text-rows, fault-rows, text-all, fault-all}
 
 -- ---- a line without fault has few digits
 initial-few : (n m : ℕ) → n ≤ 32 → initialFault n m ≡ 0 → Mask m
@@ -185,8 +185,4 @@ module _ (t : Tables) (p : Program) where
 
 pub sheets-stop-at-the-first : SheetsStopAtTheFirst
 unfolding SheetsStopAtTheFirst
-sheets-stop-at-the-first = record {
-  are-the-text = λ x. sheet-text (x .0) (x .1);
-  have-its-fault = λ x. sheet-number (x .0) (x .1);
-  stops = λ x. sheet-stops (x .0) (x .1);
-}
+sheets-stop-at-the-first = stopped-all aSheet sheetRows (λ x. sheet-text (x .0) (x .1)) (λ x. sheet-number (x .0) (x .1)) (λ x. sheet-stops (x .0) (x .1))

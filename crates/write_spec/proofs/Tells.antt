@@ -3,17 +3,20 @@
 use Prim.Native.Nat.{ℕ, zero, suc, _+_, _<_, _≤_}
 use mathlib.Core.List.{List, [], _∷_, _++_, append-assoc, append-nil}
 use mathlib.Core.Bool.{Bool, true}
+use mathlib.Core.Logic.{_≢_, by-cases}
 use mathlib.Core.Path.{_≡_, refl, sym, ap, ap₂, subst, _∙_}
 use native.Mathlib.Omega.{arith}
+use native.Mathlib.Decide.{ℕ-discrete}
 use native.Mathlib.Nat.{add-zero, zero-add}
+use borrow.Author.Tests.{eq-eqb, ne-eqb}
 use Rattle.item_spec.specs.Reader.{Reader}
 use Rattle.item_spec.specs.Write.{inTurn}
-use Rattle.read_spec.specs.Lines.{on, Lines, runOn, line, lineOf, each, handOn, atEnd}
+use Rattle.read_spec.specs.Lines.{on, stop, Lines, runOn, line, lineOf, each, handOn, atEnd}
 use Rattle.read_spec.specs.Kinds.{dueLine, countLine}
 use Rattle.rules_spec.specs.Refusal.{orNumber}
 use Rattle.write_spec.specs.Texts.{firstOf}
-use Rattle.write_spec.specs.Round.{Digits}
-use Rattle.write_spec.specs.Stops.{Row, textOf, faultOf, rowsFrom, Stopped, dueRow, countRow}
+use Rattle.write_spec.specs.Round.{Digits, Scribed}
+use Rattle.write_spec.specs.Stops.{Row, textOf, faultOf, rowsFrom, Stopped, fromFirst, HeadHeld, dueRow, countRow, StopsAtTheFirst}
 use Rattle.write_spec.proofs.Turns.{inTurnFrom, firstFrom, turn-from, first-from, or-zero, or-both, or-assoc, or-none, limit-met}
 use Rattle.write_spec.proofs.Says.{SaysLine}
 use Rattle.write_spec.proofs.Written.{says-due, says-count}
@@ -79,6 +82,27 @@ stopped-after m o b same (y ∷ ys) c h = (
   λ n d s. ap m (append-assoc b c (y .text ++ s)) ∙ same (c ++ (y .text ++ s)) ∙ h .0 n d s,
   λ z. subst (λ (l : List ℕ). Stopped m l ys) (sym (append-assoc b c (y .text))) (stopped-after m o b same ys (c ++ y .text) (h .1 z)),
 )
+
+-- the whole of such lines
+there : {A : Type 0} (m : Lines A) (xs : List Row) (c : List ℕ) → Stopped m c xs → faultOf xs ≢ 0 → HeadHeld (fromFirst xs) → m (c ++ textOf xs) ≡ stop (faultOf xs) (textOf (fromFirst xs))
+unfolding Stopped faultOf textOf fromFirst
+there m [] c h n d = absurd (n refl)
+there m (x ∷ xs) c h n d =
+    by-cases (ℕ-discrete (x .fault) 0)
+    (λ z. let q = eq-eqb (x .fault) 0 z in
+    let rest : m ((c ++ x .text) ++ textOf xs) ≡ stop (faultOf xs) (textOf (fromFirst xs)) = there m xs (c ++ x .text) (h .1 z) (λ e. n (or-zero (x .fault) (faultOf xs) z ∙ e)) (rw q at d) in
+    rw q (sym (ap m (append-assoc c (x .text) (textOf xs))) ∙ rest))
+    (λ z. let q = ne-eqb (x .fault) 0 z in rw q (h .0 z (rw q at d) (textOf xs)))
+
+-- a text of such lines
+pub stopped-all : {A : Type 0} (w : Scribed A) (rows : A → List Row) → ((a : A) → textOf (rows a) ≡ w .text a) → ((a : A) → faultOf (rows a) ≡ w .fault a)
+    → ((a : A) → Stopped (w .reads) [] (rows a)) → StopsAtTheFirst w rows
+stopped-all w rows texts faults stops = record {
+  are-the-text = texts;
+  have-its-fault = faults;
+  stops-there = λ a n d. ap (w .reads) (sym (texts a)) ∙ there (w .reads) (rows a) [] (stops a) (λ e. n (sym (faults a) ∙ e)) d ∙ ap (λ (i : ℕ). stop i (textOf (fromFirst (rows a)))) (faults a);
+  stops = stops;
+}
 
 -- what goes on where m does stops where m stops
 stopped-first : {A B : Type 0} (m : Lines A) (f : A → Lines B) (ys xs : List Row) (c : List ℕ) → Stopped m c xs

@@ -1,9 +1,10 @@
 -- "refused with the number the reader would give for that line": the reading of a text stops at its first faulty line, whatever stands further on.
 use Prim.Native.Nat.{ℕ, zero, suc, _*_}
-use mathlib.Core.Bool.{Bool}
+use mathlib.Core.Bool.{Bool, cond}
 use mathlib.Core.List.{List, [], _∷_, _++_}
 use mathlib.Core.Path.{_≡_}
 use mathlib.Core.Logic.{_≢_}
+use lib.Dec.{eqb}
 use Rattle.item_spec.specs.Reader.{bytes}
 use Rattle.model.specs.declared.Tables.{Tables}
 use Rattle.model.specs.declared.Instruction.{Instruction}
@@ -46,6 +47,15 @@ Stopped m before [] = Unit {0}
 Stopped m before (x ∷ xs) =
     (x .fault ≢ 0 → x .Held → (s : List ℕ) → m (before ++ (x .text ++ s)) ≡ stop (x .fault) (x .text ++ s))
     × (x .fault ≡ 0 → Stopped m (before ++ x .text) xs)
+
+-- the first faulty line and those after it
+unfoldable pub fromFirst : List Row → List Row
+fromFirst [] = []
+fromFirst (x ∷ xs) = cond (eqb (x .fault) 0) (fromFirst xs) (x ∷ xs)
+
+abbrev pub HeadHeld : List Row → Type 0
+HeadHeld [] = Unit {0}
+HeadHeld (x ∷ xs) = x .Held
 
 -- each kind of line
 abbrev pub dueRow : List ℕ → ℕ → Row
@@ -93,6 +103,9 @@ answerRows a = dueRow (bytes "answer=") 1 ∷ (countRow (bytes "steps=") stepsOk
 pub record StopsAtTheFirst {A : Type 0} (w : Scribed A) (rows : A → List Row) : Type 0 where
   pub are-the-text : (a : A) → textOf (rows a) ≡ w .text a
   pub have-its-fault : (a : A) → faultOf (rows a) ≡ w .fault a
+  -- its reading stops at the first faulty line, where that line's own numbers have five digits at most
+  pub stops-there : (a : A) → w .fault a ≢ 0 → HeadHeld (fromFirst (rows a)) → w .reads (w .text a) ≡ stop (w .fault a) (textOf (fromFirst (rows a)))
+  -- and so does that of any text that is the same up to that line
   pub stops : (a : A) → Stopped (w .reads) [] (rows a)
 
 unfoldable pub AnswersStopAtTheFirst : Type 0
