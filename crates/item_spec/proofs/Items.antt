@@ -9,7 +9,7 @@ use lib.Dec.{eqb}
 use lib.ListN.{length, length-append}
 use borrow.Author.Tests.{eq-eqb, ne-eqb}
 use Rattle.item_spec.specs.Reader.{Reply, got, refused, byte}
-use Rattle.item_spec.specs.Read.{key, upon, number}
+use Rattle.item_spec.specs.Read.{key, given, upon, number}
 use Rattle.item_spec.specs.Items.{itemThen, itemsIn, items}
 use Rattle.item_spec.specs.Write.{numberText, moreText, listText}
 use Rattle.item_spec.proofs.Laws.{text-digit}
@@ -51,7 +51,7 @@ unfolding items listText key
 items-round [] all s = refl
 items-round (v ∷ vs) (h, all) s =
     ap (items (number 5) (byte "\n")) (append-assoc (numberText v) (moreText vs) (byte "\n" ∷ s))
-    ∙ rw (no-dash v h (moreText vs ++ (byte "\n" ∷ s)), items, upon)
+    ∙ rw (no-dash v h (moreText vs ++ (byte "\n" ∷ s)), items, upon, given)
     (items-more (length (numberText v ++ (moreText vs ++ (byte "\n" ∷ s)))) v vs
     (omega (arith, more-length vs, length-append (numberText v) (moreText vs ++ (byte "\n" ∷ s)), length-append (moreText vs) (byte "\n" ∷ s))) h all s)
   where

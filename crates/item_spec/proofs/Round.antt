@@ -200,6 +200,13 @@ module _ (d : ℕ) (low : 1 ≤ d) (high : d ≤ 7) where
       let w = takes (number-takes-low d h) g (c ∷ s) in
       w .reads ∙ number-other d e (w .k) v c s z (rw (lt-leb (byte "0") c l))
 
+  -- another byte than the one that ends it
+  pub number-past : {e : ℕ} → Ends e → (c : ℕ) → c < byte "0" → eqb c e ≡ false → (v : ℕ) → v < 10 ^ d → (s : List ℕ) → number d e (numberText v ++ (c ∷ s)) ≡ refused 2
+  unfolding digit
+  number-past {e} h c l z v g s =
+      let w = takes (number-takes d h) g (c ∷ s) in
+      w .reads ∙ number-other d e (w .k) v c s z (rw (lt-leb 48 c l))
+
   more-round : {e : ℕ} → Ends e → (vs : List ℕ) (x : Set) (k v : ℕ) (s : List ℕ) → eqb k 0 ≡ false → x .top ≤ v → Ascends (10 ^ d) (suc v) vs →
       membersFrom d e (x .mask) (x .top) k v (moreText vs ++ (e ∷ s)) ≡ got (foldl added (added x v) vs) s
   unfolding moreText
@@ -237,6 +244,19 @@ module _ (d : ℕ) (low : 1 ≤ d) (high : d ≤ 7) where
   pub three-round : (a b c : ℕ) → a < 10 ^ d → b < 10 ^ d → c < 10 ^ d → (s : List ℕ) → threeForm d (threeText a b c ++ s) ≡ got (a, b, c) s
   unfolding threeForm threeText twoText oneText
   three-round a b c ha hb hc s = simp append-assoc (rw (number-round comma a ha, number-round comma b hb, number-round lf c hc))
+
+  -- numbers more or fewer than a shape has
+  pub one-of-two : (a b : ℕ) → a < 10 ^ d → (s : List ℕ) → oneForm d (twoText a b ++ s) ≡ refused 2
+  unfolding oneForm twoText
+  one-of-two a b ha s = simp append-assoc (number-past lf (byte ",") (omega arith) refl a ha _)
+
+  pub two-of-three : (a b c : ℕ) → a < 10 ^ d → b < 10 ^ d → (s : List ℕ) → twoForm d (threeText a b c ++ s) ≡ refused 2
+  unfolding twoForm threeText twoText
+  two-of-three a b c ha hb s = simp append-assoc (rw (number-round comma a ha, number-past lf (byte ",") (omega arith) refl b hb))
+
+  pub three-of-two : (a b : ℕ) → a < 10 ^ d → b < 10 ^ d → (s : List ℕ) → threeForm d (twoText a b ++ s) ≡ refused 2
+  unfolding threeForm twoText oneText
+  three-of-two a b ha hb s = simp append-assoc (rw (number-round comma a ha, number-past comma (byte "\n") (omega arith) refl b hb))
 
   pub four-round : (a b c e : ℕ) → a < 10 ^ d → b < 10 ^ d → c < 10 ^ d → e < 10 ^ d → (s : List ℕ) → fourForm d (fourText a b c e ++ s) ≡ got (a, b, c, e) s
   unfolding fourForm fourText threeText twoText oneText

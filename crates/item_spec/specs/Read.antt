@@ -13,9 +13,13 @@ key [] s = got tt s
 key (a ∷ k) [] = refused badForm
 key (a ∷ k) (b ∷ s) = elim (eqb b a) [ true ↦ key k s | false ↦ refused badForm ]
 
+-- what f reads after m, where m reads something, else the other
+abbrev pub given : {A B : Type 0} → Reader A → (A → Reader B) → Reader B → Reader B
+given m f other = λ s. elim (m s) [ got a r ↦ f a r | refused n ↦ other s ]
+
 -- m where the key k stands, else the other
 abbrev pub upon : {A : Type 0} → List ℕ → Reader A → Reader A → Reader A
-upon k m other = λ s. elim (key k s) [ got u r ↦ m r | refused n ↦ other s ]
+upon k m other = given (key k) (λ _. m) other
 
 -- "decimal, one to five digits, no leading zero": the digit c may follow k digits whose value is v, at most d in all
 unfoldable pub digit : ℕ → ℕ → ℕ → ℕ → Bool

@@ -148,7 +148,7 @@ done-rest c n = (refl, refl, refl)
 
 -- ---- the start: nothing anywhere
 
-all-alike : {A : Type 0} (n i : ℕ) (a : A) → getD (replicate n a) i a ≡ a
+pub all-alike : {A : Type 0} (n i : ℕ) (a : A) → getD (replicate n a) i a ≡ a
 all-alike zero i a = refl
 all-alike (suc n) zero a = refl
 all-alike (suc n) (suc i) a = all-alike n i a

@@ -5,6 +5,7 @@ use lib.ListN.{replicate}
 use Rattle.model.specs.declared.ComponentType.{ComponentType}
 use Rattle.model.specs.declared.Tables.{Tables}
 use Rattle.model.specs.declared.Instruction.{Instruction}
+use Rattle.model.specs.declared.Begun.{Begun}
 use Rattle.model.specs.declared.Program.{Program}
 use Rattle.model.specs.declared.Step.{Step}
 use Rattle.model.specs.declared.Answer.{Answer}
@@ -41,8 +42,11 @@ noTables = record {
   ports = record { uses = replicate 256 0; places = replicate 256 0; transitions = replicate 256 0 };
 }
 
+unfoldable pub noneBegun : Begun
+noneBegun = record { queue = replicate 256 0; last = replicate 32 0 }
+
 unfoldable pub noProgram : Program
-noProgram = record { instructions = replicate 256 noInstruction; count = 0 }
+noProgram = record { edition = 0; begun = noneBegun; instructions = replicate 256 noInstruction; count = 0 }
 
 unfoldable pub noAnswer : Answer
 noAnswer = record { steps = replicate 1024 noStep; count = 0 }

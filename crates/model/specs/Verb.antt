@@ -19,6 +19,13 @@ dconVerb = 4
 abbrev pub waitVerb : ℕ
 waitVerb = 5
 
+-- with a ticket
+abbrev pub pushTicketVerb : ℕ
+pushTicketVerb = 6
+
+abbrev pub waitTicketVerb : ℕ
+waitTicketVerb = 7
+
 abbrev pub nextVerb : ℕ
 nextVerb = 0
 

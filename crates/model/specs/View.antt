@@ -6,6 +6,8 @@ use lib.Dec.{eqb}
 use lib.ListN.{getD, set, take}
 use Rattle.model.specs.declared.ComponentType.{ComponentType}
 use Rattle.model.specs.declared.Tables.{Tables}
+use Rattle.model.specs.declared.Begun.{Begun}
+use Rattle.model.specs.declared.Program.{Program}
 use Rattle.model.specs.declared.Step.{Step}
 use Rattle.model.specs.declared.Answer.{Answer}
 use Rattle.model.specs.declared.Instance.{Instance}
@@ -52,6 +54,16 @@ slot c i r = getD (c .queue) (i * 8 + r) 0
 abbrev pub queueHead : Configuration → ℕ → ℕ
 queueHead c i = slot c i 0
 
+-- "`behavior:ticket`": what a slot holds is the behavior, with the stamp: 0 for a push without ticket, else one more than the ticket
+abbrev pub pairOf : ℕ → ℕ → ℕ
+pairOf b stamp = stamp * 8 + b
+
+abbrev pub behaviorIn : ℕ → ℕ
+behaviorIn s = s % 8
+
+abbrev pub stampIn : ℕ → ℕ
+stampIn s = s / 8
+
 -- the ports of all instances in one numbering, 16 for each; as a server a provide port is one more than its number
 abbrev pub portNumber : ℕ → ℕ → ℕ
 portNumber i q = i * 16 + q
@@ -96,3 +108,7 @@ withServers c x = record { instances = c .instances; queue = c .queue; servers =
 
 unfoldable pub withDone : Configuration → ℕ → Configuration
 withDone c n = record { instances = c .instances; queue = c .queue; servers = c .servers; done = n }
+
+-- the program, where a paper starts with these queues and these last tickets
+abbrev pub begunWith : Program → List ℕ → List ℕ → Program
+begunWith p q l = record { edition = p .edition; begun = record { queue = q; last = l }; instructions = p .instructions; count = p .count }

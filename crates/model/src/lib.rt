@@ -37,8 +37,9 @@ pub struct Tables {
     pub ports: Ports,
 }
 
-// 0 add,id,type; 1 del,id; 2 pushb,id,behavior; 3 con,user,useport,provider,provideport; 4 dcon, the same four; 5 wait,id.
-// `id` is the user of `con` and `dcon`, `number` the type, the behavior or the use port.
+// 0 add,id,type; 1 del,id; 2 pushb,id,behavior; 3 con,user,useport,provider,provideport; 4 dcon, the same four; 5 wait,id; 6 pushb,id,behavior,ticket;
+// 7 wait,id,ticket. `id` is the user of `con` and `dcon`, `number` the type, the behavior, the use port or the ticket of a `wait`, `provider` the
+// ticket of a push too.
 pub struct Instruction {
     pub verb: u8,
     pub id: u8,
@@ -47,7 +48,16 @@ pub struct Instruction {
     pub provideport: u8,
 }
 
+// What a paper starts with of tickets: the queue slots, and for each instance one more than the last ticket pushed to it, 0 for none.
+pub struct Begun {
+    pub queue: [u16; 256],
+    pub last: [u16; 32],
+}
+
+// `edition` is the number that the sheet opens with; `begun` is what had been pushed before the first instruction.
 pub struct Program {
+    pub edition: u8,
+    pub begun: Begun,
     pub instructions: [Instruction; 256],
     pub count: usize,
 }
@@ -81,11 +91,11 @@ pub struct Connection {
     pub provideport: u8,
 }
 
-// Eight queue slots for each instance, the head first; `done` is how many instructions are done. `servers` says who serves each use port,
-// 16 places for each instance: 0 for nobody, else one more than 16 times the provider and its provide port.
+// Eight queue slots for each instance, the head first: a behavior, and where the push had a ticket 8 times one more than it; `done` is how many instructions
+// are done. `servers` says who serves each use port, 16 places for each instance: 0 for nobody, else one more than 16 times the provider and its provide port.
 pub struct Configuration {
     pub instances: [Instance; 32],
-    pub queue: [u8; 256],
+    pub queue: [u16; 256],
     pub servers: [u16; 512],
     pub done: usize,
 }

@@ -14,16 +14,20 @@ use Rattle.item_spec.specs.Read.{Set, oneForm, twoForm}
 use Rattle.item_spec.proofs.Tests.{and-left, and-right}
 use Rattle.model.specs.declared.Instruction.{Instruction}
 use Rattle.model.specs.declared.Step.{Step}
-use Rattle.model.specs.Verb.{addVerb, delVerb, pushbVerb, conVerb, dconVerb, waitVerb, fireVerb, endVerb, enterVerb, finishVerb}
-use Rattle.read_spec.specs.Limits.{fiveDigits, listOk, maskOk, endOk, idOk, placeOk, portOk, transitionOk, behaviorOk, kindOk, typeOk, initialOk, endsOk, useOk}
-use Rattle.read_spec.specs.Kinds.{dueLine, countLineIn, countLine, initialLine, tranLine, behaviorLine, group, portLine, anInstruction, doId, doNumber, doEnds, doLine, aStep, stepId, stepNumber, stepLine}
+use Rattle.model.specs.Verb.{addVerb, delVerb, pushbVerb, conVerb, dconVerb, waitVerb, pushTicketVerb, waitTicketVerb, fireVerb, endVerb, enterVerb, finishVerb}
+use Rattle.read_spec.specs.Limits.{fiveDigits, listOk, maskOk, endOk, idOk, placeOk, portOk, transitionOk, behaviorOk, ticketOk, hasTickets, editionOk, kindOk, typeOk, initialOk, endsOk, useOk}
+use Rattle.read_spec.specs.Kinds.{editionLine, dueLine, countLineIn, countLine, initialLine, tranLine, behaviorLine, group, portLine, anInstruction, doId, doNumber, doEnds, doTicketed, doWait, doPushIn, doWaitIn, doLine, aStep, stepId, stepNumber, stepLine}
 use Rattle.read_spec.specs.Lawful.{instructionLawful, stepLawful}
-use Rattle.read_spec.proofs.Rests.{form-fault, limit-fault, clause-fault, Reads, Any, told-known, reads-then, reads-give, reads-check, reads-key, reads-on, reads-none}
-use Rattle.read_spec.proofs.Shapes.{Masked, reads-one, reads-two, reads-four, reads-set, reads-sets}
+use Rattle.read_spec.proofs.Rests.{form-fault, limit-fault, clause-fault, Reads, Any, told-known, told-if, reads-then, reads-given, reads-give, reads-check, reads-key, reads-on, reads-none}
+use Rattle.read_spec.proofs.Shapes.{Masked, reads-one, reads-two, reads-three, reads-four, reads-set, reads-sets}
 
 pub reads-due : (k : List ℕ) (n : ℕ) → Reads Any (dueLine k n)
 unfolding dueLine
 reads-due k n = reads-then (reads-key k) (λ _ _. reads-then (reads-one fiveDigits) (λ a _. λ s. told-known (reads-check (eqb a n) form-fault s) (λ _ _ _. tt)))
+
+pub reads-edition : Reads (λ e. editionOk e ≡ true) editionLine
+unfolding editionLine
+reads-edition = reads-then (reads-key (bytes "sheet=")) (λ _ _. reads-then (reads-one fiveDigits) (λ a _. reads-then (reads-check (editionOk a) form-fault) (λ _ e. reads-give e)))
 
 pub reads-count-in : (d : ℕ) (k : List ℕ) (limit : ℕ → Bool) → Reads (λ a. limit a ≡ true) (countLineIn d k limit)
 unfolding countLineIn
@@ -109,16 +113,33 @@ reads-ends P v h =
     reads-then (reads-four fiveDigits) (λ y _.
     reads-then (reads-check (idOk (y .0) && (portOk (y .1) && (idOk (y .2) && portOk (y .3)))) limit-fault) (λ _ e. reads-give (h (y .0) (y .1) (y .2) (y .3) e)))
 
-pub reads-do : (n : ℕ) → Reads (λ x. instructionLawful n x ≡ true) (doLine n)
+reads-push : (e n : ℕ) → Reads (λ x. instructionLawful e n x ≡ true) (doPushIn e)
+unfolding doNumber doTicketed instructionLawful
+reads-push e n s =
+    told-if (hasTickets e)
+    (λ q. reads-then (reads-three fiveDigits) (λ y _.
+    reads-then (reads-check (idOk (y .0) && (behaviorOk (y .1) && ticketOk (y .2))) limit-fault) (λ _ h. reads-give (rw q h))) s)
+    (λ q. reads-id-number (λ x. instructionLawful e n x ≡ true) (λ a b. anInstruction pushbVerb a b 0 0) behaviorOk (λ a b h. rw q h) s)
+
+reads-wait : (e n : ℕ) → Reads (λ x. instructionLawful e n x ≡ true) (doWaitIn e)
+unfolding doNumber doId doWait instructionLawful
+reads-wait e n s =
+    let P : Instruction → Type 0 = λ x. instructionLawful e n x ≡ true in
+    told-if (hasTickets e)
+    (λ q. reads-given (reads-one fiveDigits) (λ a. reads-then (reads-check (idOk a) limit-fault) (λ _ h. reads-give (ap₂ _&&_ h refl)))
+    (reads-id-number P (λ a b. anInstruction waitTicketVerb a b 0 0) ticketOk (λ a b h. rw q h)) s)
+    (λ q. reads-id P (λ a. anInstruction waitVerb a 0 0 0) (λ a h. h) s)
+
+pub reads-do : (e n : ℕ) → Reads (λ x. instructionLawful e n x ≡ true) (doLine e n)
 unfolding doLine doNumber doId instructionLawful
-reads-do n =
-    let P : Instruction → Type 0 = λ x. instructionLawful n x ≡ true in
+reads-do e n =
+    let P : Instruction → Type 0 = λ x. instructionLawful e n x ≡ true in
     reads-on (bytes "do=add,") (reads-id-number P (λ a b. anInstruction addVerb a b 0 0) (typeOk n) (λ a b e. e))
     (reads-on (bytes "do=del,") (reads-id P (λ a. anInstruction delVerb a 0 0 0) (λ a e. e))
-    (reads-on (bytes "do=pushb,") (reads-id-number P (λ a b. anInstruction pushbVerb a b 0 0) behaviorOk (λ a b e. e))
+    (reads-on (bytes "do=pushb,") (reads-push e n)
     (reads-on (bytes "do=con,") (reads-ends P conVerb (λ a b c d e. e))
     (reads-on (bytes "do=dcon,") (reads-ends P dconVerb (λ a b c d e. e))
-    (reads-on (bytes "do=wait,") (reads-id P (λ a. anInstruction waitVerb a 0 0 0) (λ a e. e))
+    (reads-on (bytes "do=wait,") (reads-wait e n)
     reads-none)))))
 
 pub reads-step : Reads (λ x. stepLawful x ≡ true) stepLine

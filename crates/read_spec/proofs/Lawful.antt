@@ -16,16 +16,16 @@ use Rattle.model.specs.declared.Transitions.{Transitions}
 use Rattle.model.specs.declared.Ports.{Ports}
 use Rattle.model.specs.declared.Tables.{Tables}
 use Rattle.model.specs.declared.Program.{Program}
-use Rattle.model.specs.Empty.{noTables, noProgram, noAnswer}
+use Rattle.model.specs.Empty.{noneBegun, noTables, noProgram, noAnswer}
 use Rattle.model.specs.View.{typeOf}
-use Rattle.read_spec.specs.Limits.{depthOk, typesOk, placesOk, transitionsOk, behaviorsOk, portsOk, programOk, stepsOk}
-use Rattle.read_spec.specs.Lines.{stop}
+use Rattle.read_spec.specs.Limits.{depthOk, typesOk, placesOk, transitionsOk, behaviorsOk, portsOk, programOk, stepsOk, editionOk}
+use Rattle.read_spec.specs.Lines.{on, stop}
 use Rattle.read_spec.specs.Fill.{headed, withType, programOf, answerOf}
 use Rattle.read_spec.specs.Kinds.{tranLine, behaviorLine, portLine, doLine, stepLine}
 use Rattle.read_spec.specs.Texts.{tranAt, behaviorAt, portAt, typeLines, instructionAt, sheet, stepAt, answer}
 use Rattle.read_spec.specs.Lawful.{transitionLawful, behaviorLawful, portLawful, typeLawful, tablesLawful, programLawful, answerLawful, Lawful, SheetsAreLawful, AnswersAreLawful}
 use Rattle.read_spec.proofs.Rests.{Runs, runs-then, runs-give, runs-line, runs-each, runs-end, StopsAt, run-stops, run-gives}
-use Rattle.read_spec.proofs.Kept.{InitialLawful, SetLawful, EndsLawful, PortLawful, reads-due, reads-count, reads-initial, reads-tran, reads-behavior, reads-port, reads-do, reads-step}
+use Rattle.read_spec.proofs.Kept.{InitialLawful, SetLawful, EndsLawful, PortLawful, reads-due, reads-count, reads-edition, reads-initial, reads-tran, reads-behavior, reads-port, reads-do, reads-step}
 use Rattle.read_spec.proofs.Slots.{Filled, filled-none, filled-more, runs-fill, typeSlots, types-sound, behaviorSlots, behaviors-sound, transitionSlots, transitions-sound, portSlots, ports-sound, instructionSlots, instructions-sound, stepSlots, steps-sound, Rows, rows-none, rows-more}
 
 -- the numbers of a type, its rows aside
@@ -120,20 +120,24 @@ type-lawful d n i t w q l =
     (ap₂ _&&_ (c .ports) (all-of _ _ (λ x. w .ports .each q x l)))))))))
 
 -- ---- the two texts
-pub runs-sheet : Runs (λ (x : Tables × Program). Lawful (x .0) (x .1)) sheet
+pub runs-sheet : Runs (λ (x : Tables × Program). Lawful (x .0) (x .1) × (x .1 .begun ≡ noneBegun)) sheet
 unfolding sheet instructionAt programOf noProgram Lawful tablesLawful programLawful
 runs-sheet =
-    runs-then (runs-line (reads-due (bytes "sheet=") 1)) (λ _ _.
+    runs-then (runs-line reads-edition) (λ e ce.
     runs-then (runs-line (reads-count (bytes "depth=") depthOk)) (λ d cd.
     runs-then (runs-line (reads-count (bytes "types=") typesOk)) (λ n cn.
     let ln = sixteen-le n cn in
     runs-then (runs-each typeLines (Typed d n) n (λ i t l w. runs-type d n i t (omega arith) w) n 0 (headed d n) (omega arith) (typed-none d n)) (λ t w.
     runs-then (runs-line (reads-count (bytes "program=") programOk)) (λ k ck.
     let lk = leb-true k 256 ck in
-    runs-then (runs-fill (instructionSlots k) (instructions-sound k) _ (doLine n) (reads-do n) k 0 (programOf k) (omega arith) (refl, refl)) (λ p fp.
+    runs-then (runs-fill (instructionSlots e k) (instructions-sound e k) _ (doLine e n) (reads-do e n) k 0 (programOf e k) (omega arith) (refl, (refl, refl, refl))) (λ p fp.
     runs-then runs-end (λ _ _. runs-give (
-      ap₂ _&&_ (ap depthOk (w .depth) ∙ cd) (lines-lawful typesOk (typeLawful t) (t .count) n (w .count) cn (type-lawful d n n t w)),
-      lines-lawful programOk _ (p .count) k (fp .sized .1) ck (λ j l. rw (w .count) (fp .rows j (omega arith) (omega arith))),
+      (
+        ap₂ _&&_ (ap depthOk (w .depth) ∙ cd) (lines-lawful typesOk (typeLawful t) (t .count) n (w .count) cn (type-lawful d n n t w)),
+        ap₂ _&&_ (ap programOk (fp .sized .1 .1) ∙ ck) (lines-lawful (λ _. editionOk (p .edition)) _ (p .count) k (fp .sized .1 .1) (ap editionOk (fp .sized .1 .0) ∙ ce)
+            (λ j l. rw (w .count, fp .sized .1 .0) (fp .rows j (omega arith) (omega arith)))),
+      ),
+      fp .sized .1 .2,
     ))))))))
 
 pub runs-answer : Runs (λ a. answerLawful a ≡ true) answer
@@ -147,7 +151,11 @@ runs-answer =
 
 pub sheets-are-lawful : SheetsAreLawful
 unfolding SheetsAreLawful
-sheets-are-lawful s r t p e = run-gives runs-sheet s (t, p) r e
+sheets-are-lawful s r t p e = run-gives runs-sheet s (t, p) r e .0
+
+-- a sheet alone has nothing pushed before its first instruction
+pub sheet-begun : (s r : List ℕ) (t : Tables) (p : Program) → sheet s ≡ on (t, p) r → p .begun ≡ noneBegun
+sheet-begun s r t p e = run-gives runs-sheet s (t, p) r e .1
 
 pub answers-are-lawful : AnswersAreLawful
 unfolding AnswersAreLawful

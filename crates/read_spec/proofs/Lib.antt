@@ -5,3 +5,4 @@ pub mod Shapes
 pub mod Kept
 pub mod Slots
 pub mod Lawful
+pub mod Plain

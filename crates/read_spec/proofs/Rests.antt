@@ -10,7 +10,7 @@ use lib.Dec.{eqb}
 use lib.ListN.{length, drop, length-append}
 use lib.Seq.{drop-at}
 use Rattle.item_spec.specs.Reader.{Reply, got, refused, Reader, readOn, give, check, noLine}
-use Rattle.item_spec.specs.Read.{key, upon}
+use Rattle.item_spec.specs.Read.{key, given, upon}
 use Rattle.read_spec.specs.Lines.{Run, on, stop, Lines, runOn, line, lineOf, each, atEnd}
 use Rattle.read_spec.specs.Lines.{handOn}
 
@@ -103,14 +103,17 @@ reads-key [] s = gives here tt
 reads-key (a ∷ k) [] = bad-form
 reads-key (a ∷ k) (b ∷ s) = told-if (eqb b a) (λ _. told-from past (reads-key k s)) (λ _. bad-form)
 
--- one of two readers, by the key that stands there
-told-on : {A : Type 0} {P : A → Type 0} {m other : Reader A} {s : List ℕ} {x : Reply (Unit {0})} → Told Any s x → Reads P m → Reads P other →
-    Told P s (elim x [ got u r ↦ m r | refused n ↦ other s ])
-told-on (gives {r = r} h p) f g = told-from h (f r)
-told-on {s = s} (refuses u) f g = g s
+-- one of two readers, by what is read there
+told-given : {A B : Type 0} {P : B → Type 0} {f : A → Reader B} {other : Reader B} {s : List ℕ} {x : Reply A} → Told Any s x → ((a : A) → Reads P (f a)) → Reads P other →
+    Told P s (elim x [ got a r ↦ f a r | refused n ↦ other s ])
+told-given (gives {a} {r} h p) f g = told-from h (f a r)
+told-given {s = s} (refuses u) f g = g s
+
+pub reads-given : {A B : Type 0} {P : B → Type 0} {m : Reader A} {f : A → Reader B} {other : Reader B} → Reads Any m → ((a : A) → Reads P (f a)) → Reads P other → Reads P (given m f other)
+reads-given h f g s = told-given (h s) f g
 
 pub reads-on : {A : Type 0} {P : A → Type 0} {m other : Reader A} (k : List ℕ) → Reads P m → Reads P other → Reads P (upon k m other)
-reads-on k f g s = told-on (reads-key k s) f g
+reads-on k f g = reads-given (reads-key k) (λ _. f) g
 
 pub reads-none : {A : Type 0} {P : A → Type 0} → Reads P (noLine {A = A})
 reads-none s = bad-form

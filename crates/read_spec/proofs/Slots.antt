@@ -18,7 +18,7 @@ use Rattle.model.specs.declared.Instruction.{Instruction}
 use Rattle.model.specs.declared.Program.{Program}
 use Rattle.model.specs.declared.Step.{Step}
 use Rattle.model.specs.declared.Answer.{Answer}
-use Rattle.model.specs.Empty.{noType, noInstruction, noStep}
+use Rattle.model.specs.Empty.{noType, noneBegun, noInstruction, noStep}
 use Rattle.read_spec.specs.Lines.{runOn, line, each, handOn}
 use Rattle.read_spec.specs.Fill.{withTransition, withPort, withInstruction, withStep}
 use Rattle.read_spec.proofs.Rests.{Reads, Runs, runs-then, runs-give, runs-line, runs-each}
@@ -101,12 +101,12 @@ pub behaviors-sound : Sound behaviorSlots
 behaviors-sound = list-sound 128 0
 
 -- of a program and of an answer of n lines
-abbrev pub instructionSlots : ℕ → Slots Program Instruction
-instructionSlots n = column 256 noInstruction (λ p. p .instructions) withInstruction (λ p. p .count ≡ n)
+abbrev pub instructionSlots : ℕ → ℕ → Slots Program Instruction
+instructionSlots e n = column 256 noInstruction (λ p. p .instructions) withInstruction (λ p. (p .edition ≡ e) × (p .count ≡ n) × (p .begun ≡ noneBegun))
 
-pub instructions-sound : (n : ℕ) → Sound (instructionSlots n)
+pub instructions-sound : (e n : ℕ) → Sound (instructionSlots e n)
 unfolding withInstruction
-instructions-sound n = column-sound _ noInstruction (λ p. p .instructions) withInstruction _ (λ _ _ _. refl) (λ _ _ _ z. z)
+instructions-sound e n = column-sound _ noInstruction (λ p. p .instructions) withInstruction _ (λ _ _ _. refl) (λ _ _ _ z. z)
 
 abbrev pub stepSlots : ℕ → Slots Answer Step
 stepSlots n = column 1024 noStep (λ a. a .steps) withStep (λ a. a .count ≡ n)

@@ -10,7 +10,7 @@ use Rattle.model.specs.declared.Instruction.{Instruction}
 use Rattle.model.specs.declared.Program.{Program}
 use Rattle.model.specs.declared.Step.{Step}
 use Rattle.model.specs.declared.Answer.{Answer}
-use Rattle.model.specs.Empty.{noTables, noProgram, noAnswer}
+use Rattle.model.specs.Empty.{noTables, noneBegun, noProgram, noAnswer}
 
 -- a sheet of the depth d, as written, and of n types
 unfoldable pub headed : ℕ → ℕ → Tables
@@ -34,12 +34,12 @@ withTransition xs j a b = record { source = set (xs .source) j a; destination = 
 unfoldable pub withPort : Ports → ℕ → ℕ → ℕ → ℕ → Ports
 withPort qs j u a b = record { uses = set (qs .uses) j u; places = set (qs .places) j a; transitions = set (qs .transitions) j b }
 
--- a program of n instructions, none written down yet, and instruction j; the same for an answer
-unfoldable pub programOf : ℕ → Program
-programOf n = record { instructions = noProgram .instructions; count = n }
+-- a program of n instructions in a sheet that opens with e, none written down yet, and instruction j; the same for an answer
+unfoldable pub programOf : ℕ → ℕ → Program
+programOf e n = record { edition = e; begun = noneBegun; instructions = noProgram .instructions; count = n }
 
 unfoldable pub withInstruction : Program → ℕ → Instruction → Program
-withInstruction p j x = record { instructions = set (p .instructions) j x; count = p .count }
+withInstruction p j x = record { edition = p .edition; begun = p .begun; instructions = set (p .instructions) j x; count = p .count }
 
 unfoldable pub answerOf : ℕ → Answer
 answerOf n = record { steps = noAnswer .steps; count = n }

@@ -1,22 +1,30 @@
 -- Every kind of line of the two texts. In one line 2 comes before 3 before 4: the form whole, then the limits, then the clauses of 4.
 use Prim.Native.Nat.{ℕ}
 use mathlib.Core.List.{List}
-use mathlib.Core.Bool.{Bool, _&&_}
+use mathlib.Core.Bool.{Bool, true, false, _&&_}
 use lib.Dec.{eqb}
 use Rattle.item_spec.specs.Refusal.{badForm, beyondLimit, badClause}
 use Rattle.item_spec.specs.Reader.{Reader, bytes, _or_, noLine, _>>=_, _>>_, give, check}
-use Rattle.item_spec.specs.Read.{key, upon, oneForm, twoForm, fourForm, listForm, listsForm}
+use Rattle.item_spec.specs.Read.{key, given, upon, oneForm, twoForm, threeForm, fourForm, listForm, listsForm}
 use Rattle.model.specs.declared.Instruction.{Instruction}
 use Rattle.model.specs.declared.Step.{Step}
-use Rattle.model.specs.Verb.{addVerb, delVerb, pushbVerb, conVerb, dconVerb, waitVerb, nextVerb, fireVerb, endVerb, enterVerb, finishVerb}
-use Rattle.read_spec.specs.Limits.{fiveDigits, listOk, endOk, idOk, placeOk, portOk, transitionOk, behaviorOk, typeOk, initialOk, endsOk, useOk}
+use Rattle.model.specs.Verb.{addVerb, delVerb, pushbVerb, conVerb, dconVerb, waitVerb, pushTicketVerb, waitTicketVerb, nextVerb, fireVerb, endVerb, enterVerb, finishVerb}
+use Rattle.read_spec.specs.Limits.{fiveDigits, listOk, endOk, idOk, placeOk, portOk, transitionOk, behaviorOk, ticketOk, hasTickets, editionOk, typeOk, initialOk, endsOk, useOk}
 
--- key=number, where the number is the one due: `sheet=1`, `answer=1`, `type=`; another number is a form fault
+-- key=number, where the number is the one due: `answer=1`, `type=`; another number is a form fault
 unfoldable pub dueLine : List ℕ → ℕ → Reader (Unit {0})
 dueLine k n = do
   key k
   a ← oneForm fiveDigits
   check (eqb a n) badForm
+
+-- "sheets that open with `sheet=2`", and `sheet=1`; another number is a form fault
+unfoldable pub editionLine : Reader ℕ
+editionLine = do
+  key (bytes "sheet=")
+  a ← oneForm fiveDigits
+  check (editionOk a) badForm
+  give a
 
 -- key=number with its limit, of at most d digits
 unfoldable pub countLineIn : ℕ → List ℕ → (ℕ → Bool) → Reader ℕ
@@ -102,15 +110,37 @@ doEnds v = do
   check (idOk a && (portOk b && (idOk c && portOk d))) beyondLimit
   give (anInstruction v a b c d)
 
--- `do=`, in a sheet of n types
-unfoldable pub doLine : ℕ → Reader Instruction
-doLine n =
+-- `pushb,id,behavior,ticket`
+unfoldable pub doTicketed : Reader Instruction
+doTicketed = do
+  (a, b, c) ← threeForm fiveDigits
+  check (idOk a && (behaviorOk b && ticketOk c)) beyondLimit
+  give (anInstruction pushTicketVerb a b c 0)
+
+-- `wait,id` or `wait,id,ticket`
+unfoldable pub doWait : Reader Instruction
+doWait =
+    given (oneForm fiveDigits) (λ a. do
+      check (idOk a) beyondLimit
+      give (anInstruction waitVerb a 0 0 0))
+    (doNumber waitTicketVerb ticketOk)
+
+-- "there every push has a ticket, and a wait may have one": what follows `pushb,` and `wait,` in a sheet that opens with e
+abbrev pub doPushIn : ℕ → Reader Instruction
+doPushIn e = λ s. elim (hasTickets e) [ true ↦ doTicketed s | false ↦ doNumber pushbVerb behaviorOk s ]
+
+abbrev pub doWaitIn : ℕ → Reader Instruction
+doWaitIn e = λ s. elim (hasTickets e) [ true ↦ doWait s | false ↦ doId waitVerb s ]
+
+-- `do=`, in a sheet of n types that opens with e
+unfoldable pub doLine : ℕ → ℕ → Reader Instruction
+doLine e n =
     upon (bytes "do=add,") (doNumber addVerb (typeOk n))
     or upon (bytes "do=del,") (doId delVerb)
-    or upon (bytes "do=pushb,") (doNumber pushbVerb behaviorOk)
+    or upon (bytes "do=pushb,") (doPushIn e)
     or upon (bytes "do=con,") (doEnds conVerb)
     or upon (bytes "do=dcon,") (doEnds dconVerb)
-    or upon (bytes "do=wait,") (doId waitVerb)
+    or upon (bytes "do=wait,") (doWaitIn e)
     or noLine
 
 abbrev pub aStep : ℕ → ℕ → ℕ → Step

@@ -15,8 +15,8 @@ use Rattle.model.specs.declared.Step.{Step}
 use Rattle.model.specs.declared.Answer.{Answer}
 use Rattle.model.specs.Empty.{noInstruction, noStep}
 use Rattle.model.specs.View.{typeOf, source, destination, behaviorOf, portKind, groupPlaces, groupTransitions}
-use Rattle.model.specs.Verb.{addVerb, delVerb, pushbVerb, conVerb, dconVerb, waitVerb, nextVerb, fireVerb, endVerb, enterVerb, finishVerb}
-use Rattle.read_spec.specs.Limits.{depthOk, typesOk, placesOk, transitionsOk, behaviorsOk, portsOk, programOk, stepsOk, kindOk, maskOk, endOk, idOk, placeOk, portOk, transitionOk, behaviorOk, typeOk, initialOk, endsOk, useOk}
+use Rattle.model.specs.Verb.{addVerb, delVerb, pushbVerb, conVerb, dconVerb, waitVerb, pushTicketVerb, waitTicketVerb, nextVerb, fireVerb, endVerb, enterVerb, finishVerb}
+use Rattle.read_spec.specs.Limits.{depthOk, typesOk, placesOk, transitionsOk, behaviorsOk, portsOk, programOk, stepsOk, kindOk, maskOk, endOk, idOk, placeOk, portOk, transitionOk, behaviorOk, ticketOk, hasTickets, editionOk, typeOk, initialOk, endsOk, useOk}
 use Rattle.read_spec.specs.Lines.{on}
 use Rattle.read_spec.specs.Texts.{sheet, answer}
 
@@ -53,19 +53,22 @@ typeLawful t i =
 unfoldable pub tablesLawful : Tables → Bool
 tablesLawful t = depthOk (t .depth) && (typesOk (t .count) && allBelow (t .count) (typeLawful t))
 
--- what an instruction's verb asks of its other numbers, in a sheet of n types
-abbrev pub verbLawful : ℕ → Instruction → Bool
-verbLawful n x =
+-- what an instruction's verb asks of its other numbers, in a sheet of n types that opens with e
+abbrev pub verbLawful : ℕ → ℕ → Instruction → Bool
+verbLawful e n x =
     cond (eqb (x .verb) addVerb) (typeOk n (x .number))
-    (cond (eqb (x .verb) pushbVerb) (behaviorOk (x .number))
+    (cond (eqb (x .verb) pushbVerb) (not (hasTickets e) && behaviorOk (x .number))
     (cond (eqb (x .verb) conVerb || eqb (x .verb) dconVerb) (portOk (x .number) && (idOk (x .provider) && portOk (x .provideport)))
-    (eqb (x .verb) delVerb || eqb (x .verb) waitVerb)))
+    (cond (eqb (x .verb) pushTicketVerb) (hasTickets e && (behaviorOk (x .number) && ticketOk (x .provider)))
+    (cond (eqb (x .verb) waitTicketVerb) (hasTickets e && ticketOk (x .number))
+    (eqb (x .verb) delVerb || eqb (x .verb) waitVerb)))))
 
-unfoldable pub instructionLawful : ℕ → Instruction → Bool
-instructionLawful n x = idOk (x .id) && verbLawful n x
+unfoldable pub instructionLawful : ℕ → ℕ → Instruction → Bool
+instructionLawful e n x = idOk (x .id) && verbLawful e n x
 
 unfoldable pub programLawful : ℕ → Program → Bool
-programLawful n p = programOk (p .count) && allBelow (p .count) (λ j. instructionLawful n (getD (p .instructions) j noInstruction))
+programLawful n p =
+    programOk (p .count) && (editionOk (p .edition) && allBelow (p .count) (λ j. instructionLawful (p .edition) n (getD (p .instructions) j noInstruction)))
 
 unfoldable pub stepLawful : Step → Bool
 stepLawful s =

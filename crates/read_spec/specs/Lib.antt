@@ -7,3 +7,4 @@ pub mod Fill
 pub mod Texts
 pub mod Place
 pub mod Lawful
+pub mod Plain

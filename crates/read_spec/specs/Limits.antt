@@ -1,6 +1,6 @@
 -- Every limit of 01 (number 3) and every clause of number 4, each named once: the readers and the hall's number 7 cite them.
 use Prim.Native.Nat.{ℕ, _^_}
-use mathlib.Core.Bool.{Bool, _&&_, not}
+use mathlib.Core.Bool.{Bool, _&&_, _||_, not}
 use lib.Dec.{ltb, leb, eqb}
 use Rattle.sets.specs.Mask.{overlaps}
 
@@ -67,6 +67,16 @@ transitionOk x = leb x 31
 
 abbrev pub behaviorOk : ℕ → Bool
 behaviorOk b = leb b 7
+
+-- "tickets 0 to 255, in sheets that open with `sheet=2`"
+abbrev pub ticketOk : ℕ → Bool
+ticketOk x = leb x 255
+
+abbrev pub hasTickets : ℕ → Bool
+hasTickets edition = eqb edition 2
+
+abbrev pub editionOk : ℕ → Bool
+editionOk edition = eqb edition 1 || hasTickets edition
 
 abbrev pub typeOk : ℕ → ℕ → Bool
 typeOk n k = ltb k n

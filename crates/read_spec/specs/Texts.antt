@@ -10,7 +10,7 @@ use Rattle.model.specs.declared.Program.{Program}
 use Rattle.model.specs.declared.Answer.{Answer}
 use Rattle.read_spec.specs.Limits.{depthOk, typesOk, placesOk, transitionsOk, behaviorsOk, portsOk, programOk, stepsOk}
 use Rattle.read_spec.specs.Lines.{Lines, _>>=_, _>>_, handOn, line, each, atEnd}
-use Rattle.read_spec.specs.Kinds.{dueLine, countLine, initialLine, tranLine, behaviorLine, portLine, doLine, stepLine}
+use Rattle.read_spec.specs.Kinds.{editionLine, dueLine, countLine, initialLine, tranLine, behaviorLine, portLine, doLine, stepLine}
 use Rattle.read_spec.specs.Fill.{headed, withType, withTransition, withPort, programOf, withInstruction, answerOf, withStep}
 
 -- transition j, in a type of n places; behavior j, in a type of k transitions; port j, in a type with the initial places m
@@ -43,20 +43,20 @@ typeLines i t = do
   qs ← each (portAt n k m) p (i * 16) (t .ports)
   handOn (withType t i (record { places = n; initial = m; transitions = k; behaviors = b; ports = p }) xs bs qs)
 
--- instruction j, in a sheet of n types
-unfoldable pub instructionAt : ℕ → ℕ → Program → Lines Program
-instructionAt n j p = do
-  x ← line (doLine n)
+-- instruction j, in a sheet of n types that opens with e
+unfoldable pub instructionAt : ℕ → ℕ → ℕ → Program → Lines Program
+instructionAt e n j p = do
+  x ← line (doLine e n)
   handOn (withInstruction p j x)
 
 unfoldable pub sheet : Lines (Tables × Program)
 sheet = do
-  line (dueLine (bytes "sheet=") 1)
+  e ← line editionLine
   d ← line (countLine (bytes "depth=") depthOk)
   n ← line (countLine (bytes "types=") typesOk)
   t ← each typeLines n 0 (headed d n)
   k ← line (countLine (bytes "program=") programOk)
-  p ← each (instructionAt n) k 0 (programOf k)
+  p ← each (instructionAt e n) k 0 (programOf e k)
   atEnd
   handOn (t, p)
 
