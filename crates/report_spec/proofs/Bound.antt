@@ -20,9 +20,10 @@ use Rattle.model.specs.declared.Concerned.{Concerned}
 use Rattle.model.specs.declared.Concerned.the-variants.{NoPort, UsePort}
 use Rattle.model.specs.declared.Walked.{Walked}
 use Rattle.model.specs.View.{typeOf, instance, isServed, connection, slot, queueOf}
+use Rattle.read_spec.specs.Limits.{hasTickets}
 use Rattle.read_spec.specs.Lawful.{Lawful}
 use Rattle.rules_spec.specs.Standing.{standing}
-use Rattle.rules_spec.specs.Proper.{Joins, Proper}
+use Rattle.rules_spec.specs.Proper.{slotLimit, Joins, Proper}
 use Rattle.rules_spec.proofs.Allowed.{present-in}
 use Rattle.rules_spec.proofs.Connections.{count-is}
 use Rattle.rules_spec.proofs.Tables.{Facts, facts}
@@ -42,9 +43,13 @@ unfolding portText
 port-le NoPort h = lit≤ tt
 port-le (UsePort q) h = count-le (bytes "port=") 1 q (omega (arith, h q refl))
 
+limit-le : (p : Program) → slotLimit p ≤ 2056
+unfolding slotLimit
+limit-le p = by-test (hasTickets (p .edition)) (λ e. rw e (omega arith)) (λ e. rw e (omega arith))
+
 module _ (default : ℕ) (t : Tables) (p : Program) (c : Configuration) (f : Facts default t p) (w : Proper default t p c) where
   -- ---- instances
-  instance-le : (i : ℕ) → i < 32 → instance c i .present ≡ true → length (instanceText i (instance c i) (queueOf c i)) ≤ 163
+  instance-le : (i : ℕ) → i < 32 → instance c i .present ≡ true → length (instanceText i (instance c i) (queueOf c i)) ≤ 195
   unfolding instanceText queueOf
   instance-le i h e =
       let v = w .each i e in
@@ -54,14 +59,14 @@ module _ (default : ℕ) (t : Tables) (p : Program) (c : Configuration) (f : Fac
         number-le 1 (instance c i .kind) (omega (arith, v .kind, f .count)),
         places-le (instance c i .marked) (λ x l. omega (arith, v .marked x l, f .types (instance c i .kind) (v .kind) .places)),
         apart-le (instance c i .running) (instance c i .ended) (v .disjoint),
-        queue-le (instance c i .queued) (slot c i) (λ r l. omega (arith, v .queue r l, f .types (instance c i .kind) (v .kind) .behaviors)),
+        queue-le (instance c i .queued) (slot c i) (λ r l. omega (arith, v .tickets r l, limit-le p)),
         v .short,
         f .depth,
       ))
 
-  instances-le : length (instancesText c) ≤ 5216
+  instances-le : length (instancesText c) ≤ 6240
   unfolding instancesText instanceAt
-  instances-le = turns-le (instanceAt c) 163 32 (λ i h. by-test (instance c i .present) (λ e. rw e (instance-le i h e)) (λ e. rw e (omega arith)))
+  instances-le = turns-le (instanceAt c) 195 32 (λ i h. by-test (instance c i .present) (λ e. rw e (instance-le i h e)) (λ e. rw e (omega arith)))
 
   -- ---- connections
   -- the two numbers that name one end
@@ -87,10 +92,10 @@ module _ (default : ℕ) (t : Tables) (p : Program) (c : Configuration) (f : Fac
       (λ e. rw e (simp length-append (omega (arith, connections-le n (omega arith)))))
 
 -- ---- the whole
-pub report-le : (default : ℕ) (t : Tables) (p : Program) (w : Walked)
-    → default ≤ 8 → Lawful t p → Proper default t p (w .configuration) → w .accepted ≤ 1024 → w .refused < 100 → ((q : ℕ) → w .port ≡ UsePort q → q < 16) → length (report w) ≤ 8182
+pub report-tight : (default : ℕ) (t : Tables) (p : Program) (w : Walked)
+    → default ≤ 8 → Lawful t p → Proper default t p (w .configuration) → w .accepted ≤ 1024 → w .refused < 100 → ((q : ℕ) → w .port ≡ UsePort q → q < 16) → length (report w) ≤ 7800
 unfolding report reportWith
-report-le default t p w small law proper accepted refused port =
+report-tight default t p w small law proper accepted refused port =
     let c = w .configuration in
     let f = facts default t p small law in
     simp length-append (omega (
@@ -107,3 +112,7 @@ report-le default t p w small law proper accepted refused port =
       connections-le default t p c f proper 512 (omega arith),
       proper .few,
     ))
+
+pub report-le : (default : ℕ) (t : Tables) (p : Program) (w : Walked)
+    → default ≤ 8 → Lawful t p → Proper default t p (w .configuration) → w .accepted ≤ 1024 → w .refused < 100 → ((q : ℕ) → w .port ≡ UsePort q → q < 16) → length (report w) ≤ 8182
+report-le default t p w small law proper accepted refused port = let h = report-tight default t p w small law proper accepted refused port in omega arith

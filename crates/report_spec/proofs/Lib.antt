@@ -3,4 +3,5 @@ pub mod Sums
 pub mod Widths
 pub mod Lines
 pub mod Bound
+pub mod Plain
 pub mod Listed

@@ -1,12 +1,12 @@
 -- How many bytes numbers and lists take: a number's digits, and the digits of a list's members with a `+` each.
 -- Assumes nothing.
-use Prim.Native.Nat.{ℕ, zero, suc, _+_, _*_, _/_, _^_, _<_, _≤_}
+use Prim.Native.Nat.{ℕ, zero, suc, _+_, _-_, _*_, _/_, _^_, _<_, _≤_}
 use mathlib.Core.List.{List, [], _∷_, _++_}
 use mathlib.Core.Bool.{true, false}
 use mathlib.Core.Path.{_≡_, refl, ap, _∙_}
 use native.Mathlib.Nat.{pow-suc}
 use native.Mathlib.Omega.{arith}
-use lib.Dec.{ltb}
+use lib.Dec.{eqb, ltb}
 use lib.ListN.{length, length-append}
 use borrow.Author.Tests.{lt-ltb}
 use Rattle.sets.specs.Mask.{member}
@@ -14,7 +14,8 @@ use Rattle.sets.proofs.Laws.{member-past}
 use Rattle.item_spec.specs.Write.{digitsIn, numberText, membersBelow, members, moreText, listText, maskText}
 use Rattle.item_spec.proofs.Tests.{by-test}
 use Rattle.item_spec.proofs.Bits.{below-has, below-not}
-use Rattle.model.specs.View.{listOf}
+use Rattle.model.specs.View.{behaviorIn, stampIn, listOf}
+use Rattle.report_spec.specs.Report.{slotText, moreSlots, queueText}
 
 digits-le : (n m v : ℕ) → v < 10 ^ suc n → length (digitsIn m v) ≤ suc n
 unfolding digitsIn
@@ -100,11 +101,22 @@ pub apart-le : (a b : ℕ) → ((x : ℕ) → member x a ≡ true → member x b
 unfolding maskText
 apart-le a b h = omega (arith, list-le (members a), list-le (members b), apart-total 32 a b h, costs-are)
 
--- a queue of n behaviors, each of one digit
-digits-total : (n : ℕ) (f : ℕ → ℕ) → ((r : ℕ) → r < n → f r < 10) → total (listOf n f) ≤ 2 * n
-unfolding total listOf
-digits-total zero f h = omega arith
-digits-total (suc n) f h = omega (arith, number-le 0 (f 0) (h 0 (omega arith)), digits-total n (λ r. f (suc r)) (λ r l. h (suc r) (omega arith)))
+-- a queue of n slots: a behavior of one digit, and a ticket of at most three
+slot-le : (s : ℕ) → s < 2056 → length (slotText s) ≤ 5
+unfolding slotText
+slot-le s h =
+    by-test (eqb (stampIn s) 0)
+    (λ e. rw e (rw length-append (omega (arith, number-le 0 (behaviorIn s) (omega arith)))))
+    (λ e. rw e (rw length-append (omega (arith, number-le 0 (behaviorIn s) (omega arith), number-le 2 (stampIn s - 1) (omega arith)))))
 
-pub queue-le : (n : ℕ) (f : ℕ → ℕ) → ((r : ℕ) → r < n → f r < 10) → length (listText (listOf n f)) ≤ 2 * n + 1
-queue-le n f h = omega (arith, list-le (listOf n f), digits-total n f h)
+slots-le : (n : ℕ) (f : ℕ → ℕ) → ((r : ℕ) → r < n → f r < 2056) → length (moreSlots (listOf n f)) ≤ 6 * n
+unfolding moreSlots listOf
+slots-le zero f h = omega arith
+slots-le (suc n) f h =
+    omega (arith, length-append (43 ∷ slotText (f 0)) (moreSlots (listOf n (λ r. f (suc r)))), slot-le (f 0) (h 0 (omega arith)), slots-le n (λ r. f (suc r)) (λ r l. h (suc r) (omega arith)))
+
+pub queue-le : (n : ℕ) (f : ℕ → ℕ) → ((r : ℕ) → r < n → f r < 2056) → length (queueText (listOf n f)) ≤ 6 * n + 1
+unfolding queueText listOf
+queue-le zero f h = omega arith
+queue-le (suc n) f h =
+    omega (arith, length-append (slotText (f 0)) (moreSlots (listOf n (λ r. f (suc r)))), slot-le (f 0) (h 0 (omega arith)), slots-le n (λ r. f (suc r)) (λ r l. h (suc r) (omega arith)))

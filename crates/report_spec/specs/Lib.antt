@@ -1,4 +1,5 @@
 -- Section 'The report and its program' of 01.
 pub mod Report
 pub mod Faults
+pub mod Plain
 pub mod Listed

@@ -1,11 +1,11 @@
 -- The report, line by line, as bytes.
-use Prim.Native.Nat.{ℕ, suc}
+use Prim.Native.Nat.{ℕ, suc, _-_}
 use mathlib.Core.List.{List, [], _∷_, _++_}
 use mathlib.Core.Bool.{not}
 use lib.Dec.{eqb}
 use Rattle.sets.specs.Test.{tally}
-use Rattle.item_spec.specs.Reader.{bytes}
-use Rattle.item_spec.specs.Write.{onlyIf, numberText, listText, maskText, inTurn, oneText, fourText}
+use Rattle.item_spec.specs.Reader.{bytes, byte}
+use Rattle.item_spec.specs.Write.{onlyIf, numberText, maskText, inTurn, oneText, fourText}
 use Rattle.model.specs.declared.Instance.{Instance}
 use Rattle.model.specs.declared.Connection.{Connection}
 use Rattle.model.specs.declared.Configuration.{Configuration}
@@ -13,18 +13,31 @@ use Rattle.model.specs.declared.Concerned.{Concerned}
 use Rattle.model.specs.declared.Concerned.the-variants.{NoPort, UsePort}
 use Rattle.model.specs.declared.Walked.{Walked}
 use Rattle.model.specs.Empty.{noServer}
-use Rattle.model.specs.View.{instance, connectionOf, queueOf}
+use Rattle.model.specs.View.{instance, connectionOf, behaviorIn, stampIn, queueOf}
 use Rattle.rules_spec.specs.Standing.{standing}
 
 -- key=number
 unfoldable pub countText : List ℕ → ℕ → List ℕ
 countText k n = k ++ oneText n
 
--- `instance=id,type,marked,running,ended,queue`, of the record w with the queue q: "joined by `+`, head first, `-` when empty"
+-- what a slot holds: the behavior, and "`behavior:ticket`" where the push had a ticket
+unfoldable pub slotText : ℕ → List ℕ
+slotText s = numberText (behaviorIn s) ++ onlyIf (not (eqb (stampIn s) 0)) (byte ":" ∷ numberText (stampIn s - 1))
+
+-- "joined by `+`, head first, `-` when empty"
+unfoldable pub moreSlots : List ℕ → List ℕ
+moreSlots [] = []
+moreSlots (s ∷ q) = (byte "+" ∷ slotText s) ++ moreSlots q
+
+unfoldable pub queueText : List ℕ → List ℕ
+queueText [] = bytes "-"
+queueText (s ∷ q) = slotText s ++ moreSlots q
+
+-- `instance=id,type,marked,running,ended,queue`, of the record w with the queue q
 unfoldable pub instanceText : ℕ → Instance → List ℕ → List ℕ
 instanceText i w q =
     bytes "instance=" ++ numberText i ++ bytes "," ++ numberText (w .kind) ++ bytes "," ++ maskText (w .marked) ++ bytes ","
-    ++ maskText (w .running) ++ bytes "," ++ maskText (w .ended) ++ bytes "," ++ listText q ++ bytes "\n"
+    ++ maskText (w .running) ++ bytes "," ++ maskText (w .ended) ++ bytes "," ++ queueText q ++ bytes "\n"
 
 -- `connection=user,useport,provider,provideport`
 unfoldable pub connectionText : Connection → List ℕ

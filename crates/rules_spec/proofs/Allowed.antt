@@ -17,14 +17,14 @@ use Rattle.model.specs.declared.Instance.{Instance}
 use Rattle.model.specs.declared.Connection.{Connection}
 use Rattle.model.specs.declared.Configuration.{Configuration}
 use Rattle.model.specs.Empty.{absent}
-use Rattle.model.specs.View.{typeOf, isUse, instance}
+use Rattle.model.specs.View.{typeOf, isUse, instance, behaviorIn}
 use Rattle.rules_spec.specs.Refusal.{_⇒_∣_, allowed, idAbsent, queueEmpty, noTransition, notReady, heldOrMarked, orNumber}
 use Rattle.rules_spec.specs.Instance.{held, active, portsOf}
 use Rattle.rules_spec.specs.Standing.{standing, someConnection}
 use Rattle.rules_spec.specs.Ports.{isOf, serves, blocks, employs, failsUnconnected, failsUnserved, failsRefusing, failsInUse, portCheck}
 use Rattle.rules_spec.specs.Add.{addCheck}
 use Rattle.rules_spec.specs.Del.{namedBy, delCheck}
-use Rattle.rules_spec.specs.PushB.{depthOf, pushbCheck}
+use Rattle.rules_spec.specs.PushB.{Push, depthOf, pushbCheck}
 use Rattle.rules_spec.specs.Con.{isUsePort, isProvidePort, conCheck}
 use Rattle.rules_spec.specs.DCon.{sameConnection, dconCheck}
 use Rattle.rules_spec.specs.Fire.{fireRow, fireCheck, leavers, afterFire}
@@ -72,18 +72,20 @@ del-facts c i e =
     let (empty, _) = meets (eqb (instance c i .queued) 0) _ e₂ in
     record { present = present; unnamed = unnamed; empty = eqb-true _ 0 empty }
 
-pub record PushbFacts (default : ℕ) (t : Tables) (c : Configuration) (i b : ℕ) : Type 0 where
+pub record PushbFacts (default : ℕ) (t : Tables) (c : Configuration) (i : ℕ) (b : Push) : Type 0 where
   pub present : instance c i .present ≡ true
-  pub behavior-is : b < typeOf t (instance c i .kind) .behaviors
+  pub above : b .late ≡ false
+  pub behavior-is : behaviorIn (b .slot) < typeOf t (instance c i .kind) .behaviors
   pub short : instance c i .queued < depthOf default t
 
-pub pushb-facts : (default : ℕ) (t : Tables) (c : Configuration) (i b : ℕ) → pushbCheck default t c i b ≡ 0 → PushbFacts default t c i b
+pub pushb-facts : (default : ℕ) (t : Tables) (c : Configuration) (i : ℕ) (b : Push) → pushbCheck default t c i b ≡ 0 → PushbFacts default t c i b
 unfolding pushbCheck
 pushb-facts default t c i b e =
     let (present, e₁) = meets (instance c i .present) _ e in
-    let (behavior-is, e₂) = meets (ltb b (typeOf t (instance c i .kind) .behaviors)) _ e₁ in
-    let (short, _) = meets (ltb (instance c i .queued) (depthOf default t)) _ e₂ in
-    record { present = present; behavior-is = ltb-true b _ behavior-is; short = ltb-true _ (depthOf default t) short }
+    let (behavior-is, e₂) = meets (ltb (behaviorIn (b .slot)) (typeOf t (instance c i .kind) .behaviors)) _ e₁ in
+    let (above, e₃) = passes (b .late) _ e₂ in
+    let (short, _) = meets (ltb (instance c i .queued) (depthOf default t)) _ e₃ in
+    record { present = present; above = above; behavior-is = ltb-true (behaviorIn (b .slot)) _ behavior-is; short = ltb-true _ (depthOf default t) short }
 
 pub record ConFacts (t : Tables) (c : Configuration) (k : Connection) : Type 0 where
   pub user : instance c (k .user) .present ≡ true

@@ -8,6 +8,7 @@ pub mod Walks
 pub mod Numbers
 pub mod Connections
 pub mod InUse
+pub mod Tickets
 pub mod Proper
 pub mod Chains
 pub mod Same

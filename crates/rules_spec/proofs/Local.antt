@@ -52,7 +52,7 @@ pub data Change : Type 0 where
 unfoldable pub change : Action → Change
 change (add i k) = part i cleared (λ t v h. fresh t k)
 change (del i) = part i cleared (λ t v h. absent)
-change (pushb i b) = part i (appended b) (λ t v h. withQueued v (suc (v .queued)))
+change (pushb i b) = part i (appended (b .slot)) (λ t v h. withQueued v (suc (v .queued)))
 change (con k) = wiring (made k)
 change (dcon k) = wiring (cut k)
 change (wait i) = wiring kept

@@ -2,28 +2,29 @@
 -- Assumes nothing.
 use mathlib.Core.Path.{_≡_, refl, sym, _∙_}
 use mathlib.Core.Logic.{by-cases}
-use mathlib.Core.Bool.{Bool, true, false, _&&_, cond, and-eq-true-iff, false≢true}
+use mathlib.Core.Bool.{Bool, true, false, not, _&&_, cond, and-eq-true-iff, false≢true}
+use mathlib.Core.List.{List}
 use Prim.Native.Nat.{ℕ, _^_, _≤_, _<_}
 use native.Mathlib.Omega.{arith}
 use native.Mathlib.Decide.{decLt}
 use lib.Dec.{eqb, leb}
-use lib.ListN.{getD}
-use borrow.Author.Tests.{ltb-true, leb-true, not-true}
+use borrow.Author.Tests.{eqb-true, ltb-true, leb-true, not-true}
 use Rattle.sets.specs.Test.{allBelow}
 use Rattle.sets.specs.Mask.{member, overlaps}
 use Rattle.sets.proofs.Laws.{all-at, member-past}
 use Rattle.model.specs.declared.Tables.{Tables}
 use Rattle.model.specs.declared.Instruction.{Instruction}
 use Rattle.model.specs.declared.Program.{Program}
-use Rattle.model.specs.Empty.{noInstruction}
 use Rattle.model.specs.View.{typeOf, source, destination, behaviorOf, portKind, isUse, groupPlaces, groupTransitions}
-use Rattle.model.specs.Verb.{addVerb}
-use Rattle.read_spec.specs.Limits.{depthOk, typesOk, placesOk, transitionsOk, behaviorsOk, portsOk, programOk, kindOk, maskOk, endOk, idOk, initialOk}
-use Rattle.read_spec.specs.Lawful.{transitionLawful, behaviorLawful, portLawful, typeLawful, tablesLawful, instructionLawful, programLawful, Lawful}
-use Rattle.rules_spec.specs.PushB.{depthOf}
-use Rattle.rules_spec.specs.Action.{Action, add, instructionAction}
+use Rattle.model.specs.Verb.{addVerb, pushbVerb, pushTicketVerb}
+use Rattle.read_spec.specs.Limits.{depthOk, typesOk, placesOk, transitionsOk, behaviorsOk, portsOk, programOk, kindOk, maskOk, endOk, idOk, behaviorOk, hasTickets, editionOk, initialOk}
+use Rattle.read_spec.specs.Lawful.{transitionLawful, behaviorLawful, portLawful, typeLawful, tablesLawful, verbLawful, instructionLawful, programLawful, Lawful}
+use Rattle.rules_spec.specs.PushB.{Push, depthOf}
+use Rattle.rules_spec.specs.Tickets.{ticketPush, instructionOf}
+use Rattle.rules_spec.specs.Action.{Action, add, pushb, plainly, ticketed, instructionAction}
 use Rattle.rules_spec.specs.Step.{actionAt}
-use Rattle.rules_spec.proofs.Actions.{instruction-cases, isAdd, not-add}
+use Rattle.rules_spec.specs.Proper.{slotLimit}
+use Rattle.rules_spec.proofs.Actions.{instruction-cases, isAdd, isPush, not-push, not-add}
 
 -- of type k
 pub record TypeFacts (t : Tables) (k : ℕ) : Type 0 where
@@ -45,6 +46,8 @@ pub record Facts (default : ℕ) (t : Tables) (p : Program) : Type 0 where
   pub program : p .count ≤ 256
   -- an `add` has an id below 32 and a type that exists
   pub adds : (n i k : ℕ) → n < p .count → actionAt p n ≡ add i k → (i < 32) × (k < t .count)
+  -- and what is pushed is within the limit
+  pub pushes : (n i : ℕ) (b : Push) → n < p .count → actionAt p n ≡ pushb i b → b .slot < slotLimit p
 
 -- a member of a set of members below n
 pub in-mask : (n m x : ℕ) → maskOk n m ≡ true → member x m ≡ true → x < n
@@ -120,9 +123,10 @@ type-facts t k e =
       use-port = λ q h u. port-spared t k q (l .port q h) u;
     }
 
-add-facts : (n : ℕ) (x : Instruction) (i k : ℕ) → instructionLawful n x ≡ true → instructionAction x ≡ add i k → (i < 32) × (k < n)
+add-facts : (f n : ℕ) (x : Instruction) (l : List ℕ) (i k : ℕ) → instructionLawful f n x ≡ true → instructionAction l x ≡ add i k → (i < 32) × (k < n)
 unfolding instructionLawful isAdd
-add-facts n x i k e = instruction-cases (λ a. a ≡ add i k → (i < 32) × (k < n)) x known (other refl) (other refl) (other refl) (other refl) (other refl)
+add-facts f n x l i k e =
+    instruction-cases (λ a. a ≡ add i k → (i < 32) × (k < n)) x l known (other refl) (λ _. other refl) (other refl) (other refl) (λ _. other refl) (other refl) (other refl)
   where
     known : eqb (x .verb) addVerb ≡ true → add (x .id) (x .number) ≡ add i k → (i < 32) × (k < n)
     known v q =
@@ -136,6 +140,41 @@ add-facts n x i k e = instruction-cases (λ a. a ≡ add i k → (i < 32) × (k 
     other : {a : Action} → isAdd a ≡ false → a ≡ add i k → (i < 32) × (k < n)
     other e q = absurd (not-add e q)
 
+push-facts : (p : Program) (n : ℕ) (x : Instruction) (l : List ℕ) (i : ℕ) (b : Push) → instructionLawful (p .edition) n x ≡ true → instructionAction l x ≡ pushb i b → b .slot < slotLimit p
+unfolding instructionLawful isPush slotLimit
+push-facts p n x l i b e =
+    instruction-cases (λ a. a ≡ pushb i b → b .slot < slotLimit p) x l (λ _. other refl) (other refl) plain (other refl) (other refl) paired (other refl) (other refl)
+  where
+    asks : verbLawful (p .edition) n x ≡ true
+    asks = both (idOk (x .id)) e .1
+
+    plain : eqb (x .verb) pushbVerb ≡ true → pushb (x .id) (plainly x) ≡ pushb i b → b .slot < slotLimit p
+    plain v q =
+        let (none, small) = both (not (hasTickets (p .edition))) (rw (eqb-true (x .verb) pushbVerb v) at asks) in
+        let s : x .number ≡ b .slot = cc in
+        let l = leb-true (x .number) 7 small in
+        rw (not-true (hasTickets (p .edition)) none) (omega arith)
+
+    paired : eqb (x .verb) pushTicketVerb ≡ true → pushb (x .id) (ticketed l x) ≡ pushb i b → b .slot < slotLimit p
+    paired v q =
+        let (some, rest) = both (hasTickets (p .edition)) (rw (eqb-true (x .verb) pushTicketVerb v) at asks) in
+        let (small, few) = both (behaviorOk (x .number)) rest in
+        let s : ticketPush x ≡ b .slot = cc in
+        let l = leb-true (x .number) 7 small in
+        let m = leb-true (x .provider) 255 few in
+        rw some (omega arith)
+
+    other : {a : Action} → isPush a ≡ false → a ≡ pushb i b → b .slot < slotLimit p
+    other e q = absurd (not-push e q)
+
+-- each instruction's verb asks what it asks
+pub program-verbs : (t : Tables) (p : Program) → Lawful t p → (n : ℕ) → n < p .count → verbLawful (p .edition) (t .count) (instructionOf p n) ≡ true
+unfolding Lawful programLawful instructionLawful
+program-verbs t p (_, program) n h =
+    let (_, rest) = both (programOk (p .count)) program in
+    let (_, instructions) = both (editionOk (p .edition)) rest in
+    both (idOk (instructionOf p n .id)) (all-at (p .count) (λ j. instructionLawful (p .edition) (t .count) (instructionOf p j)) instructions n h) .1
+
 depth-of : (b : Bool) (d n : ℕ) → d ≤ 8 → n ≤ 8 → cond b d n ≤ 8
 depth-of true d n h g = h
 depth-of false d n h g = g
@@ -145,11 +184,14 @@ unfolding Lawful tablesLawful programLawful actionAt
 facts default t p small (tables, program) =
     let (depth, e₁) = both (depthOk (t .depth)) tables in
     let (count, types) = both (typesOk (t .count)) e₁ in
-    let (length, instructions) = both (programOk (p .count)) program in
+    let (length, rest) = both (programOk (p .count)) program in
+    let (edition, instructions) = both (editionOk (p .edition)) rest in
+    let lawful = all-at (p .count) (λ j. instructionLawful (p .edition) (t .count) (instructionOf p j)) instructions in
     record {
       depth = depth-of (eqb (t .depth) 0) default (t .depth) small (leb-true (t .depth) 8 depth);
       count = leb-true (t .count) 16 (both (leb 1 (t .count)) count .1);
       types = λ k h. type-facts t k (all-at (t .count) (typeLawful t) types k h);
       program = leb-true (p .count) 256 length;
-      adds = λ n i k h q. add-facts (t .count) _ i k (all-at (p .count) (λ j. instructionLawful (t .count) (getD (p .instructions) j noInstruction)) instructions n h) q;
+      adds = λ n i k h q. add-facts (p .edition) (t .count) _ _ i k (lawful n h) q;
+      pushes = λ n i b h q. push-facts p (t .count) _ _ i b (lawful n h) q;
     }

@@ -5,7 +5,7 @@ use lib.Dec.{eqb}
 use Rattle.sets.specs.Mask.{member, collect, only, with, without, joined, overlaps}
 use Rattle.model.specs.declared.Tables.{Tables}
 use Rattle.model.specs.declared.Instance.{Instance}
-use Rattle.model.specs.View.{typeOf, source, destination, behaviorOf, groupPlaces, groupTransitions}
+use Rattle.model.specs.View.{typeOf, source, destination, behaviorIn, behaviorOf, groupPlaces, groupTransitions}
 
 -- "A transition is *held* when running or ended."
 abbrev pub held : Instance → ℕ
@@ -21,7 +21,7 @@ portsOf t v = typeOf t (v .kind) .ports
 
 -- "a queue of behaviors, whose head is the current one": its set of transitions, none where the queue is empty
 unfoldable pub current : Tables → Instance → ℕ → ℕ
-current t v head = cond (eqb (v .queued) 0) 0 (behaviorOf t (v .kind) head)
+current t v head = cond (eqb (v .queued) 0) 0 (behaviorOf t (v .kind) (behaviorIn head))
 
 -- transition x of the set m has this end at p
 unfoldable pub endsAt : (ℕ → ℕ) → ℕ → ℕ → ℕ → Bool

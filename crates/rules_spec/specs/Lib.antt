@@ -6,6 +6,7 @@ pub mod Closing
 pub mod Instance
 pub mod Standing
 pub mod Ports
+pub mod Tickets
 pub mod Add
 pub mod Del
 pub mod PushB

@@ -3,7 +3,7 @@
 -- its port.
 use mathlib.Core.Path.{_≡_}
 use mathlib.Core.Logic.{_≢_}
-use mathlib.Core.Bool.{true, false}
+use mathlib.Core.Bool.{true, false, cond}
 use mathlib.Core.List.{List}
 use Prim.Native.Nat.{ℕ, _≤_, _<_}
 use lib.ListN.{length}
@@ -15,22 +15,28 @@ use Rattle.model.specs.declared.Instance.{Instance}
 use Rattle.model.specs.declared.Connection.{Connection}
 use Rattle.model.specs.declared.Configuration.{Configuration}
 use Rattle.model.specs.Empty.{start, mostConnections}
-use Rattle.model.specs.View.{typeOf, isUse, instance, slot, portNumber, server, isServed, connectionAt, connection}
+use Rattle.model.specs.View.{typeOf, isUse, instance, slot, behaviorIn, portNumber, server, isServed, connectionAt, connection}
+use Rattle.read_spec.specs.Limits.{hasTickets}
 use Rattle.read_spec.specs.Lawful.{Lawful}
 use Rattle.rules_spec.specs.Standing.{standing}
 use Rattle.rules_spec.specs.Instance.{portsOf}
 use Rattle.rules_spec.specs.PushB.{depthOf}
 use Rattle.rules_spec.specs.Walk.{walk}
 
+-- what a slot holds is below this: a behavior alone, or with one of 256 tickets
+unfoldable pub slotLimit : Program → ℕ
+slotLimit p = cond (hasTickets (p .edition)) 2056 8
+
 -- the record v with the queue slots s
-pub record ProperInstance (default : ℕ) (t : Tables) (v : Instance) (s : ℕ → ℕ) : Type 0 where
+pub record ProperInstance (default : ℕ) (t : Tables) (p : Program) (v : Instance) (s : ℕ → ℕ) : Type 0 where
   pub kind : v .kind < t .count
   pub marked : (x : ℕ) → member x (v .marked) ≡ true → x < typeOf t (v .kind) .places
   pub running : (x : ℕ) → member x (v .running) ≡ true → x < typeOf t (v .kind) .transitions
   pub ended : (x : ℕ) → member x (v .ended) ≡ true → x < typeOf t (v .kind) .transitions
   pub disjoint : (x : ℕ) → member x (v .running) ≡ true → member x (v .ended) ≡ false
   pub short : v .queued ≤ depthOf default t
-  pub queue : (r : ℕ) → r < v .queued → s r < typeOf t (v .kind) .behaviors
+  pub queue : (r : ℕ) → r < v .queued → behaviorIn (s r) < typeOf t (v .kind) .behaviors
+  pub tickets : (r : ℕ) → r < v .queued → s r < slotLimit p
 
 -- k joins a use port of a present instance to a provide port of another present one
 pub record Joins (t : Tables) (c : Configuration) (k : Connection) : Type 0 where
@@ -56,7 +62,7 @@ EntriesAreSmall =
     (t : Tables) (c : Configuration) → length (c .instances) ≡ 32 → length (c .servers) ≡ 512 → WellFormed t c → (s : ℕ) → server (c .servers) s ≤ 512
 
 pub record Proper (default : ℕ) (t : Tables) (p : Program) (c : Configuration) : Type 0 where
-  pub each : (i : ℕ) → instance c i .present ≡ true → ProperInstance default t (instance c i) (slot c i)
+  pub each : (i : ℕ) → instance c i .present ≡ true → ProperInstance default t p (instance c i) (slot c i)
   pub connections : WellFormed t c
   pub few : standing c .count ≤ mostConnections
   pub done : c .done ≤ p .count

@@ -1,4 +1,4 @@
--- The refusal numbers 10 to 37 of 01 and 38 of 02 by name, rows of checks, and what a step answers.
+-- The refusal numbers 10 to 37 of 01 and 19, 23, 24 and 38 of 02 by name, rows of checks, and what a step answers.
 use mathlib.Core.Bool.{Bool, cond}
 use Prim.Native.Nat.{ℕ}
 use lib.Dec.{eqb}
@@ -51,6 +51,10 @@ noSuchConnection = 17
 abbrev pub stillConnected : ℕ
 stillConnected = 18
 
+-- ticket not above the last
+abbrev pub ticketNotAbove : ℕ
+ticketNotAbove = 19
+
 -- queue full
 abbrev pub queueFull : ℕ
 queueFull = 20
@@ -62,6 +66,14 @@ queueNotEmpty = 21
 -- use port active at `dcon`
 abbrev pub usePortActive : ℕ
 usePortActive = 22
+
+-- ticket still queued
+abbrev pub stillQueued : ℕ
+stillQueued = 23
+
+-- ticket never pushed
+abbrev pub neverPushed : ℕ
+neverPushed = 24
 
 -- queue empty at a move
 abbrev pub queueEmpty : ℕ

@@ -2,17 +2,16 @@
 use mathlib.Core.Bool.{Bool, _&&_, cond}
 use Prim.Native.Nat.{ℕ, suc}
 use lib.Dec.{eqb, leb}
-use lib.ListN.{getD}
 use Rattle.model.specs.declared.Tables.{Tables}
 use Rattle.model.specs.declared.Program.{Program}
 use Rattle.model.specs.declared.Step.{Step}
 use Rattle.model.specs.declared.Configuration.{Configuration}
 use Rattle.model.specs.declared.Stepped.{Stepped}
-use Rattle.model.specs.Empty.{noInstruction}
 use Rattle.model.specs.View.{withDone}
 use Rattle.model.specs.Verb.{nextVerb}
 use Rattle.rules_spec.specs.Refusal.{noInstructionLeft, settle}
 use Rattle.rules_spec.specs.Standing.{Standing, standing}
+use Rattle.rules_spec.specs.Tickets.{instructionOf, pushedTo}
 use Rattle.rules_spec.specs.Action.{Action, instructionAction, moveAction, actionCheck, effect, concern}
 
 abbrev pub isNext : Step → Bool
@@ -20,7 +19,7 @@ isNext s = eqb (s .verb) nextVerb
 
 -- instruction number n of the program
 unfoldable pub actionAt : Program → ℕ → Action
-actionAt p n = instructionAction (getD (p .instructions) n noInstruction)
+actionAt p n = instructionAction (pushedTo p (instructionOf p n .id) n) (instructionOf p n)
 
 -- what the step does
 unfoldable pub action : Program → Configuration → Step → Action

@@ -22,11 +22,17 @@ pub const NO_SUCH_CONNECTION: u32 = 17;
 
 pub const STILL_CONNECTED: u32 = 18;
 
+pub const TICKET_NOT_ABOVE: u32 = 19;
+
 pub const QUEUE_FULL: u32 = 20;
 
 pub const QUEUE_NOT_EMPTY: u32 = 21;
 
 pub const USE_PORT_ACTIVE: u32 = 22;
+
+pub const STILL_QUEUED: u32 = 23;
+
+pub const NEVER_PUSHED: u32 = 24;
 
 pub const QUEUE_EMPTY: u32 = 30;
 
