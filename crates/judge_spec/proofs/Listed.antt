@@ -27,7 +27,7 @@ in-room-same : (w : Walked) (v : ListedWalked) → Beside w v → (room : ℕ) (
 unfolding inRoom afterWalk stepPlace
 in-room-same w v b room a = ap₂ (λ (u : ListedWalked) (r : List ℕ). inRoom room (unlistedWalked u) r a) (b .is) (report-same w v b)
 
-begun-nothing : {t : Tables} {c : Configuration} → Begun defaultDepth t nothing c → c ≡ start
+begun-nothing : {t : Tables} {p : Program} {x : Program × Configuration} → Begun defaultDepth t p nothing x → x .1 ≡ start
 begun-nothing empty = refl
 
 module _ (s a : List ℕ) where
@@ -36,7 +36,7 @@ module _ (s a : List ℕ) where
       ≡ inRoom room (walkFrom defaultDepth (x .0) (x .1) (x .2) (x .3)) (report (walkFrom defaultDepth (x .0) (x .1) (x .2) (x .3))) a
   unfolding walkFrom
   reached-same x e room =
-      let (law, b) = all-lawful (nothingUp s) a x e in
+      let (law, (_, b)) = all-lawful (nothingUp s) a x e in
       rw (begun-nothing b) (in-room-same _ _ (beside-start defaultDepth (x .0) (x .1) (stepsOf (x .3)) (omega arith) law) room a)
 
   endings-same : (room : ℕ) (z : Course (Tables × Program × Configuration × Answer)) → allUnder defaultDepth (nothingUp s) a ≡ z

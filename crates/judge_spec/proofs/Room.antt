@@ -31,7 +31,7 @@ use Rattle.start_spec.specs.Paper.{Paper}
 use Rattle.judge_spec.specs.Course.{Course, faulty, reached, defaultDepth, course}
 use Rattle.judge_spec.specs.Judged.{Judgement, afterFault, afterWalk, noRoom, inRoom, ending, judged}
 use Rattle.judge_spec.specs.Room.{ReportsFit, SixNever}
-use Rattle.judge_spec.proofs.Read.{all-read, begun-permitted, fault-numbered}
+use Rattle.judge_spec.proofs.Read.{all-read, begun-lawful, begun-permitted, fault-numbered}
 
 -- a report that has room, with ten bytes to spare, and a number that is not 6
 abbrev pub Fits : Walked → Type 0
@@ -67,7 +67,7 @@ unfolding SheetsAreLawful AnswersAreLawful
 read-fits s a w q =
     let b = all-read s a w q in
     let law = sheets-are-lawful (s .sheet) _ _ _ (b .sheet-is) in
-    rw (b .walked) (walk-fits (b .tables) (b .program) (b .begin) (b .steps) law (begun-permitted (b .tables) (b .program) law (s .beginning) (b .begin) (b .begun) .proper) (answers-are-lawful a _ _ (b .answer-is)))
+    rw (b .walked) (walk-fits (b .tables) (b .program) (b .begin) (b .steps) (begun-lawful (b .tables) (b .sheet-program) law (s .beginning) (b .program, b .begin) (b .begun)) (begun-permitted (b .tables) (b .sheet-program) law (s .beginning) (b .program, b .begin) (b .begun) .proper) (answers-are-lawful a _ _ (b .answer-is)))
 
 pub reports-fit : ReportsFit
 unfolding ReportsFit

@@ -6,12 +6,12 @@ use mathlib.Core.Path.{_≡_, refl}
 use lib.ListN.{getD}
 use Rattle.sets.specs.Mask.{member, collect}
 use Rattle.sets.specs.Test.{allBelow, anyBelow, lowest, tally}
-use Rattle.model.specs.Empty.{noTables, noProgram, noAnswer, start}
+use Rattle.model.specs.Empty.{noTables, noneBegun, noProgram, noAnswer, start}
 use Rattle.model.specs.View.{isServed, listOf, queueOf, put, withQueue, withServers, withDone}
-use Rattle.item_spec.specs.Read.{key, digit, numberFrom, membersFrom, list, oneForm, twoForm, fourForm, listForm, listsForm}
+use Rattle.item_spec.specs.Read.{key, digit, numberFrom, membersFrom, list, oneForm, twoForm, threeForm, fourForm, listForm, listsForm}
 use Rattle.item_spec.specs.Write.{digitsIn, numberText, membersBelow, moreText, listText, maskText, inTurn, oneText, twoText, threeText, fourText}
 use Rattle.read_spec.specs.Fill.{headed, withType, withTransition, withPort, programOf, withInstruction, answerOf, withStep}
-use Rattle.read_spec.specs.Kinds.{dueLine, countLineIn, initialLine, tranLine, behaviorLine, group, portLine, doId, doNumber, doEnds, doLine, stepId, stepNumber, stepLine}
+use Rattle.read_spec.specs.Kinds.{editionLine, dueLine, countLineIn, initialLine, tranLine, behaviorLine, group, portLine, doId, doNumber, doEnds, doTicketed, doWait, doLine, stepId, stepNumber, stepLine}
 use Rattle.read_spec.specs.Lines.{each}
 use Rattle.read_spec.specs.Place.{upToLf, lfs, lineNumber, lineStart}
 use Rattle.read_spec.specs.Texts.{tranAt, behaviorAt, portAt, typeLines, instructionAt, sheet, stepAt, answer}
@@ -28,26 +28,31 @@ use Rattle.rules_spec.specs.Fire.{fireRow, fireCheck, fireTo}
 use Rattle.rules_spec.specs.Instance.{active, current, endsAt, leaving, entering, fired, endedBy, entered, withQueued}
 use Rattle.rules_spec.specs.Standing.{entries, inTable}
 use Rattle.rules_spec.specs.Ports.{isOf, wouldLeave, wouldEnter, refusing, serves, blocks, employs, failsUnconnected, failsUnserved, failsRefusing, failsInUse, portCheck, concerned}
+use Rattle.rules_spec.specs.Tickets.{stamped, begunTo, goesOn, pushedTo, notAbove, hasStamp}
 use Rattle.rules_spec.specs.PushB.{pushbCheck, pushed}
 use Rattle.rules_spec.specs.Step.{actionAt, action, stepCheckWith, stepTo, step}
 use Rattle.rules_spec.specs.Wait.{waitCheck}
 use Rattle.rules_spec.specs.Walk.{oneMore, walk, walkFrom}
 use Rattle.report_spec.specs.Faults.{textText, faultText}
-use Rattle.report_spec.specs.Report.{countText, portText, instanceText, connectionText, instanceAt, connectionLine, linesFrom, instancesText, connectionsText, reportWith, report}
+use Rattle.report_spec.specs.Report.{slotText, moreSlots, queueText, countText, portText, instanceText, connectionText, instanceAt, connectionLine, linesFrom, instancesText, connectionsText, reportWith, report}
 use Rattle.start_spec.specs.Paper.{Paper, nothingUp}
 use Rattle.judge_spec.specs.Course.{short, shortStart, served, outset, read, allUnder, course}
 use Rattle.judge_spec.specs.Judged.{faultLine, faultPlace, afterFault, noRoom, stepPlace, afterWalk, inRoom, ending, judged, over, printing, printed}
 use Rattle.judge_spec.specs.Cases.{nexts}
-use Rattle.judge_spec.specs.StartCases.{startTable, AllStarted, StartLengths}
+use Rattle.judge_spec.specs.StartCases.{startTable, AllStarted, StartLengths, ticketTable, AllTicketed}
 use Rattle.item_spec.specs.Items.{itemThen, itemsIn, items}
-use Rattle.start_spec.specs.Row.{behaviorsBelow, instanceLine, pushedAll, placed, withRow, portIn, connectionLine as startConnectionLine}
+use Rattle.start_spec.specs.Row.{lastForm, plainQueue, ticketQueue, slotsOf, itemsOk, risesTo, instanceLine, pushedAll, placed, withRow, portIn, connectionLine as startConnectionLine}
 use Rattle.start_spec.specs.Text.{instanceAt as startInstanceAt, connectionAt as startConnectionAt, startLines}
 use Rattle.start_spec.specs.Served.{failsStill, someUnserved}
 
 pub start-cases : AllStarted startTable
-unfolding member collect allBelow anyBelow noTables noProgram noAnswer start isServed entries inTable listOf queueOf put withQueue withServers withDone key digit numberFrom membersFrom list oneForm twoForm fourForm listForm listsForm digitsIn numberText membersBelow moreText listText maskText inTurn oneText twoText threeText fourText headed withType withTransition withPort programOf withInstruction answerOf withStep dueLine countLineIn initialLine tranLine behaviorLine group portLine doId doNumber doEnds doLine stepId stepNumber stepLine each upToLf lfs lineNumber lineStart tranAt behaviorAt portAt typeLines instructionAt sheet stepAt answer instructionAction moveAction actionCheck effect concern addCheck added down closed zeroed renewed isOf isUsePort isProvidePort conCheck connected sameConnection dconCheck disconnected namedBy delCheck deleted endCheck endTo enterRow enterCheck enterTo mayLeave finishRow finishCheck finished fireRow fireCheck fireTo active current endsAt leaving entering fired endedBy entered withQueued wouldLeave wouldEnter refusing serves blocks employs failsUnconnected failsUnserved failsRefusing failsInUse portCheck lowest concerned pushbCheck pushed actionAt action stepCheckWith stepTo step waitCheck oneMore walk walkFrom textText faultText tally countText portText instanceText connectionText instanceAt connectionLine linesFrom instancesText connectionsText reportWith report nexts short shortStart outset read allUnder course faultLine faultPlace afterFault noRoom stepPlace afterWalk inRoom ending judged over printing printed items itemsIn itemThen behaviorsBelow instanceLine pushedAll placed withRow portIn startConnectionLine startInstanceAt startConnectionAt startLines failsStill someUnserved served
+unfolding member collect allBelow anyBelow noTables noneBegun noProgram noAnswer start isServed entries inTable listOf queueOf put withQueue withServers withDone key digit numberFrom membersFrom list oneForm twoForm threeForm fourForm listForm listsForm digitsIn numberText membersBelow moreText listText maskText inTurn oneText twoText threeText fourText headed withType withTransition withPort programOf withInstruction answerOf withStep editionLine dueLine countLineIn initialLine tranLine behaviorLine group portLine doId doNumber doEnds doTicketed doWait doLine stepId stepNumber stepLine each upToLf lfs lineNumber lineStart tranAt behaviorAt portAt typeLines instructionAt sheet stepAt answer instructionAction moveAction actionCheck effect concern addCheck added down closed zeroed renewed isOf isUsePort isProvidePort conCheck connected sameConnection dconCheck disconnected namedBy delCheck deleted endCheck endTo enterRow enterCheck enterTo mayLeave finishRow finishCheck finished fireRow fireCheck fireTo active current endsAt leaving entering fired endedBy entered withQueued wouldLeave wouldEnter refusing serves blocks employs failsUnconnected failsUnserved failsRefusing failsInUse portCheck lowest concerned pushbCheck pushed stamped begunTo goesOn pushedTo notAbove hasStamp actionAt action stepCheckWith stepTo step waitCheck oneMore walk walkFrom textText faultText tally countText portText slotText moreSlots queueText instanceText connectionText instanceAt connectionLine linesFrom instancesText connectionsText reportWith report nexts short shortStart outset read allUnder course faultLine faultPlace afterFault noRoom stepPlace afterWalk inRoom ending judged over printing printed items itemsIn itemThen lastForm plainQueue ticketQueue slotsOf itemsOk risesTo instanceLine pushedAll placed withRow portIn startConnectionLine startInstanceAt startConnectionAt startLines failsStill someUnserved served
 start-cases = (refl, (refl, (refl, (refl, (refl, (refl, (refl, (refl, tt))))))))
 
 pub start-lengths : StartLengths
-unfolding member collect allBelow anyBelow noTables noProgram noAnswer start isServed entries inTable listOf queueOf put withQueue withServers withDone key digit numberFrom membersFrom list oneForm twoForm fourForm listForm listsForm digitsIn numberText membersBelow moreText listText maskText inTurn oneText twoText threeText fourText headed withType withTransition withPort programOf withInstruction answerOf withStep dueLine countLineIn initialLine tranLine behaviorLine group portLine doId doNumber doEnds doLine stepId stepNumber stepLine each upToLf lfs lineNumber lineStart tranAt behaviorAt portAt typeLines instructionAt sheet stepAt answer instructionAction moveAction actionCheck effect concern addCheck added down closed zeroed renewed isOf isUsePort isProvidePort conCheck connected sameConnection dconCheck disconnected namedBy delCheck deleted endCheck endTo enterRow enterCheck enterTo mayLeave finishRow finishCheck finished fireRow fireCheck fireTo active current endsAt leaving entering fired endedBy entered withQueued wouldLeave wouldEnter refusing serves blocks employs failsUnconnected failsUnserved failsRefusing failsInUse portCheck lowest concerned pushbCheck pushed actionAt action stepCheckWith stepTo step waitCheck oneMore walk walkFrom textText faultText tally countText portText instanceText connectionText instanceAt connectionLine linesFrom instancesText connectionsText reportWith report nexts short shortStart outset read allUnder course faultLine faultPlace afterFault noRoom stepPlace afterWalk inRoom ending judged over printing printed items itemsIn itemThen behaviorsBelow instanceLine pushedAll placed withRow portIn startConnectionLine startInstanceAt startConnectionAt startLines failsStill someUnserved served StartLengths
+unfolding member collect allBelow anyBelow noTables noneBegun noProgram noAnswer start isServed entries inTable listOf queueOf put withQueue withServers withDone key digit numberFrom membersFrom list oneForm twoForm threeForm fourForm listForm listsForm digitsIn numberText membersBelow moreText listText maskText inTurn oneText twoText threeText fourText headed withType withTransition withPort programOf withInstruction answerOf withStep editionLine dueLine countLineIn initialLine tranLine behaviorLine group portLine doId doNumber doEnds doTicketed doWait doLine stepId stepNumber stepLine each upToLf lfs lineNumber lineStart tranAt behaviorAt portAt typeLines instructionAt sheet stepAt answer instructionAction moveAction actionCheck effect concern addCheck added down closed zeroed renewed isOf isUsePort isProvidePort conCheck connected sameConnection dconCheck disconnected namedBy delCheck deleted endCheck endTo enterRow enterCheck enterTo mayLeave finishRow finishCheck finished fireRow fireCheck fireTo active current endsAt leaving entering fired endedBy entered withQueued wouldLeave wouldEnter refusing serves blocks employs failsUnconnected failsUnserved failsRefusing failsInUse portCheck lowest concerned pushbCheck pushed stamped begunTo goesOn pushedTo notAbove hasStamp actionAt action stepCheckWith stepTo step waitCheck oneMore walk walkFrom textText faultText tally countText portText slotText moreSlots queueText instanceText connectionText instanceAt connectionLine linesFrom instancesText connectionsText reportWith report nexts short shortStart outset read allUnder course faultLine faultPlace afterFault noRoom stepPlace afterWalk inRoom ending judged over printing printed items itemsIn itemThen lastForm plainQueue ticketQueue slotsOf itemsOk risesTo instanceLine pushedAll placed withRow portIn startConnectionLine startInstanceAt startConnectionAt startLines failsStill someUnserved served StartLengths
 start-lengths = (refl, refl, refl, refl, refl)
+
+pub ticket-cases : AllTicketed ticketTable
+unfolding member collect allBelow anyBelow noTables noneBegun noProgram noAnswer start isServed entries inTable listOf queueOf put withQueue withServers withDone key digit numberFrom membersFrom list oneForm twoForm threeForm fourForm listForm listsForm digitsIn numberText membersBelow moreText listText maskText inTurn oneText twoText threeText fourText headed withType withTransition withPort programOf withInstruction answerOf withStep editionLine dueLine countLineIn initialLine tranLine behaviorLine group portLine doId doNumber doEnds doTicketed doWait doLine stepId stepNumber stepLine each upToLf lfs lineNumber lineStart tranAt behaviorAt portAt typeLines instructionAt sheet stepAt answer instructionAction moveAction actionCheck effect concern addCheck added down closed zeroed renewed isOf isUsePort isProvidePort conCheck connected sameConnection dconCheck disconnected namedBy delCheck deleted endCheck endTo enterRow enterCheck enterTo mayLeave finishRow finishCheck finished fireRow fireCheck fireTo active current endsAt leaving entering fired endedBy entered withQueued wouldLeave wouldEnter refusing serves blocks employs failsUnconnected failsUnserved failsRefusing failsInUse portCheck lowest concerned pushbCheck pushed stamped begunTo goesOn pushedTo notAbove hasStamp actionAt action stepCheckWith stepTo step waitCheck oneMore walk walkFrom textText faultText tally countText portText slotText moreSlots queueText instanceText connectionText instanceAt connectionLine linesFrom instancesText connectionsText reportWith report nexts short shortStart outset read allUnder course faultLine faultPlace afterFault noRoom stepPlace afterWalk inRoom ending judged over printing printed items itemsIn itemThen lastForm plainQueue ticketQueue slotsOf itemsOk risesTo instanceLine pushedAll placed withRow portIn startConnectionLine startInstanceAt startConnectionAt startLines failsStill someUnserved served
+ticket-cases = (refl, (refl, (refl, (refl, (refl, (refl, (refl, (refl, (refl, (refl, (refl, (refl, (refl, tt)))))))))))))

@@ -10,11 +10,18 @@ use Rattle.item_spec.specs.Write.{oneText}
 use Rattle.start_spec.specs.Paper.{nothingUp}
 use Rattle.judge_spec.specs.Judged.{judged, printed, lentBytes}
 
--- the pair used in examples, where the provide port has this group
-abbrev pub pairWith : String → List ℕ
-pairWith group = bytes "sheet=1\ndepth=0\ntypes=2\n"
+-- the pair used in examples, in a sheet that opens with this line, where the provide port has this group
+abbrev pub pairIn : String → String → List ℕ
+pairIn first group = bytes first ++ bytes "\ndepth=0\ntypes=2\n"
     ++ bytes "type=0\nplaces=2\ninitial=0\ntransitions=2\ntran=0,1\ntran=1,0\nbehaviors=2\nbehavior=0\nbehavior=1\nports=1\nport=provide," ++ bytes group ++ bytes "\n"
     ++ bytes "type=1\nplaces=2\ninitial=0\ntransitions=2\ntran=0,1\ntran=1,0\nbehaviors=2\nbehavior=0\nbehavior=1\nports=1\nport=use,1,0\n"
+
+abbrev pub pairWith : String → List ℕ
+pairWith group = pairIn "sheet=1" group
+
+-- one of the pair is pushed 3 and then 5, and then comes this line
+abbrev pub ticketed : String → List ℕ
+ticketed line = pairIn "sheet=2" "1,-" ++ bytes "program=4\ndo=add,0,0\ndo=pushb,0,0,3\ndo=pushb,0,1,5\n" ++ bytes line
 
 abbrev pub five : List ℕ
 five = bytes "do=add,0,0\ndo=add,1,1\ndo=con,1,0,0,0\ndo=pushb,0,0\ndo=pushb,1,0\n"
@@ -83,6 +90,12 @@ table =
     ∷ case (programP "1,0") (answerWith 8 5 "step=fire,0,0\nstep=end,0,0\nstep=fire,1,0\n") (ends 8 0)
     -- 02, C-11: the program without its `con`
     ∷ case (pairWith "1,-" ++ bytes "program=4\ndo=add,0,0\ndo=add,1,1\ndo=pushb,0,0\ndo=pushb,1,0\n") (answerWith 5 4 "step=fire,1,0\n") (endsAt 4 38 0)
+    -- 02, C-21: "A wait with ticket is allowed once that push is finished", though a later one is queued; before that 23; one that was skipped; no rise
+    ∷ case (ticketed "do=wait,0,3\n") (answerWith 8 3 "step=fire,0,0\nstep=end,0,0\nstep=enter,0,1\nstep=finish,0\nstep=next\n")
+    (prints (bytes "accepted=8\nrefused=0\nport=-\nnext=4\ninstances=1\ninstance=0,0,1,-,-,1:5\nconnections=0\n"))
+    ∷ case (ticketed "do=wait,0,3\n") (answerWith 4 4 "") (ends 3 23)
+    ∷ case (ticketed "do=wait,0,4\n") (answerWith 4 4 "") (ends 3 24)
+    ∷ case (ticketed "do=pushb,0,0,5\n") (answerWith 4 4 "") (ends 3 19)
     ∷ []
 
 -- what the judge comes to

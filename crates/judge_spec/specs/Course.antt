@@ -12,13 +12,14 @@ use Rattle.model.specs.declared.Answer.{Answer}
 use Rattle.model.specs.declared.Walked.{Walked}
 use Rattle.model.specs.declared.Configuration.{Configuration}
 use Rattle.model.specs.Empty.{start}
+use Rattle.model.specs.View.{begunWith}
 use Rattle.read_spec.specs.Limits.{lengthOk}
 use Rattle.read_spec.specs.Lines.{Lines, on, stop}
 use Rattle.read_spec.specs.Texts.{sheet, answer}
 use Rattle.rules_spec.specs.PushB.{depthOf}
 use Rattle.rules_spec.specs.Walk.{walkFrom}
 use Rattle.start_spec.specs.Paper.{Beginning, nothing, given, Paper}
-use Rattle.start_spec.specs.Text.{startLengthOk, startLines}
+use Rattle.start_spec.specs.Text.{startLengthOk, Outset, startLines}
 use Rattle.start_spec.specs.Served.{someUnserved, unservedAtStart}
 
 infixl 20 _>>=_
@@ -61,16 +62,20 @@ unfoldable pub shortStart : Beginning → Course (Unit {0})
 shortStart nothing = reached tt
 shortStart (given x) = elim (startLengthOk (length x)) [ true ↦ reached tt | false ↦ faulty text.Start tooLong 0 ]
 
+-- the program from there: what the start shows had been pushed before its first line
+abbrev pub begunFrom : Program → Outset → Program
+begunFrom p x = begunWith p (x .0 .queue) (x .1)
+
 -- "50 for an unserved use port, after the start's last line, answered as 1 is"
-unfoldable pub served : Tables → Configuration → Course Configuration
-served t c = elim (someUnserved t c) [ true ↦ faulty text.Start unservedAtStart 0 | false ↦ reached c ]
+unfoldable pub served : Tables → Program → Outset → Course (Program × Configuration)
+served t p x = elim (someUnserved t (x .0)) [ true ↦ faulty text.Start unservedAtStart 0 | false ↦ reached (begunFrom p x, x .0) ]
 
 -- "no file: nothing up"; else what the start's lines give, where 0 stands for d
-unfoldable pub outset : ℕ → Tables → Beginning → Course Configuration
-outset d t nothing = reached start
-outset d t (given x) = do
-  c ← read text.Start (startLines (depthOf d t) t) x
-  served t c
+unfoldable pub outset : ℕ → Tables → Program → Beginning → Course (Program × Configuration)
+outset d t p nothing = reached (p, start)
+outset d t p (given x) = do
+  y ← read text.Start (startLines (p .edition) (depthOf d t) t) x
+  served t p y
 
 -- what the texts say, where all are read
 unfoldable pub allUnder : ℕ → Paper → List ℕ → Course (Tables × Program × Configuration × Answer)
@@ -79,9 +84,9 @@ allUnder d s a = do
   shortStart (s .beginning)
   short text.Answer a
   (t, p) ← read text.Sheet sheet (s .sheet)
-  c ← outset d t (s .beginning)
+  (b, c) ← outset d t p (s .beginning)
   y ← read text.Answer answer a
-  reached (t, p, c, y)
+  reached (t, b, c, y)
 
 -- where 0 stands for d
 abbrev pub courseUnder : ℕ → Paper → List ℕ → Course Walked

@@ -3,6 +3,7 @@
 pub mod Course
 pub mod Judged
 pub mod Cases
+pub mod Plain
 pub mod Room
 pub mod Shams
 pub mod Once

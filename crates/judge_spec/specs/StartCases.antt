@@ -1,4 +1,4 @@
--- Cases of C-20 as one table: a start of the pair used in examples, an answer, and what they must come to.
+-- Cases of C-20 as a table, and of C-20 with C-21 as another: a start of the pair used in examples, an answer, and what they must come to.
 use Prim.Native.Nat.{ℕ}
 use Prim.Native.String.{String}
 use mathlib.Core.List.{List, [], _∷_, _++_}
@@ -64,3 +64,61 @@ StartLengths =
     × (printed (upAs (xs 32769) (xs 8193)) [] ≡ bytes "text=sheet\nline=0\nrefused=1\n")
     × (printed (upAs (bytes "x") (bytes "x")) (xs 32769) ≡ bytes "text=answer\nline=0\nrefused=1\n")
     × (judged (upAs down unserved) (bytes "x") lentBytes .place ≡ emptyAt text.Start 0)
+
+-- C-20 and C-21 together: a program of one component that pushes and waits, its start, an answer, and what they must come to
+pub record TicketCase : Type 0 where
+  pub sheet : List ℕ
+  pub start : List ℕ
+  pub answer : List ℕ
+  pub prints : List ℕ
+
+abbrev pub ticketCase : String → String → String → String → TicketCase
+ticketCase p x a r = record {
+  sheet = bytes "sheet=2\ndepth=3\ntypes=1\ntype=0\nplaces=1\ninitial=0\ntransitions=0\nbehaviors=1\nbehavior=-\nports=0\nprogram=" ++ bytes p;
+  start = started x;
+  answer = bytes "answer=1\nsteps=" ++ bytes a;
+  prints = bytes r;
+}
+
+abbrev pub ticketTable : List TicketCase
+ticketTable =
+    -- the last counts as finished, a lower one was never pushed
+    ticketCase "2\ndo=wait,0,7\ndo=wait,0,6\n" "instances=1\ninstance=0,0,0,-,-,-,7\nconnections=0\n" "2\nstep=next\nstep=next\n"
+    "accepted=1\nrefused=24\nport=-\nnext=1\ninstances=1\ninstance=0,0,0,-,-,-\nconnections=0\n"
+    -- what is queued at the start is waited for; what was finished since then is not
+    ∷ ticketCase "2\ndo=wait,0,2\ndo=wait,0,5\n" "instances=1\ninstance=0,0,0,-,-,0:2+0:5,5\nconnections=0\n" "3\nstep=finish,0\nstep=next\nstep=next\n"
+    "accepted=2\nrefused=23\nport=-\nnext=1\ninstances=1\ninstance=0,0,0,-,-,0:5\nconnections=0\n"
+    -- not above the tail; above it
+    ∷ ticketCase "2\ndo=pushb,0,0,6\ndo=pushb,0,0,6\n" "instances=1\ninstance=0,0,0,-,-,0:2+0:5,5\nconnections=0\n" "2\nstep=next\nstep=next\n"
+    "accepted=1\nrefused=19\nport=-\nnext=1\ninstances=1\ninstance=0,0,0,-,-,0:2+0:5+0:6\nconnections=0\n"
+    -- not above the last of an empty queue
+    ∷ ticketCase "1\ndo=pushb,0,0,7\n" "instances=1\ninstance=0,0,0,-,-,-,7\nconnections=0\n" "1\nstep=next\n"
+    "accepted=0\nrefused=19\nport=-\nnext=0\ninstances=1\ninstance=0,0,0,-,-,-\nconnections=0\n"
+    -- a new life begins anew
+    ∷ ticketCase "4\ndo=del,0\ndo=add,0,0\ndo=pushb,0,0,0\ndo=wait,0,7\n" "instances=1\ninstance=0,0,0,-,-,-,7\nconnections=0\n" "4\nstep=next\nstep=next\nstep=next\nstep=next\n"
+    "accepted=3\nrefused=24\nport=-\nnext=3\ninstances=1\ninstance=0,0,0,-,-,0:0\nconnections=0\n"
+    -- none pushed
+    ∷ ticketCase "2\ndo=pushb,0,0,0\ndo=wait,0\n" "instances=1\ninstance=0,0,0,-,-,-,-\nconnections=0\n" "3\nstep=next\nstep=finish,0\nstep=next\n"
+    "accepted=3\nrefused=0\nport=-\nnext=2\ninstances=1\ninstance=0,0,0,-,-,-\nconnections=0\n"
+    -- a last ticket other than the tail's; none where a queue stands; no rise
+    ∷ ticketCase "0\n" "instances=1\ninstance=0,0,0,-,-,0:2+0:5,6\nconnections=0\n" "0\n"
+    "text=start\nline=3\nrefused=4\n"
+    ∷ ticketCase "0\n" "instances=1\ninstance=0,0,0,-,-,0:2,-\nconnections=0\n" "0\n"
+    "text=start\nline=3\nrefused=4\n"
+    ∷ ticketCase "0\n" "instances=1\ninstance=0,0,0,-,-,0:5+0:5,5\nconnections=0\n" "0\n"
+    "text=start\nline=3\nrefused=4\n"
+    -- 256, as a ticket and as the last
+    ∷ ticketCase "0\n" "instances=1\ninstance=0,0,0,-,-,0:256,256\nconnections=0\n" "0\n"
+    "text=start\nline=3\nrefused=3\n"
+    ∷ ticketCase "0\n" "instances=1\ninstance=0,0,0,-,-,-,256\nconnections=0\n" "0\n"
+    "text=start\nline=3\nrefused=3\n"
+    -- six fields; no ticket
+    ∷ ticketCase "0\n" "instances=1\ninstance=0,0,0,-,-,-\nconnections=0\n" "0\n"
+    "text=start\nline=3\nrefused=2\n"
+    ∷ ticketCase "0\n" "instances=1\ninstance=0,0,0,-,-,0,0\nconnections=0\n" "0\n"
+    "text=start\nline=3\nrefused=2\n"
+    ∷ []
+
+abbrev pub AllTicketed : List TicketCase → Type 0
+AllTicketed [] = Unit
+AllTicketed (k ∷ ks) = (printed (upAs (k .sheet) (k .start)) (k .answer) ≡ k .prints) × AllTicketed ks

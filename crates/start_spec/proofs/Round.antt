@@ -1,64 +1,59 @@
 -- What a report shows is read as a start: the lines of the instances present, then those of the connections, each giving back what it shows.
 -- Assumes nothing.
 use mathlib.Core.Path.{_≡_, refl, sym, ap, ap₂, _∙_, subst, subst⁻¹}
-use mathlib.Core.Logic.{_≢_, ⊎-elim, by-cases}
-use mathlib.Core.List.{List, [], _∷_, _++_, append-assoc, append-nil}
-use mathlib.Core.Bool.{Bool, true, false, not, _&&_, _||_, cond, and-false, false≢true}
-use Prim.Native.Nat.{ℕ, zero, suc, _+_, _-_, _*_, _/_, _%_, _^_, _≤_, _<_}
+use mathlib.Core.Logic.{_≢_, by-cases}
+use mathlib.Core.List.{List, [], _++_, append-assoc, append-nil}
+use mathlib.Core.Bool.{Bool, true, false, not, _&&_, _||_, and-false, false≢true}
+use Prim.Native.Nat.{ℕ, zero, suc, _+_, _-_, _/_, _%_, _^_, _≤_, _<_}
 use native.Mathlib.Nat.{lt-of-lt-of-le}
 use native.Mathlib.Omega.{arith}
 use native.Mathlib.Decide.{ℕ-discrete, decLt}
-use lib.Dec.{eqb, leb, ltb}
+use lib.Dec.{eqb}
 use lib.Pow.{pow-mono}
 use lib.ListN.{length, getD, set, length-set, List·getD-eq-default}
 use lib.Seq.{getD-set-same, getD-set-other, ext-getD}
 use borrow.Author.Tests.{eq-eqb, ne-eqb, eqb-true, eqb-false, le-leb, lt-ltb, not-true, not-false}
-use Rattle.sets.specs.Mask.{member, collect, overlaps, within, joined}
-use Rattle.sets.specs.Test.{anyBelow, tally}
+use Rattle.sets.specs.Mask.{member, collect, joined}
+use Rattle.sets.specs.Test.{tally}
 use Rattle.sets.proofs.Laws.{none-any, none-overlaps, same-members, collect-lt, member-collect, member-past}
 use Rattle.sets.proofs.Tally.{tally-le, tally-one, tally-first}
-use Rattle.item_spec.specs.Reader.{got, bytes, byte}
-use Rattle.item_spec.specs.Read.{key, number, list, oneForm, numberFrom, digit}
-use Rattle.item_spec.specs.Write.{onlyIf, numberText, listText, maskText, inTurn, oneText, fourText}
-use Rattle.item_spec.specs.Items.{items}
+use Rattle.item_spec.specs.Reader.{got, bytes}
+use Rattle.item_spec.specs.Read.{key, oneForm, numberFrom, digit}
+use Rattle.item_spec.specs.Write.{onlyIf, numberText, maskText, inTurn, oneText, fourText}
 use Rattle.item_spec.proofs.Tests.{by-test}
-use Rattle.item_spec.proofs.Round.{key-round, number-round, mask-round, one-round, four-round, topOf, top-within, comma, lf}
-use Rattle.item_spec.proofs.Items.{OneDigit, items-round}
+use Rattle.item_spec.proofs.Round.{key-round, one-round, four-round, topOf, top-within}
 use Rattle.model.specs.declared.Tables.{Tables}
 use Rattle.model.specs.declared.Program.{Program}
 use Rattle.model.specs.declared.Instance.{Instance}
 use Rattle.model.specs.declared.Connection.{Connection}
 use Rattle.model.specs.declared.Configuration.{Configuration}
-use Rattle.model.specs.declared.Walked.{Walked}
-use Rattle.model.specs.declared.Step.{Step}
-use Rattle.model.specs.Empty.{start, absent, noServer}
-use Rattle.model.specs.View.{typeOf, behaviorOf, isUse, instance, slot, queueHead, queueOf, listOf, portNumber, serverNumber, server, isServed, connectionOf, connectionAt, connection, withServers, withDone}
-use Rattle.model.proofs.View.{start-instance, start-slot, start-lengths, start-unserved, list-at, length-list, same-instances, same-queues, same-fields}
-use Rattle.read_spec.specs.Limits.{fiveDigits, listOk, idOk, typeOk, portOk}
+use Rattle.model.specs.Empty.{start, noneBegun, absent, noServer}
+use Rattle.model.specs.View.{typeOf, instance, slot, queueOf, listOf, portNumber, serverNumber, server, isServed, connectionAt, connection, withServers, withDone}
+use Rattle.model.proofs.View.{all-alike, start-instance, start-slot, start-lengths, start-unserved, list-at, length-list, same-instances, same-queues, same-fields}
+use Rattle.read_spec.specs.Limits.{hasTickets}
 use Rattle.read_spec.specs.Kinds.{dueLine, countLineIn, countLine}
-use Rattle.read_spec.specs.Lines.{Run, Lines, on, stop, runOn, line, each, atEnd}
-use Rattle.read_spec.specs.Lawful.{Lawful}
-use Rattle.rules_spec.specs.Instance.{held, current, portsOf}
+use Rattle.read_spec.specs.Lines.{Lines, on, line, each}
+use Rattle.rules_spec.specs.Instance.{current}
 use Rattle.rules_spec.specs.Standing.{standing, inTable}
 use Rattle.rules_spec.specs.Ports.{isOf}
 use Rattle.rules_spec.specs.Con.{isUsePort, isProvidePort, conCheck, connected}
 use Rattle.rules_spec.specs.PushB.{depthOf}
-use Rattle.rules_spec.specs.Proper.{ProperInstance, Joins, Proper}
+use Rattle.rules_spec.specs.Proper.{slotLimit, Joins, Proper}
 use Rattle.rules_spec.specs.Walk.{walk}
 use Rattle.rules_spec.proofs.Tables.{Facts, facts}
-use Rattle.rules_spec.proofs.Allowed.{present-in}
 use Rattle.rules_spec.proofs.Connections.{count-is, Small}
 use Rattle.rules_spec.proofs.Proper.{joins-small}
 use Rattle.report_spec.specs.Report as report
-use Rattle.report_spec.specs.Report.{countText, portText, instanceText, connectionText, instancesText, connectionsText, reportWith}
-use Rattle.report_spec.proofs.Lines.{lineAt, lines-in-turn}
-use Rattle.start_spec.specs.Row.{Row, behaviorsBelow, headOf, rowOk, heldOk, instanceLine, withRow, portIn, endsIn, joinsOk, connectionLine}
+use Rattle.report_spec.specs.Report.{countText, queueText, instanceText, connectionText, instancesText, connectionsText, reportWith}
+use Rattle.report_spec.proofs.Lines.{lineAt, lines-in-turn, in-turn-same}
+use Rattle.start_spec.specs.Row.{instanceLine, withRow, portIn, endsIn, joinsOk, connectionLine}
 use Rattle.start_spec.specs.Text as text
 use Rattle.start_spec.specs.Text.{instancesOk, connectionsOk, SoFar, startLines}
-use Rattle.start_spec.specs.Permitted.{Tidy, MayBegin}
-use Rattle.start_spec.specs.Round.{stateText, headText, startText, ReportsEndInTheState, StatesAreReadBack, ReportsAreStarts}
-use Rattle.start_spec.proofs.Proper.{Stood, stood}
+use Rattle.start_spec.specs.Permitted.{Tidy}
+use Rattle.start_spec.specs.Round.{stateText, headText, rowText, rowAt, plainStart, startText, Lasts, PlainStartsAreReports, ReportsEndInTheState, StatesAreReadBack, ReportsAreStarts}
+use Rattle.start_spec.proofs.Proper.{stood}
 use Rattle.start_spec.proofs.Tidy.{tidy-from}
+use Rattle.start_spec.proofs.RowRound.{items-length, every-at, Bare, Stamped, items-below, queue-head, rowOf, line-round}
 
 -- ---- lines in turn, some of which are left out
 
@@ -135,49 +130,18 @@ count-round : (k : List ℕ) (limit : ℕ → Bool) (n : ℕ) → n < 10 ^ 5 →
 unfolding countLineIn countText
 count-round k limit n h e s = rw (append-assoc k (oneText n) s, key-round k, one-round 5 (omega arith) (omega arith) n h s, e)
 
--- ---- an instance's line
+module _ (default : ℕ) (t : Tables) (p : Program) (law : Facts default t p) (c : Configuration) (now : Proper default t p c) (tidy : Tidy t c) (l : List ℕ) (lasts : Lasts p c l) where
+  limit-all : slotLimit p ≤ 2056
+  unfolding slotLimit
+  limit-all = by-test (hasTickets (p .edition)) (λ e. rw e (omega arith)) (λ e. rw e (omega arith))
 
--- the queue's behaviors have one digit, and are of the type
-queue-digits : (n : ℕ) (f : ℕ → ℕ) → ((r : ℕ) → r < n → f r < 10) → OneDigit (listOf n f)
-unfolding listOf
-queue-digits zero f h = tt
-queue-digits (suc n) f h = (h 0 (omega arith), queue-digits n (λ r. f (suc r)) (λ r l. h (suc r) (omega arith)))
+  limit-plain : hasTickets (p .edition) ≡ false → slotLimit p ≡ 8
+  unfolding slotLimit
+  limit-plain e = rw e
 
-queue-below : (b n : ℕ) (f : ℕ → ℕ) → ((r : ℕ) → r < n → f r < b) → behaviorsBelow b (listOf n f) ≡ true
-unfolding listOf behaviorsBelow
-queue-below b zero f h = refl
-queue-below b (suc n) f h = rw (lt-ltb (f 0) b (h 0 (omega arith)), queue-below b n (λ r. f (suc r)) (λ r l. h (suc r) (omega arith)))
-
-queue-head : (t : Tables) (k n : ℕ) (f : ℕ → ℕ) → cond (eqb n 0) 0 (behaviorOf t k (f 0)) ≡ headOf t k (listOf n f)
-unfolding listOf
-queue-head t k zero f = refl
-queue-head t k (suc n) f = rw (ne-eqb (suc n) 0 (λ e. omega arith))
-
-abbrev rowOf : Configuration → ℕ → Row
-rowOf c i = record { id = i; kind = instance c i .kind; marked = instance c i .marked; running = instance c i .running; ended = instance c i .ended; queue = queueOf c i }
-
--- a line with these numbers is read as them
-line-round : (d : ℕ) (t : Tables) (m i : ℕ) (v : Instance) (q s : List ℕ) → i < 32 → v .kind < 16 → v .marked < 2 ^ 32 → v .running < 2 ^ 32 → v .ended < 2 ^ 32 → OneDigit q
-    → rowOk d t i (v .kind) (topOf (v .marked)) (topOf (v .running)) (topOf (v .ended)) q ≡ true → heldOk t m i (v .kind) (v .running) (v .ended) q ≡ true
-    → instanceLine d t m (instanceText i v q ++ s) ≡ got (record { id = i; kind = v .kind; marked = v .marked; running = v .running; ended = v .ended; queue = q }) s
-unfolding instanceLine instanceText
-line-round d t m i v q s hi hk hm hr he one ok held =
-    simp append-assoc (rw (
-      key-round (bytes "instance="),
-      number-round 5 (omega arith) (omega arith) comma i (omega arith),
-      number-round 5 (omega arith) (omega arith) comma (v .kind) (omega arith),
-      mask-round 5 (omega arith) (omega arith) comma (v .marked) hm,
-      mask-round 5 (omega arith) (omega arith) comma (v .running) hr,
-      mask-round 5 (omega arith) (omega arith) comma (v .ended) he,
-      items-round q one,
-      ok,
-      held,
-    ))
-
-module _ (default : ℕ) (t : Tables) (p : Program) (law : Facts default t p) (c : Configuration) (now : Proper default t p c) (tidy : Tidy t c) where
   -- the line of a present instance
   present-line : (i m : ℕ) (s : List ℕ) → i < 32 → m ≤ i → instance c i .present ≡ true
-      → instanceLine (depthOf default t) t m (instanceText i (instance c i) (queueOf c i) ++ s) ≡ got (rowOf c i) s
+      → instanceLine (p .edition) (depthOf default t) t m (rowText (p .edition) i (instance c i) (queueOf c i) (getD l i 0) ++ s) ≡ got (rowOf l c i) s
   unfolding queueOf current
   present-line i m s hi hm here =
       let v = instance c i in
@@ -188,16 +152,19 @@ module _ (default : ℕ) (t : Tables) (p : Program) (law : Facts default t p) (c
       let ended = mask-bound (typeOf t (v .kind) .transitions) (v .ended) (ok .ended) in
       let places = known .places in
       let transitions = known .transitions in
-      line-round (depthOf default t) t m i v (queueOf c i) s hi (omega (arith, ok .kind, law .count))
+      line-round (p .edition) (depthOf default t) t m i v (queueOf c i) s (getD l i 0) hi (omega (arith, ok .kind, law .count))
       (lt-of-lt-of-le marked (pow-mono {j = 32} (omega arith))) (lt-of-lt-of-le running (pow-mono {j = 32} (omega arith))) (lt-of-lt-of-le ended (pow-mono {j = 32} (omega arith)))
-      (queue-digits (v .queued) (slot c i) (λ r l. omega (arith, ok .queue r l, known .behaviors)))
+      (λ e. (every-at Bare (v .queued) (slot c i) (λ r g. omega (arith, ok .tickets r g, limit-plain e)), lasts .plain e i))
+      (λ e. (every-at Stamped (v .queued) (slot c i) (λ r g. record { some = lasts .stamps e i r here g; small = omega (arith, ok .tickets r g, limit-all) }), lasts .small i))
       (rw (
         le-leb i 31 (omega arith),
         lt-ltb (v .kind) (t .count) (ok .kind),
         le-leb (topOf (v .marked)) _ (top-within _ (v .marked) (omega arith) marked),
         le-leb (topOf (v .running)) _ (top-within _ (v .running) (omega arith) running),
         le-leb (topOf (v .ended)) _ (top-within _ (v .ended) (omega arith) ended),
-        queue-below _ (v .queued) (slot c i) (ok .queue),
+        items-below (typeOf t (v .kind) .behaviors) (v .queued) (slot c i) (λ r g. (ok .queue r g, omega (arith, ok .tickets r g, limit-all))),
+        le-leb (getD l i 0) 256 (lasts .small i),
+        items-length (listOf (v .queued) (slot c i)),
         length-list (v .queued) (slot c i),
         le-leb (v .queued) (depthOf default t) (ok .short),
       ))
@@ -206,7 +173,8 @@ module _ (default : ℕ) (t : Tables) (p : Program) (law : Facts default t p) (c
         none-overlaps (v .running) (v .ended) (λ j l e. ok .disjoint j e),
         sym (queue-head t (v .kind) (v .queued) (slot c i)),
         tidy .head i here,
-      ))
+      )
+      (by-test (hasTickets (p .edition)) (λ e. rw e (lasts .tail e i here)) (λ e. rw e)))
 
   -- ---- the instances: what was read so far is c below i, and nothing from i on
   record Shown (i : ℕ) (x : SoFar) : Type 0 where
@@ -219,9 +187,12 @@ module _ (default : ℕ) (t : Tables) (p : Program) (law : Facts default t p) (c
     instances-length : length (x .0 .instances) ≡ 32
     queue-length : length (x .0 .queue) ≡ 256
     least : x .1 ≤ i
+    told : (j : ℕ) → j < i → getD (x .2) j 0 ≡ getD l j 0
+    untold : (j : ℕ) → i ≤ j → getD (x .2) j 0 ≡ 0
+    lasts-length : length (x .2) ≡ 32
 
-  shown-start : Shown 0 (start, 0)
-  unfolding start
+  shown-start : Shown 0 (start, 0, noneBegun .last)
+  unfolding start noneBegun
   shown-start =
       let (wide, long, _) = start-lengths in
       record {
@@ -234,6 +205,9 @@ module _ (default : ℕ) (t : Tables) (p : Program) (law : Facts default t p) (c
         instances-length = wide;
         queue-length = long;
         least = omega arith;
+        told = λ j g. absurd (omega arith);
+        untold = λ j _. all-alike 32 j 0;
+        lasts-length = refl;
       }
 
   -- an absent instance is not shown
@@ -252,6 +226,9 @@ module _ (default : ℕ) (t : Tables) (p : Program) (law : Facts default t p) (c
         instances-length = m .instances-length;
         queue-length = m .queue-length;
         least = let l = m .least in omega arith;
+        told = λ j g. by-cases (ℕ-discrete j i) (λ e. ap (λ (n : ℕ). getD (x .2) n 0) e ∙ m .untold i (omega arith) ∙ sym (lasts .gone i off) ∙ sym (ap (λ (n : ℕ). getD l n 0) e)) (λ n. m .told j (omega arith));
+        untold = λ j g. m .untold j (omega arith);
+        lasts-length = m .lasts-length;
       }
 
   -- the record that a line says is the instance's own
@@ -266,17 +243,17 @@ module _ (default : ℕ) (t : Tables) (p : Program) (law : Facts default t p) (c
       (λ l. List·getD-eq-default (listOf (instance c i .queued) (slot c i)) 0 {n = r} (rw (length-list (instance c i .queued) (slot c i)) (omega arith)) ∙ sym (tidy .free i r h (omega arith)))
 
   shown-take : (i j : ℕ) (x : SoFar) (s : List ℕ) → i < 32 → instance c i .present ≡ true → Shown i x
-      → (y : SoFar) × ((text.instanceAt (depthOf default t) t j x (instanceText i (instance c i) (queueOf c i) ++ s) ≡ on y s) × Shown (suc i) y)
+      → (y : SoFar) × ((text.instanceAt (p .edition) (depthOf default t) t j x (rowText (p .edition) i (instance c i) (queueOf c i) (getD l i 0) ++ s) ≡ on y s) × Shown (suc i) y)
   unfolding text.instanceAt queueOf
   shown-take i j x s h here m =
       let v = instance c i in
-      let w = rowOf c i in
+      let w = rowOf l c i in
       let ok = now .each i here in
       let count = length-list (v .queued) (slot c i) in
       let few : length (w .queue) ≤ 8 = let a = ok .short in let b = law .depth in omega (arith, count) in
       let f = stood default t p law (x .0) w h few (m .instances-length) (m .queue-length) in
       let mine : instance (withRow t (x .0) w) i ≡ v = f .mine ∙ own-record v (length (w .queue)) here count in (
-        (withRow t (x .0) w, suc i),
+        (withRow t (x .0) w, suc i, set (x .2) i (getD l i 0)),
         (
           rw (present-line i (x .1) s h (m .least) here),
           record {
@@ -291,6 +268,11 @@ module _ (default : ℕ) (t : Tables) (p : Program) (law : Facts default t p) (c
             instances-length = f .instances-length;
             queue-length = f .queue-length;
             least = omega arith;
+            told = λ k g. by-cases (ℕ-discrete k i)
+                (λ e. ap (λ (n : ℕ). getD (set (x .2) i (getD l i 0)) n 0) e ∙ getD-set-same (x .2) i (getD l i 0) 0 (rw (m .lasts-length) h) ∙ sym (ap (λ (n : ℕ). getD l n 0) e))
+                (λ n. getD-set-other (x .2) i k _ 0 n ∙ m .told k (omega arith));
+            untold = λ k g. getD-set-other (x .2) i k _ 0 (λ e. omega arith) ∙ m .untold k (omega arith);
+            lasts-length = length-set (x .2) i _ ∙ m .lasts-length;
           },
         ),
       )
@@ -306,12 +288,13 @@ module _ (default : ℕ) (t : Tables) (p : Program) (law : Facts default t p) (c
     queue-length : length (x .0 .queue) ≡ 256
     servers-length : length (x .0 .servers) ≡ 512
     least : x .1 ≤ s
+    told : x .2 ≡ l
 
   free-start : (n : ℕ) → server (start .servers) n ≡ noServer
   unfolding isServed
   free-start n = eqb-true _ _ (not-false _ (start-unserved n))
 
-  wired-start : (x : SoFar) → Shown 32 x → Wired 0 (x .0, 0)
+  wired-start : (x : SoFar) → Shown 32 x → Wired 0 (x .0, 0, x .2)
   wired-start x m =
       let (_, _, full) = start-lengths in
       record {
@@ -324,6 +307,7 @@ module _ (default : ℕ) (t : Tables) (p : Program) (law : Facts default t p) (c
         queue-length = m .queue-length;
         servers-length = ap length (m .servers) ∙ full;
         least = omega arith;
+        told = ext-getD 0 (x .2) l (m .lasts-length ∙ sym (lasts .long)) (λ j g. m .told j (rw (m .lasts-length) at g));
       }
 
   wired-skip : (s : ℕ) (x : SoFar) → s < 512 → isServed (c .servers) s ≡ false → Wired s x → Wired (suc s) x
@@ -341,6 +325,7 @@ module _ (default : ℕ) (t : Tables) (p : Program) (law : Facts default t p) (c
         queue-length = m .queue-length;
         servers-length = m .servers-length;
         least = let l = m .least in omega arith;
+        told = m .told;
       }
 
   -- the connection in slot s, beside what was read so far
@@ -464,7 +449,7 @@ module _ (default : ℕ) (t : Tables) (p : Program) (law : Facts default t p) (c
     wired-take : (j : ℕ) (r : List ℕ) → (y : SoFar) × ((text.connectionAt t j x (connectionText k ++ r) ≡ on y r) × Wired (suc s) y)
     unfolding text.connectionAt connected withServers
     wired-take j r = (
-      (connected (x .0) k, suc (portNumber (k .user) (k .useport))),
+      (connected (x .0) k, suc (portNumber (k .user) (k .useport)), x .2),
       (
         rw (join-round r),
         record {
@@ -479,6 +464,7 @@ module _ (default : ℕ) (t : Tables) (p : Program) (law : Facts default t p) (c
           queue-length = m .queue-length;
           servers-length = length-set (x .0 .servers) _ _ ∙ m .servers-length;
           least = omega (arith, its-slot);
+          told = m .told;
         },
       ),
     )
@@ -498,7 +484,7 @@ module _ (default : ℕ) (t : Tables) (p : Program) (law : Facts default t p) (c
   shows i = instance c i .present
 
   abbrev instanceLines : List ℕ
-  instanceLines = turnFrom (λ i. onlyIf (shows i) (instanceText i (instance c i) (queueOf c i))) 0 32
+  instanceLines = turnFrom (λ i. onlyIf (shows i) (rowText (p .edition) i (instance c i) (queueOf c i) (getD l i 0))) 0 32
 
   abbrev stands : ℕ → Bool
   stands s = isServed (c .servers) s
@@ -506,9 +492,9 @@ module _ (default : ℕ) (t : Tables) (p : Program) (law : Facts default t p) (c
   abbrev connectionLines : List ℕ
   connectionLines = turnFrom (λ s. onlyIf (stands s) (connectionText (connection c s))) 0 512
 
-  instances-are : instancesText c ≡ instanceLines
-  unfolding instancesText report.instanceAt
-  instances-are = in-turn-is (report.instanceAt c) 32
+  instances-are : inTurn (rowAt (p .edition) l c) 32 ≡ instanceLines
+  unfolding rowAt
+  instances-are = in-turn-is (rowAt (p .edition) l c) 32
 
   connections-are : connectionsText c ≡ connectionLines
   unfolding report.connectionLine isServed
@@ -518,8 +504,8 @@ module _ (default : ℕ) (t : Tables) (p : Program) (law : Facts default t p) (c
   textOf =
       bytes "start=1\n" ++ (countText (bytes "instances=") (countFrom shows 0 32) ++ (instanceLines ++ (countText (bytes "connections=") (countFrom stands 0 512) ++ (connectionLines ++ []))))
 
-  text-is : startText c ≡ textOf
-  unfolding startText stateText
+  text-is : startText (p .edition) l c ≡ textOf
+  unfolding startText
   text-is =
       rw (
         tally-is shows 32,
@@ -532,16 +518,16 @@ module _ (default : ℕ) (t : Tables) (p : Program) (law : Facts default t p) (c
         append-assoc (countText (bytes "instances=") (countFrom shows 0 32)) instanceLines (countText (bytes "connections=") (countFrom stands 0 512) ++ connectionLines),
       )
 
-  pub read-back : startLines (depthOf default t) t (startText c) ≡ on (withDone c 0) []
+  pub read-back : startLines (p .edition) (depthOf default t) t (startText (p .edition) l c) ≡ on (withDone c 0, l) []
   unfolding startLines
   read-back =
       let few : countFrom shows 0 32 ≤ 32 = omega (arith, tally-is shows 32, tally-le 32 shows) in
       let joined : countFrom stands 0 512 ≤ 64 = omega (arith, tally-is stands 512, count-is (c .servers) (now .servers-length), now .few) in
-      let (x, (first, m)) = sparse (text.instanceAt (depthOf default t) t) shows (λ i. instanceText i (instance c i) (queueOf c i)) Shown 32 shown-skip (λ i j a s h e n. shown-take i j a s h e n)
-      32 0 0 (start, 0) (countText (bytes "connections=") (countFrom stands 0 512) ++ (connectionLines ++ [])) (omega arith) shown-start in
+      let (x, (first, m)) = sparse (text.instanceAt (p .edition) (depthOf default t) t) shows (λ i. rowText (p .edition) i (instance c i) (queueOf c i) (getD l i 0)) Shown 32 shown-skip (λ i j a s h e n. shown-take i j a s h e n)
+      32 0 0 (start, 0, noneBegun .last) (countText (bytes "connections=") (countFrom stands 0 512) ++ (connectionLines ++ [])) (omega arith) shown-start in
       let (y, (second, n)) = sparse (text.connectionAt t) stands (λ s. connectionText (connection c s)) Wired 512 wired-skip (λ s j a r h e n. wired-take s a h e n j r)
-      512 0 0 (x .0, 0) [] (omega arith) (wired-start x m) in
-      ap (startLines (depthOf default t) t) text-is
+      512 0 0 (x .0, 0, x .2) [] (omega arith) (wired-start x m) in
+      ap (startLines (p .edition) (depthOf default t) t) text-is
       ∙ rw (
         due-round (countText (bytes "instances=") (countFrom shows 0 32) ++ (instanceLines ++ (countText (bytes "connections=") (countFrom stands 0 512) ++ (connectionLines ++ [])))),
         count-round (bytes "instances=") instancesOk (countFrom shows 0 32) (omega arith) (le-leb (countFrom shows 0 32) 32 few) (instanceLines ++ (countText (bytes "connections=") (countFrom stands 0 512) ++ (connectionLines ++ []))),
@@ -549,19 +535,48 @@ module _ (default : ℕ) (t : Tables) (p : Program) (law : Facts default t p) (c
         count-round (bytes "connections=") connectionsOk (countFrom stands 0 512) (omega arith) (le-leb (countFrom stands 0 512) 64 joined) (connectionLines ++ []),
         second,
       )
-      (ap (λ (d : Configuration). on d []) (all-same y n))
+      (ap₂ (λ (d : Configuration) (k : List ℕ). on (d, k) []) (all-same y n) (n .told))
 
 -- ---- the claims
 pub states-are-read-back : StatesAreReadBack
 unfolding StatesAreReadBack
-states-are-read-back default t p c small law now tidy = read-back default t p (facts default t p small law) c now tidy
+states-are-read-back default t p c l small law now tidy lasts = read-back default t p (facts default t p small law) c now tidy l lasts
+
+pub plain-starts-are-reports : PlainStartsAreReports
+unfolding PlainStartsAreReports plainStart startText stateText rowAt report.instanceAt rowText instanceText instancesText
+plain-starts-are-reports e l c plain = rw (lines-plain)
+  where
+    row-plain : (i : ℕ) (w : Instance) (q : List ℕ) (k : ℕ) → rowText e i w q k ≡ instanceText i w q
+    row-plain i w q k = rw plain (ap (λ (a : List ℕ). a ++ bytes "\n") (append-nil (bytes "instance=" ++ numberText i ++ bytes "," ++ numberText (w .kind) ++ bytes "," ++ maskText (w .marked) ++ bytes ","
+        ++ maskText (w .running) ++ bytes "," ++ maskText (w .ended) ++ bytes "," ++ queueText q)))
+
+    line-plain : (i : ℕ) → rowAt e l c i ≡ report.instanceAt c i
+    line-plain i = ap (onlyIf (instance c i .present)) (row-plain i (instance c i) (queueOf c i) (getD l i 0))
+
+    lines-plain : inTurn (rowAt e l c) 32 ≡ instancesText c
+    lines-plain = in-turn-same 32 (rowAt e l c) (report.instanceAt c) (λ i _. line-plain i)
+
+-- without tickets there is no last one
+pub no-lasts : (p : Program) (c : Configuration) → hasTickets (p .edition) ≡ false → Lasts p c (noneBegun .last)
+unfolding noneBegun
+no-lasts p c plain =
+    record {
+      long = refl;
+      small = λ i. rw (all-alike {A = ℕ} 32 i 0) (omega arith);
+      gone = λ i _. all-alike 32 i 0;
+      plain = λ _ i. all-alike 32 i 0;
+      stamps = λ has. absurd (false≢true (sym plain ∙ has));
+      tail = λ has. absurd (false≢true (sym plain ∙ has));
+    }
 
 pub reports-are-starts : ReportsAreStarts
-unfolding ReportsAreStarts
-reports-are-starts default t p c ss small law b =
+unfolding ReportsAreStarts PlainStartsAreReports
+reports-are-starts default t p c ss small law plain b =
     let known = facts default t p small law in
+    let d = walk default t p c ss .configuration in
     let (now, tidy) = tidy-from default t p known ss c (b .permitted .proper, b .permitted .tidy) in
-    read-back default t p known (walk default t p c ss .configuration) now tidy
+    ap (startLines (p .edition) (depthOf default t) t) (sym (plain-starts-are-reports (p .edition) (noneBegun .last) d plain))
+    ∙ read-back default t p known d now tidy (noneBegun .last) (no-lasts p d plain)
 
 pub reports-end-in-the-state : ReportsEndInTheState
 unfolding ReportsEndInTheState report.report reportWith headText stateText

@@ -159,7 +159,7 @@ module _ (default : ℕ) (t : Tables) (p : Program) (law : Facts default t p) (c
             (λ z. rw (eq-eqb (suc r) (v .queued) z)) (λ z. rw (ne-eqb (suc r) (v .queued) z) (old .free i r l (omega arith))));
       }
 
-  action-tidy : (a : Action) → Lawfully t a → checkAt default t c a ≡ 0 → Tidy t (effect t c a)
+  action-tidy : (a : Action) → Lawfully t p a → checkAt default t c a ≡ 0 → Tidy t (effect t c a)
   action-tidy a new ok = record { head = λ i. at i .head; gone = λ i. at i .gone; free = λ i. at i .free }
     where
       fits : Room c a
