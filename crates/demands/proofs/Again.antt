@@ -16,7 +16,9 @@ use Rattle.model.specs.declared.Step.{Step}
 use Rattle.model.specs.declared.Connection.{Connection}
 use Rattle.model.specs.declared.Configuration.{Configuration}
 use Rattle.model.specs.declared.Walked.{Walked}
-use Rattle.model.specs.View.{instance, connection, withDone}
+use Rattle.model.specs.View.{instance, connection, begunWith, withDone}
+use Rattle.model.specs.Empty.{noneBegun}
+use Rattle.read_spec.specs.Limits.{hasTickets}
 use Rattle.read_spec.specs.Lawful.{Lawful}
 use Rattle.rules_spec.specs.Ports.{serves, blocks, employs, failsUnconnected, failsUnserved, failsRefusing, failsInUse, portCheck}
 use Rattle.rules_spec.specs.Proper.{Proper}
@@ -33,7 +35,7 @@ use Rattle.start_spec.specs.Paper.{Paper, given}
 use Rattle.start_spec.specs.Text.{startLines}
 use Rattle.start_spec.specs.Served.{failsStill, someUnserved, AllServed, FiftyExactly}
 use Rattle.start_spec.specs.Permitted.{MayBegin}
-use Rattle.start_spec.specs.Round.{stateText, headText, startText, ReportsEndInTheState, ReportsAreStarts}
+use Rattle.start_spec.specs.Round.{stateText, headText, plainStart, ReportsEndInTheState, ReportsAreStarts}
 use Rattle.start_spec.proofs.Fifty.{fifty-exactly}
 use Rattle.start_spec.proofs.Round.{reports-end-in-the-state, reports-are-starts}
 use Rattle.judge_spec.specs.Course.{reached, read, served, shortStart, outset, defaultDepth}
@@ -44,7 +46,7 @@ use Rattle.demands.proofs.Safe.{walks-are-safe}
 use Rattle.demands.proofs.OnTexts.{Goes, read-goes}
 
 -- a safe configuration has no unserved use port
-served-is : (t : Tables) (c : Configuration) → Safe t c → someUnserved t c ≡ false
+pub served-is : (t : Tables) (c : Configuration) → Safe t c → someUnserved t c ≡ false
 unfolding Safe FiftyExactly AllServed serves
 served-is t c safe =
     fifty-exactly t c .1
@@ -53,7 +55,7 @@ served-is t c safe =
     joined-some c (serves t c i q) (connection c (s .at)) (s .at, s .within, s .stands, refl) (rw (eq-eqb (connection c (s .at) .user) i (s .user), eq-eqb (connection c (s .at) .useport) q (s .useport), s .provider)))
 
 -- how far the program is, isn't looked at
-unserved-done : (t : Tables) (c : Configuration) → someUnserved t c ≡ false → someUnserved t (withDone c 0) ≡ false
+pub unserved-done : (t : Tables) (c : Configuration) → someUnserved t c ≡ false → someUnserved t (withDone c 0) ≡ false
 unfolding withDone someUnserved failsStill portCheck failsUnconnected failsUnserved failsRefusing failsInUse serves blocks employs
 unserved-done t c e = e
 
@@ -62,9 +64,9 @@ head-long : (w : Walked) → 8 ≤ length (headText w)
 unfolding headText countText
 head-long w = simp length-append (omega arith)
 
-module _ (t : Tables) (p : Program) (c : Configuration) (ss : List Step) (law : Lawful t p) (b : MayBegin defaultDepth t p c) (few : length ss ≤ 1024) where
-  start-short : length (startText (walk defaultDepth t p c ss .configuration)) ≤ 8192
-  unfolding ReportsEndInTheState startText
+module _ (t : Tables) (p : Program) (c : Configuration) (ss : List Step) (law : Lawful t p) (b : MayBegin defaultDepth t p c) (few : length ss ≤ 1024) (plain : hasTickets (p .edition) ≡ false) where
+  start-short : length (plainStart (walk defaultDepth t p c ss .configuration)) ≤ 8192
+  unfolding ReportsEndInTheState plainStart
   start-short =
       let w = walk defaultDepth t p c ss in
       let known = facts defaultDepth t p (omega arith) law in
@@ -74,11 +76,12 @@ module _ (t : Tables) (p : Program) (c : Configuration) (ss : List Step) (law : 
       (walk-port-small defaultDepth t p known ss c (b .permitted .proper)) in
       omega (arith, l, ap length (reports-end-in-the-state w), length-append (headText w) (stateText (w .configuration)), length-append (bytes "start=1\n") (stateText (w .configuration)), head-long w)
 
-  start-given : outset defaultDepth t (given (startText (walk defaultDepth t p c ss .configuration))) ≡ reached (withDone (walk defaultDepth t p c ss .configuration) 0)
-  unfolding outset read served ReportsAreStarts WalksAreSafe
+  start-given : outset defaultDepth t p (given (plainStart (walk defaultDepth t p c ss .configuration)))
+      ≡ reached (begunWith p (walk defaultDepth t p c ss .configuration .queue) (noneBegun .last), withDone (walk defaultDepth t p c ss .configuration) 0)
+  unfolding outset read served plainStart withDone ReportsAreStarts WalksAreSafe
   start-given =
       rw (
-        reports-are-starts defaultDepth t p c ss (omega arith) law b,
+        reports-are-starts defaultDepth t p c ss (omega arith) law plain b,
         read,
         unserved-done t (walk defaultDepth t p c ss .configuration) (served-is t _ (walks-are-safe defaultDepth t p c ss (omega arith) law b)),
         served,
@@ -86,8 +89,8 @@ module _ (t : Tables) (p : Program) (c : Configuration) (ss : List Step) (law : 
 
 pub reports-are-starts-on-texts : ReportsAreStartsOnTexts
 unfolding ReportsAreStartsOnTexts shortStart
-reports-are-starts-on-texts s a n r =
+reports-are-starts-on-texts s a n r plain =
     let g = read-goes s a r in
     let few : length (upTo n a) ≤ 1024 = omega (arith, g .said .few, length-take n (answerSteps a)) in
-    let short = start-short (sheetTables s) (sheetProgram s) (beginOf s) (upTo n a) (g .lawful) (g .begins-well) few in
-    (short, rw (le-leb (length (startText (walkOn s (upTo n a) .configuration))) 8192 short, shortStart), start-given (sheetTables s) (sheetProgram s) (beginOf s) (upTo n a) (g .lawful) (g .begins-well) few)
+    let short = start-short (sheetTables s) (sheetProgram s) (beginOf s) (upTo n a) (g .lawful) (g .begins-well) few plain in
+    (short, rw (le-leb (length (plainStart (walkOn s (upTo n a) .configuration))) 8192 short, shortStart), start-given (sheetTables s) (sheetProgram s) (beginOf s) (upTo n a) (g .lawful) (g .begins-well) few plain)

@@ -121,15 +121,16 @@ apart-is c i j e k x =
     let none = joined-none c (between i j) k e x in
     (λ u v. false≢true (sym none ∙ rw (eq-eqb _ _ u, eq-eqb _ _ v)), λ u v. false≢true (sym none ∙ rw (eq-eqb _ _ u, eq-eqb _ _ v) (or-true (eqb (k .user) i && eqb (k .provider) j))))
 
--- a move adds nothing
-move-lawfully : (t : Tables) {a : Action} {i : ℕ} → MoveOf a i → Lawfully t a
+-- a move adds nothing and pushes nothing
+move-lawfully : (t : Tables) (p : Program) {a : Action} {i : ℕ} → MoveOf a i → Lawfully t p a
 unfolding isMove
-move-lawfully t m j k e = absurd (false≢true (sym (ap isMove e) ∙ m .is-move))
+move-lawfully t p m =
+    record { added = λ j k e. absurd (false≢true (sym (ap isMove e) ∙ m .is-move)); pushed = λ j b e. absurd (false≢true (sym (ap isMove e) ∙ m .is-move)) }
 
 module _ (default : ℕ) (t : Tables) (p : Program) (law : Facts default t p) where
   module _ (c : Configuration) (now : Proper default t p c) (a : Action) (i : ℕ) (m : MoveOf a i) (ok : checkAt default t c a ≡ 0) where
     move-proper : Proper default t p (effect t c a)
-    move-proper = action-proper default t p law c now a (move-lawfully t m) ok
+    move-proper = action-proper default t p law c now a (move-lawfully t p m) ok
 
     -- a move of i leaves what a move of j looks at
     near-after : (j : ℕ) → j ≢ i → Apart c i j → Near c (effect t c a) j
@@ -145,7 +146,7 @@ module _ (default : ℕ) (t : Tables) (p : Program) (law : Facts default t p) wh
         }
       where
         fits : Room c a
-        fits = room default t p law c now a (move-lawfully t m) ok
+        fits = room default t p law c now a (move-lawfully t p m) ok
 
     number-kept : (b : Action) (j : ℕ) → MoveOf b j → j ≢ i → Apart c i j → checkAt default t (effect t c a) b ≡ checkAt default t c b
     number-kept b j n other apart =
@@ -153,7 +154,7 @@ module _ (default : ℕ) (t : Tables) (p : Program) (law : Facts default t p) wh
         (λ _ near. check-same default t c (effect t c a) b (n .is-move) near) (near-after j other apart)
 
     move-part : (k : ℕ) → k < 32 → part (effect t c a) k ≡ acted t k a (part c k)
-    move-part = part-after default t p law c now a (move-lawfully t m) ok
+    move-part = part-after default t p law c now a (move-lawfully t p m) ok
 
   -- ---- a move a of i and a move b of j, one after the other
   module _ (c : Configuration) (now : Proper default t p c) (a b : Action) (i j : ℕ) (m : MoveOf a i) (n : MoveOf b j) (other : i ≢ j) (apart : Apart c i j)

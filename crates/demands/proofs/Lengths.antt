@@ -43,7 +43,7 @@ lineBytes s = cond (isNext s) 10 (bytesOf (moveAction s))
 
 line-bytes : (p : Program) (n : ℕ) → bytesOf (actionAt p n) ≡ 10
 unfolding actionAt bytesOf
-line-bytes p n = instruction-cases (λ a. bytesOf a ≡ 10) (getD (p .instructions) n noInstruction) (λ _. refl) refl refl refl refl refl
+line-bytes p n = instruction-cases (λ a. bytesOf a ≡ 10) _ _ (λ _. refl) refl (λ _. refl) refl refl (λ _. refl) refl refl
 
 -- of a step that a line says
 step-bytes : (s : Step) → stepFault s ≡ 0 → length (stepText s) ≡ lineBytes s

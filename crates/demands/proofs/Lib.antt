@@ -1,5 +1,6 @@
 pub mod Safe
 pub mod Queues
+pub mod Tickets
 pub mod Parts
 pub mod Moves
 pub mod Exchange
@@ -7,5 +8,7 @@ pub mod Traces
 pub mod Agree
 pub mod Lengths
 pub mod OnTexts
+pub mod TicketTexts
+pub mod Lasts
 pub mod Again
 pub mod Alone

@@ -21,7 +21,7 @@ isMove a = leb 6 (kindOf a)
 
 pub line-no-move : (p : Program) (n : ℕ) → isMove (actionAt p n) ≡ false
 unfolding actionAt isMove
-line-no-move p n = instruction-cases (λ a. isMove a ≡ false) (getD (p .instructions) n noInstruction) (λ _. refl) refl refl refl refl refl
+line-no-move p n = instruction-cases (λ a. isMove a ≡ false) _ _ (λ _. refl) refl (λ _. refl) refl refl (λ _. refl) refl refl
 
 module _ (s : Step) where
   pub move-is-move : isMove (moveAction s) ≡ true

@@ -17,23 +17,24 @@ use Rattle.model.specs.declared.Text.{Text}
 use Rattle.model.specs.declared.Text.the-variants as text
 use Rattle.model.specs.declared.Step.{Step}
 use Rattle.model.specs.declared.Answer.{Answer}
+use Rattle.model.specs.declared.Program.{Program}
 use Rattle.model.specs.View.{stepsOf}
-use Rattle.read_spec.specs.Limits.{lengthOk}
+use Rattle.read_spec.specs.Limits.{lengthOk, hasTickets}
 use Rattle.read_spec.specs.Lines.{Run, on, stop}
 use Rattle.read_spec.specs.Texts.{answer}
 use Rattle.read_spec.specs.Lawful.{Lawful, SheetsAreLawful}
-use Rattle.read_spec.proofs.Lawful.{sheets-are-lawful}
+use Rattle.read_spec.proofs.Lawful.{sheets-are-lawful, sheet-begun}
 use Rattle.rules_spec.specs.Walk.{walkFrom}
 use Rattle.report_spec.specs.Report.{report}
 use Rattle.start_spec.specs.Paper.{Beginning, Paper}
-use Rattle.start_spec.specs.Permitted.{MayBegin}
+use Rattle.start_spec.specs.Permitted.{MayBegin, TicketsFit}
 use Rattle.judge_spec.specs.Course.{Course, faulty, reached, defaultDepth, short, shortStart, read, served, outset, allUnder, course}
 use Rattle.judge_spec.specs.Judged.{afterFault, afterWalk, stepPlace, inRoom, ending, judged, printing, printed}
 use Rattle.judge_spec.specs.Room.{ReportsFit}
 use Rattle.judge_spec.proofs.Read as Judged
-use Rattle.judge_spec.proofs.Read.{Begun, empty, up, all-read, begun-well, fault-numbered}
+use Rattle.judge_spec.proofs.Read.{Begun, empty, up, all-read, begun-lawful, begun-edition, begun-well, begun-fits, fault-numbered}
 use Rattle.judge_spec.proofs.Room.{reports-fit}
-use Rattle.demands.specs.OnTexts.{sheetTables, sheetProgram, beginOf, answerSteps, AllRead, AllAllowed, walkOn, upTo, ReachedIsTheWalk, SafeOnTexts, QueuesOnTexts, SameReports, ReportsAgreeOnTexts, Exchanged, exchangedSteps, exchangedText, MovesExchangeOnTexts}
+use Rattle.demands.specs.OnTexts.{sheetTables, ownProgram, outsetOf, sheetProgram, beginOf, answerSteps, AllRead, AllAllowed, walkOn, upTo, ReachedIsTheWalk, SafeOnTexts, QueuesOnTexts, SameReports, ReportsAgreeOnTexts, Exchanged, exchangedSteps, exchangedText, MovesExchangeOnTexts}
 use Rattle.demands.specs.Safe.{WalksAreSafe}
 use Rattle.demands.specs.Queues.{QueuesAreKept}
 use Rattle.demands.specs.Exchange.{MovesExchange}
@@ -49,37 +50,60 @@ use Rattle.demands.proofs.Agree.{reports-agree}
 
 -- ---- what the texts come to
 
-begun-is : (t : Tables) (g : Beginning) (c : Configuration) → Begun defaultDepth t g c → outset defaultDepth t g ≡ reached c
+begun-is : (t : Tables) (p : Program) (g : Beginning) (x : Program × Configuration) → Begun defaultDepth t p g x → outset defaultDepth t p g ≡ reached x
 unfolding outset read served
-begun-is t _ _ empty = refl
-begun-is t _ _ (up e q) = rw (e, read, q, served)
+begun-is t p _ _ empty = refl
+begun-is t p _ _ (up e q) = rw (e, read, q, served)
 
-begin-is : (s : Paper) (a : List ℕ) (w : Walked) (b : Judged.AllRead s a w) → beginOf s ≡ b .begin
-unfolding beginOf sheetTables
-begin-is s a w b = rw (b .sheet-is, sheetTables, begun-is (b .tables) (s .beginning) (b .begin) (b .begun), beginOf)
+module _ (s : Paper) (a : List ℕ) (w : Walked) (b : Judged.AllRead s a w) where
+  tables-are : sheetTables s ≡ b .tables
+  unfolding sheetTables
+  tables-are = rw (b .sheet-is, sheetTables)
+
+  outset-is : outsetOf s ≡ (b .program, b .begin)
+  unfolding outsetOf ownProgram sheetTables
+  outset-is = rw (b .sheet-is, sheetTables, ownProgram, begun-is (b .tables) (b .sheet-program) (s .beginning) (b .program, b .begin) (b .begun), outsetOf)
+
+  pub program-is : sheetProgram s ≡ b .program
+  unfolding sheetProgram
+  program-is = ap (λ (x : Program × Configuration). x .0) outset-is
+
+  begin-is : beginOf s ≡ b .begin
+  unfolding beginOf
+  begin-is = ap (λ (x : Program × Configuration). x .1) outset-is
+
+  steps-are : answerSteps a ≡ stepsOf (b .steps)
+  unfolding answerSteps
+  steps-are = rw (b .answer-is, answerSteps)
 
 pub reached-is-the-walk : ReachedIsTheWalk
-unfolding ReachedIsTheWalk walkFrom sheetTables sheetProgram answerSteps
+unfolding ReachedIsTheWalk walkFrom
 reached-is-the-walk s a w e =
     let b = all-read s a w e in
-    b .walked ∙ ap (λ (c : Configuration). walkFrom defaultDepth (b .tables) (b .program) c (b .steps)) (sym (begin-is s a w b)) ∙ rw (b .sheet-is, b .answer-is, sheetTables, sheetProgram, answerSteps)
+    b .walked ∙ rw (tables-are s a w b, program-is s a w b, begin-is s a w b, steps-are s a w b)
 
 -- the walk is reached, the sheet is lawful, and the answer is the text of its steps
 pub record Goes (s : Paper) (a : List ℕ) : Type 0 where
   pub is : course s a ≡ reached (walkOn s (answerSteps a))
   pub lawful : Lawful (sheetTables s) (sheetProgram s)
   pub begins-well : MayBegin defaultDepth (sheetTables s) (sheetProgram s) (beginOf s)
+  pub fits : hasTickets (sheetProgram s .edition) ≡ true → TicketsFit (sheetProgram s) (beginOf s)
   pub said : SaidSteps (answerSteps a)
   pub text : a ≡ answerText (ofSteps (answerSteps a))
 
 pub read-goes : (s : Paper) (a : List ℕ) → AllRead s a → Goes s a
-unfolding ReachedIsTheWalk sheetTables sheetProgram answerSteps SheetsAreLawful AnswersAreTheirTexts
+unfolding ReachedIsTheWalk answerSteps SheetsAreLawful AnswersAreTheirTexts
 read-goes s a (w, e) =
     let b = all-read s a w e in
+    let law = sheets-are-lawful (s .sheet) _ _ _ (b .sheet-is) in
+    let none = sheet-begun (s .sheet) _ _ _ (b .sheet-is) in
+    let same = begun-edition (b .tables) (b .sheet-program) (s .beginning) (b .program, b .begin) (b .begun) in
     record {
       is = e ∙ ap reached (reached-is-the-walk s a w e);
-      lawful = rw (b .sheet-is, sheetTables, sheetProgram) (sheets-are-lawful (s .sheet) _ _ _ (b .sheet-is));
-      begins-well = rw (begin-is s a w b, b .sheet-is, sheetTables, sheetProgram) (begun-well (b .tables) (b .program) (sheets-are-lawful (s .sheet) _ _ _ (b .sheet-is)) (s .beginning) (b .begin) (b .begun));
+      lawful = rw (tables-are s a w b, program-is s a w b) (begun-lawful (b .tables) (b .sheet-program) law (s .beginning) (b .program, b .begin) (b .begun));
+      begins-well = rw (tables-are s a w b, program-is s a w b, begin-is s a w b) (begun-well (b .tables) (b .sheet-program) law (s .beginning) (b .program, b .begin) (b .begun));
+      fits = rw (program-is s a w b, begin-is s a w b)
+          (λ has. begun-fits (b .tables) (b .sheet-program) law (ap hasTickets (sym same) ∙ has) none (s .beginning) (b .program, b .begin) (b .begun));
       said = rw (b .answer-is, answerSteps) (answers-are-their-texts a _ _ (b .answer-is) .0);
       text = rw (b .answer-is, answerSteps) (answers-are-their-texts a _ _ (b .answer-is) .1);
     }
@@ -99,7 +123,7 @@ allowed-reads s a = go (course s a) refl
     go (faulty x n at) e q = absurd (⊎-elim (λ l. omega arith) (λ l. omega arith) (fault-numbered s a x n at e .range))
     go (reached w) e q = (w, e)
 
-allowed-goes : (s : Paper) (a : List ℕ) → AllAllowed s a → Goes s a × (walkOn s (answerSteps a) .refused ≡ 0)
+pub allowed-goes : (s : Paper) (a : List ℕ) → AllAllowed s a → Goes s a × (walkOn s (answerSteps a) .refused ≡ 0)
 allowed-goes s a q = let g = read-goes s a (allowed-reads s a q) in (g, sym (number-is s a _ (g .is)) ∙ q)
 
 -- in any room only the place of the offending line looks at the answer
@@ -141,7 +165,7 @@ as-long-reads s a b y r l is (w, e) =
         by-test (lengthOk (length a))
         (λ q.
         let x = all-read s a w e in
-        (walkFrom defaultDepth (x .tables) (x .program) (x .begin) y, rw (course, allUnder, short, p, f, ← l, q, read, x .sheet-is, begun-is (x .tables) (s .beginning) (x .begin) (x .begun), is) refl))
+        (walkFrom defaultDepth (x .tables) (x .program) (x .begin) y, rw (course, allUnder, short, p, f, ← l, q, read, x .sheet-is, begun-is (x .tables) (x .sheet-program) (s .beginning) (x .program, x .begin) (x .begun), is) refl))
         (λ q. absurd (not-reached (rw (course, allUnder, short, p, f, q) at e)))
 
 -- the exchanged text: as long as the answer, read beside the same sheet, and as the exchanged steps

@@ -49,7 +49,7 @@ parts-same : {v w : Instance} {s u : List ℕ} → v ≡ w → s ≡ u → _≡_
 parts-same = ap₂ (λ (v : Instance) (s : List ℕ). record { self = v; slots = s })
 
 pub part-after : (default : ℕ) (t : Tables) (p : Program) → Facts default t p → (c : Configuration) → Proper default t p c
-    → (a : Action) → Lawfully t a → checkAt default t c a ≡ 0 → (i : ℕ) → i < 32 → part (effect t c a) i ≡ acted t i a (part c i)
+    → (a : Action) → Lawfully t p a → checkAt default t c a ≡ 0 → (i : ℕ) → i < 32 → part (effect t c a) i ≡ acted t i a (part c i)
 unfolding acted
 part-after default t p law c now a new ok i h =
     by-test (changes a i)

@@ -81,7 +81,7 @@ tell-own default t c (del i) h e f q (short, told) = (omega arith, rw (del-facts
 tell-own default t c (pushb i b) h e f q (short, told) =
     rw q (
       f,
-      told-pushed h (instance c i .queued) (slot c i) (turnedSlot (appended b) (instance c i .queued) (slot c i)) b
+      told-pushed h (instance c i .queued) (slot c i) (turnedSlot (appended (b .slot)) (instance c i .queued) (slot c i)) (b .slot)
           (λ r l. rw (ne-eqb r (instance c i .queued) (λ e. omega arith))) (rw (eq-eqb (instance c i .queued) (instance c i .queued) refl)) told,
     )
 tell-own default t c (con k) h e f q told = absurd (false≢true q)
@@ -102,7 +102,7 @@ module _ (default : ℕ) (t : Tables) (p : Program) (law : Facts default t p) (i
   abbrev pub KeptAt : Story ℕ → Configuration → Type 0
   KeptAt h c = Kept h (instance c i .queued) (slot c i)
 
-  action-told : (c : Configuration) → Proper default t p c → (a : Action) → Lawfully t a → checkAt default t c a ≡ 0 → (h : Story ℕ) → KeptAt h c → KeptAt (tell c i a h) (effect t c a)
+  action-told : (c : Configuration) → Proper default t p c → (a : Action) → Lawfully t p a → checkAt default t c a ≡ 0 → (h : Story ℕ) → KeptAt h c → KeptAt (tell c i a h) (effect t c a)
   action-told c now a new ok h told = by-test (changes a i) own other
     where
       fits : Room c a
@@ -140,7 +140,7 @@ module _ (default : ℕ) (t : Tables) (p : Program) (law : Facts default t p) (i
 pub queues-are-kept : QueuesAreKept
 unfolding QueuesAreKept queueOf listOf
 queues-are-kept default t p c ss i small law b =
-    told-from default t p known i ss c (begun c i) (b .permitted .proper) (short, refl) .1
+    told-from default t p known i ss c (begun p c i) (b .permitted .proper) (short, refl) .1
   where
     known : Facts default t p
     known = facts default t p small law

@@ -108,13 +108,13 @@ module _ (default : ℕ) (t : Tables) (p : Program) (law : Facts default t p) (c
         own = λ q here hq hu ha. absurd (false≢true (sym (idle q here hq hu) ∙ ha));
       }
 
-  own-steady : (a : Action) → Lawfully t a → checkAt default t c a ≡ 0 → changes a (ownerOf a) ≡ true
+  own-steady : (a : Action) → Lawfully t p a → checkAt default t c a ≡ 0 → changes a (ownerOf a) ≡ true
       → Steady t c (ownerOf a) (ownInstance t (instance c (ownerOf a)) (queueHead c (ownerOf a)) a)
   unfolding actionCheck change touches owner self fired endedBy entered withQueued active namedBy member anyBelow collect
   own-steady (add i k) new e q =
       aside-steady i (fresh t k)
       (λ l j f. false≢true (sym (add-facts c i e) ∙ (rw f at (joins l j .provider))))
-      (λ q _ hq hu. rw (law .types k (new i k refl .1) .use-port q hq hu) refl)
+      (λ q _ hq hu. rw (law .types k (new .added i k refl .1) .use-port q hq hu) refl)
   own-steady (del i) new e q =
       aside-steady i _ (λ l j. eqb-false (l .provider) i (neither (eqb (l .user) i) (eqb (l .provider) i) (joined-none c (namedBy i) l (del-facts c i e .unnamed) j) .1))
       (λ q here. absurd (false≢true here))
@@ -128,7 +128,7 @@ module _ (default : ℕ) (t : Tables) (p : Program) (law : Facts default t p) (c
   own-steady (finish i) new e q = calm-steady i _ (finish-facts t c i e .present) refl (λ q. refl)
 
   -- ---- every instance after an action
-  module _ (a : Action) (new : Lawfully t a) (ok : checkAt default t c a ≡ 0) where
+  module _ (a : Action) (new : Lawfully t p a) (ok : checkAt default t c a ≡ 0) where
     -- a connection stays where its use port is active
     joined-after : (k : Connection) → Joined c k → active t (instance c (k .user)) (k .useport) ≡ true → Joined (effect t c a) k
     unfolding Passed rewired connected disconnected withServers

@@ -2,8 +2,10 @@
 -- Then the same demands of the two texts (OnTexts), what demand 3 alone would admit (Alone). Why each rule is as it is: crate needed.
 pub mod Safe
 pub mod Queues
+pub mod Tickets
 pub mod Exchange
 pub mod Agree
 pub mod OnTexts
+pub mod TicketTexts
 pub mod Alone
 pub mod Again

@@ -27,12 +27,18 @@ use Rattle.demands.specs.Agree.{projection}
 unfoldable pub sheetTables : Paper → Tables
 sheetTables s = elim (sheet (s .sheet)) [ on x r ↦ x .0 | stop n r ↦ noTables ]
 
-unfoldable pub sheetProgram : Paper → Program
-sheetProgram s = elim (sheet (s .sheet)) [ on x r ↦ x .1 | stop n r ↦ noProgram ]
+unfoldable pub ownProgram : Paper → Program
+ownProgram s = elim (sheet (s .sheet)) [ on x r ↦ x .1 | stop n r ↦ noProgram ]
 
--- the configuration that a paper begins with
+-- where a paper begins: its program, with what had been pushed before the first instruction, and its configuration
+unfoldable pub outsetOf : Paper → Program × Configuration
+outsetOf s = elim (outset defaultDepth (sheetTables s) (ownProgram s) (s .beginning)) [ reached x ↦ x | faulty x n at ↦ (ownProgram s, start) ]
+
+unfoldable pub sheetProgram : Paper → Program
+sheetProgram s = outsetOf s .0
+
 unfoldable pub beginOf : Paper → Configuration
-beginOf s = elim (outset defaultDepth (sheetTables s) (s .beginning)) [ reached c ↦ c | faulty x n at ↦ start ]
+beginOf s = outsetOf s .1
 
 unfoldable pub answerSteps : List ℕ → List Step
 answerSteps a = elim (answer a) [ on y r ↦ stepsOf y | stop n r ↦ [] ]
@@ -50,7 +56,7 @@ abbrev pub walkOn : Paper → List Step → Walked
 walkOn s ss = walk defaultDepth (sheetTables s) (sheetProgram s) (beginOf s) ss
 
 abbrev pub storyOn : Paper → ℕ → List Step → Story ℕ
-storyOn s i ss = story defaultDepth (sheetTables s) (sheetProgram s) i (beginOf s) ss (begun (beginOf s) i)
+storyOn s i ss = story defaultDepth (sheetTables s) (sheetProgram s) i (beginOf s) ss (begun (sheetProgram s) (beginOf s) i)
 
 -- the first n steps of the answer; their walk ends at the n-th accepted point, or at the last one
 abbrev pub upTo : ℕ → List ℕ → List Step

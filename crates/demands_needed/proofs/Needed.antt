@@ -18,13 +18,13 @@ use Rattle.model.specs.declared.Configuration.{Configuration}
 use Rattle.model.specs.declared.Stepped.{Stepped}
 use Rattle.sets.specs.Mask.{member, collect}
 use Rattle.sets.specs.Test.{allBelow, anyBelow, lowest, tally}
-use Rattle.model.specs.Empty.{noTables, noProgram, noAnswer, start}
+use Rattle.model.specs.Empty.{noTables, noneBegun, noProgram, noAnswer, start}
 use Rattle.model.specs.View.{isServed, listOf, queueOf, put, withQueue, withServers, withDone}
 use Rattle.item_spec.specs.Reader.{byte}
-use Rattle.item_spec.specs.Read.{key, digit, numberFrom, membersFrom, list, oneForm, twoForm, fourForm, listForm, listsForm}
+use Rattle.item_spec.specs.Read.{key, digit, numberFrom, membersFrom, list, oneForm, twoForm, threeForm, fourForm, listForm, listsForm}
 use Rattle.item_spec.specs.Write.{digitsIn, numberText, membersBelow, moreText, listText, maskText, inTurn, oneText}
 use Rattle.read_spec.specs.Fill.{headed, withType, withTransition, withPort, programOf, withInstruction, answerOf, withStep}
-use Rattle.read_spec.specs.Kinds.{dueLine, countLineIn, initialLine, tranLine, behaviorLine, group, portLine, doId, doNumber, doEnds, doLine, stepId, stepNumber, stepLine}
+use Rattle.read_spec.specs.Kinds.{editionLine, doTicketed, doWait, dueLine, countLineIn, initialLine, tranLine, behaviorLine, group, portLine, doId, doNumber, doEnds, doLine, stepId, stepNumber, stepLine}
 use Rattle.read_spec.specs.Lines.{each}
 use Rattle.read_spec.specs.Texts.{tranAt, behaviorAt, portAt, typeLines, instructionAt, sheet, stepAt, answer}
 use Rattle.rules_spec.specs.Action.{instructionAction, moveAction, checkBy, actionCheck, effect, concern}
@@ -38,11 +38,12 @@ use Rattle.rules_spec.specs.Fire.{fireRow, fireCheckBy, fireCheck, fireTo}
 use Rattle.rules_spec.specs.Instance.{active, current, endsAt, leaving, entering, fired, endedBy, entered, withQueued}
 use Rattle.rules_spec.specs.Standing.{Standing, entries, inTable, standing, someConnection}
 use Rattle.rules_spec.specs.Ports.{isOf, wouldLeave, wouldEnter, refusing, serves, blocks, employs, failsUnconnected, failsUnserved, failsRefusing, failsInUse, PortCheck, portCheck, concerned}
+use Rattle.rules_spec.specs.Tickets.{stamped, begunTo, goesOn, pushedTo, notAbove, hasStamp}
 use Rattle.rules_spec.specs.PushB.{pushbCheck, pushed}
 use Rattle.rules_spec.specs.Step.{actionAt, action, numberBy, stepCheckWith, stepTo, step}
-use Rattle.rules_spec.specs.Wait.{waitCheck}
+use Rattle.rules_spec.specs.Wait.{whole, waitCheck}
 use Rattle.rules_spec.specs.Walk.{oneMore, walkBy, walk, walkFrom}
-use Rattle.report_spec.specs.Report.{countText, portText, instanceText, instanceAt, connectionLine, linesFrom, instancesText, connectionsText, reportWith, report}
+use Rattle.report_spec.specs.Report.{slotText, moreSlots, queueText, countText, portText, instanceText, instanceAt, connectionLine, linesFrom, instancesText, connectionsText, reportWith, report}
 use Rattle.start_spec.specs.Paper.{nothingUp}
 use Rattle.judge_spec.specs.Cases.{nexts}
 use Rattle.judge_spec.specs.Course.{short, shortStart, outset, read, allUnder, course}
@@ -54,7 +55,7 @@ use Rattle.rules_spec.specs.Instance.{portsOf}
 use Rattle.judge_spec.specs.Cases.{P+}
 use Rattle.demands.specs.Agree.{names, deeds, naming}
 use Rattle.demands.specs.Exchange.{between}
-use Rattle.demands.specs.OnTexts.{sheetTables, sheetProgram, answerSteps, AllAllowed}
+use Rattle.demands.specs.OnTexts.{sheetTables, ownProgram, outsetOf, sheetProgram, answerSteps, AllAllowed}
 use Rattle.demands.specs.Safe.{Safe}
 use Rattle.demands_needed.specs.Needed.{Variant, portCheckBy, variantStep, variantWalk, asRuled, AsRuledIsTheRule, walkedBy, withoutInUse, leftInUse, endedNotHeld, leftAfterEnd, isWait, withoutWaits, addWait, onward, Unsafe, InUseIsNeeded, EndedHeldIsNeeded, WaitIsNeeded, TokensAloneIsNeeded}
 
@@ -100,11 +101,11 @@ record Computed : Type 0 where
   in-use : Leaves withoutInUse leftInUse
   ended : Leaves endedNotHeld leftAfterEnd
   once : Waits 1 (add 0 0 ∷ []) (byte "1")
-  twice : Waits 2 (add 0 0 ∷ wait 0 ∷ []) (byte "2")
+  twice : Waits 2 (add 0 0 ∷ wait (whole 0) ∷ []) (byte "2")
   tokens : TokensAloneIsNeeded
 
 computed : Computed
-unfolding member collect allBelow anyBelow noTables noProgram noAnswer start isServed entries inTable listOf queueOf put withQueue withServers withDone key digit numberFrom membersFrom list oneForm twoForm fourForm listForm listsForm digitsIn numberText membersBelow moreText listText maskText inTurn oneText headed withType withTransition withPort programOf withInstruction answerOf withStep dueLine countLineIn initialLine tranLine behaviorLine group portLine doId doNumber doEnds doLine stepId stepNumber stepLine each tranAt behaviorAt portAt typeLines instructionAt sheet stepAt answer instructionAction moveAction actionCheck effect concern addCheck added down closed zeroed renewed isOf isUsePort isProvidePort conCheck connected endCheck endTo enterRow enterTo mayLeave finishRow finishCheck finished fireRow fireTo active current endsAt leaving entering fired endedBy entered withQueued wouldLeave wouldEnter refusing serves blocks employs failsUnconnected failsUnserved failsRefusing failsInUse portCheck lowest concerned pushbCheck pushed actionAt action stepCheckWith stepTo step waitCheck oneMore walk walkFrom tally countText portText instanceText instanceAt connectionLine linesFrom instancesText connectionsText reportWith report nexts short shortStart outset read allUnder course afterWalk inRoom ending judged printing printed deeds between portCheckBy sheetTables sheetProgram answerSteps TokensAloneIsNeeded
+unfolding member collect allBelow anyBelow noTables noneBegun noProgram noAnswer start isServed entries inTable listOf queueOf put withQueue withServers withDone key digit numberFrom membersFrom list oneForm twoForm threeForm fourForm listForm listsForm digitsIn numberText membersBelow moreText listText maskText inTurn oneText headed withType withTransition withPort programOf withInstruction answerOf withStep editionLine dueLine countLineIn initialLine tranLine behaviorLine group portLine doId doNumber doEnds doTicketed doWait doLine stepId stepNumber stepLine each tranAt behaviorAt portAt typeLines instructionAt sheet stepAt answer instructionAction moveAction actionCheck effect concern addCheck added down closed zeroed renewed isOf isUsePort isProvidePort conCheck connected endCheck endTo enterRow enterTo mayLeave finishRow finishCheck finished fireRow fireTo active current endsAt leaving entering fired endedBy entered withQueued wouldLeave wouldEnter refusing serves blocks employs failsUnconnected failsUnserved failsRefusing failsInUse portCheck lowest concerned pushbCheck pushed stamped begunTo goesOn pushedTo notAbove hasStamp actionAt action stepCheckWith stepTo step waitCheck oneMore walk walkFrom tally countText portText slotText moreSlots queueText instanceText instanceAt connectionLine linesFrom instancesText connectionsText reportWith report nexts short shortStart outset read allUnder course afterWalk inRoom ending judged printing printed deeds between portCheckBy sheetTables ownProgram outsetOf sheetProgram answerSteps TokensAloneIsNeeded
 computed = record {
   in-use = record { ruled = refl; allows = refl; present = refl; port = refl; fails = refl };
   ended = record { ruled = refl; allows = refl; present = refl; port = refl; fails = refl };
@@ -145,7 +146,7 @@ wait-is-needed =
     let two = computed .twice in
     (one .allows, two .allows, λ i. rw (one .does, two .does) (same i), λ e. omega (arith, one .prints, two .prints, ap (λ xs. getD xs 9 0) e))
   where
-    same : (i : ℕ) → withoutWaits (naming i (add 0 0 ∷ [])) ≡ withoutWaits (naming i (add 0 0 ∷ wait 0 ∷ []))
+    same : (i : ℕ) → withoutWaits (naming i (add 0 0 ∷ [])) ≡ withoutWaits (naming i (add 0 0 ∷ wait (whole 0) ∷ []))
     same i = by-test (eqb 0 i) (λ e. rw (e, naming, e)) (λ e. rw (e, naming, e))
 
 pub tokens-alone-is-needed : TokensAloneIsNeeded

@@ -1,17 +1,17 @@
 -- The rewritten sheet is read as the old one with the depth 4, and judged alike.
 -- Assumes nothing.
-use Prim.Native.Nat.{ℕ, _-_}
+use Prim.Native.Nat.{ℕ, _+_, _-_}
 use mathlib.Core.Bool.{true, false, cond, true≢false}
-use mathlib.Core.List.{List, [], _++_}
-use mathlib.Core.Path.{_≡_, refl, sym, ap, _∙_}
+use mathlib.Core.List.{List, [], _∷_, _++_}
+use mathlib.Core.Path.{_≡_, refl, sym, ap, subst, _∙_}
 use mathlib.Core.Logic.{_⊎_, inl, inr, ⊎-elim}
 use native.Mathlib.Omega.{arith}
 use lib.Dec.{eqb}
-use lib.ListN.{length, drop, length-append}
+use lib.ListN.{length, take, drop, length-append}
 use borrow.Author.Tests.{eqb-true, eq-eqb, ne-eqb}
-use Rattle.item_spec.specs.Reader.{bytes}
+use Rattle.item_spec.specs.Reader.{got, bytes, byte}
 use Rattle.item_spec.specs.Write.{oneText, numberText, digitsIn}
-use Rattle.item_spec.proofs.Tests.{by-test}
+use Rattle.item_spec.proofs.Tests.{by-test, or-not}
 use Rattle.model.specs.declared.Tables.{Tables}
 use Rattle.model.specs.declared.Program.{Program}
 use Rattle.model.specs.declared.Answer.{Answer}
@@ -20,39 +20,43 @@ use Rattle.model.specs.declared.Text.{Text}
 use Rattle.model.specs.declared.Text.the-variants as text
 use Rattle.model.specs.declared.Configuration.{Configuration}
 use Rattle.model.specs.View.{stepsOf}
-use Rattle.read_spec.specs.Limits.{lengthOk, depthOk, typesOk, programOk}
+use Rattle.read_spec.specs.Limits.{lengthOk, editionOk, depthOk, typesOk, programOk}
 use Rattle.read_spec.specs.Lines.{Run, on, stop, Lines, runOn, line, each, atEnd}
 use Rattle.item_spec.specs.Read.{key, oneForm, numberFrom, digit}
-use Rattle.read_spec.specs.Kinds.{dueLine, countLineIn, countLine}
+use Rattle.read_spec.specs.Kinds.{editionLine, countLineIn, countLine}
 use Rattle.read_spec.specs.Fill.{headed, programOf}
 use Rattle.read_spec.specs.Texts.{typeLines, instructionAt, sheet, answer}
 use Rattle.rules_spec.specs.PushB.{depthOf}
 use Rattle.rules_spec.specs.Walk.{walkFrom}
 use Rattle.start_spec.specs.Paper.{Beginning, nothing, given, from}
-use Rattle.start_spec.specs.Text.{startLengthOk, startLines}
+use Rattle.start_spec.specs.Text.{Outset, startLengthOk, startLines}
 use Rattle.start_spec.specs.Served.{someUnserved}
 use Rattle.judge_spec.specs.Course.{Course, faulty, reached, goOn, defaultDepth, short, read, shortStart, served, outset, sheetCourse, allUnder, courseUnder, course}
 use Rattle.judge_spec.specs.Judged.{ending, judged, printing, printed}
 use Rattle.report_spec.specs.Report.{countText}
-use Rattle.write_spec.proofs.Took.{takes-due, takes-count, not-on, on-value, run-then, line-then}
+use Rattle.write_spec.proofs.Took.{takes-edition, takes-count, not-on, on-value, run-then, line-then}
 use Rattle.rewrite_spec.specs.Under.{judgedUnder, printedUnder, UnderTheNewRule}
 use Rattle.rewrite_spec.specs.Rewritten.{oldDefault, oldHead, newHead, sheetAfter, rewritten, NothingElseAltered, LengthStays, AnotherDepthUnchanged, RewrittenOnce, JudgedAlike}
 use Rattle.rewrite_spec.proofs.Depth.{deep, walk-same, begins-deep, mapRun, map-next, types-deep}
 
 -- ---- what is read
--- the lines of a sheet of depth d from its `types=` line on
-tail : ℕ → Lines (Tables × Program)
-tail d = λ s.
+-- the lines of a sheet that opens with e, of depth d, from its `types=` line on
+tail : ℕ → ℕ → Lines (Tables × Program)
+tail e d = λ s.
     runOn (line (countLine (bytes "types=") typesOk) s) λ n. λ s. runOn (each typeLines n 0 (headed d n) s) λ t. λ s. runOn (line (countLine (bytes "program=") programOk) s) λ k. λ s.
-    runOn (each (instructionAt n) k 0 (programOf k) s) λ p. λ s. runOn (atEnd s) λ _. λ s. on (t, p) s
+    runOn (each (instructionAt e n) k 0 (programOf e k) s) λ p. λ s. runOn (atEnd s) λ _. λ s. on (t, p) s
 
-old-head : (x : List ℕ) → sheet (oldHead ++ x) ≡ tail 0 x
-unfolding sheet tail dueLine countLineIn key oneForm numberFrom digit
-old-head x = refl
+-- the sheets that there are
+by-edition : (P : ℕ → Type 0) (e : ℕ) → editionOk e ≡ true → P 1 → P 2 → P e
+by-edition P e ok one two = by-test (eqb e 1) (λ q. subst P (sym (eqb-true e 1 q)) one) (λ q. subst P (sym (eqb-true e 2 (or-not (eqb e 1) _ ok q))) two)
 
-new-head : (x : List ℕ) → sheet (newHead ++ x) ≡ tail 4 x
-unfolding sheet tail dueLine countLineIn key oneForm numberFrom digit
-new-head x = refl
+old-head : (e : ℕ) → editionOk e ≡ true → (x : List ℕ) → sheet (oldHead e ++ x) ≡ tail e 0 x
+unfolding sheet tail editionLine countLineIn key oneForm numberFrom digit
+old-head e ok x = by-edition (λ e. sheet (oldHead e ++ x) ≡ tail e 0 x) e ok refl refl
+
+new-head : (e : ℕ) → editionOk e ≡ true → (x : List ℕ) → sheet (newHead e ++ x) ≡ tail e 4 x
+unfolding sheet tail editionLine countLineIn key oneForm numberFrom digit
+new-head e ok x = by-edition (λ e. sheet (newHead e ++ x) ≡ tail e 4 x) e ok refl refl
 
 -- a sheet of depth 0 that is read begins with its first two lines
 deep-on : (d : ℕ) (m : Run Tables) {u : Tables} {r : List ℕ} → mapRun (deep d) m ≡ on u r → u .depth ≡ d
@@ -60,43 +64,47 @@ unfolding mapRun
 deep-on d (on t s) q = ap (λ (t : Tables). t .depth) (sym (on-value q))
 deep-on d (stop n s) q = absurd (not-on q)
 
-pub begins : (s r : List ℕ) (t : Tables) (p : Program) → sheet s ≡ on (t, p) r → t .depth ≡ 0 → (x : List ℕ) × (s ≡ oldHead ++ x)
+pub begins : (s r : List ℕ) (t : Tables) (p : Program) → sheet s ≡ on (t, p) r → t .depth ≡ 0 → (e : ℕ) × (x : List ℕ) × (editionOk e ≡ true) × (s ≡ oldHead e ++ x)
 unfolding sheet headed countText oneText numberText digitsIn
 begins s r t p q z =
-    line-then (dueLine (bytes "sheet=") 1) _ s q λ _ s₁ e₁ q. line-then (countLine (bytes "depth=") depthOk) _ s₁ q λ d s₂ e₂ q. line-then (countLine (bytes "types=") typesOk) _ s₂ q λ n s₃ e₃ q.
+    line-then editionLine _ s q λ e s₁ e₁ q. line-then (countLine (bytes "depth=") depthOk) _ s₁ q λ d s₂ e₂ q. line-then (countLine (bytes "types=") typesOk) _ s₂ q λ n s₃ e₃ q.
     run-then (each typeLines n 0 (headed d n) s₃) _ q λ u s₄ e₄ q. line-then (countLine (bytes "program=") programOk) _ s₄ q λ k s₅ e₅ q.
-    run-then (each (instructionAt n) k 0 (programOf k) s₅) _ q λ v s₆ e₆ q. run-then (atEnd s₆) _ q λ _ s₇ e₇ q.
+    run-then (each (instructionAt e n) k 0 (programOf e k) s₅) _ q λ v s₆ e₆ q. run-then (atEnd s₆) _ q λ _ s₇ e₇ q.
     let is : d ≡ 0 = sym (deep-on d (each typeLines n 0 (headed 0 n) s₃) (sym (types-deep d n 0 (headed 0 n) s₃) ∙ e₄)) ∙ ap (λ (x : Tables × Program). x .0 .depth) (on-value q) ∙ z in
-    (s₂, takes-due (bytes "sheet=") 1 s e₁ ∙ ap (λ (l : List ℕ). bytes "sheet=1\n" ++ l) (takes-count (bytes "depth=") depthOk s₁ e₂ .0 ∙ ap (λ (n : ℕ). bytes "depth=" ++ oneText n ++ s₂) is))
+    let (from, ok) = takes-edition s e₁ in
+    (e, s₂, ok, from ∙ by-edition (λ e. countText (bytes "sheet=") e ++ s₁ ≡ oldHead e ++ s₂) e ok (second s₁ s₂ d e₂ is 1) (second s₁ s₂ d e₂ is 2))
+  where
+    second : (s₁ s₂ : List ℕ) (d : ℕ) → countLine (bytes "depth=") depthOk s₁ ≡ got d s₂ → d ≡ 0 → (e : ℕ) → (bytes "sheet=" ++ (byte "0" + e) ∷ bytes "\n" ++ s₁) ≡ oldHead e ++ s₂
+    second s₁ s₂ d q is e = ap (λ (l : List ℕ). bytes "sheet=" ++ (byte "0" + e) ∷ bytes "\n" ++ l) (takes-count (bytes "depth=") depthOk s₁ q .0 ∙ ap (λ (n : ℕ). bytes "depth=" ++ oneText n ++ s₂) is)
 
 -- with the depth d in the tables
 deeper : ℕ → Tables × Program → Tables × Program
 deeper d y = (deep d (y .0), y .1)
 
-tail-deep : (d : ℕ) (s : List ℕ) → tail d s ≡ mapRun (deeper d) (tail 0 s)
+tail-deep : (e d : ℕ) (s : List ℕ) → tail e d s ≡ mapRun (deeper d) (tail e 0 s)
 unfolding tail mapRun deeper headed
-tail-deep d s =
+tail-deep e d s =
     map-next (deeper d) (line (countLine (bytes "types=") typesOk) s) _ _ λ n s.
     ap (λ (m : Run Tables). runOn m (after n)) (types-deep d n 0 (headed 0 n) s) ∙ rest n (each typeLines n 0 (headed 0 n) s)
   where
     after : ℕ → Tables → Lines (Tables × Program)
-    after n t = λ s. runOn (line (countLine (bytes "program=") programOk) s) λ k. λ s. runOn (each (instructionAt n) k 0 (programOf k) s) λ p. λ s. runOn (atEnd s) λ _. λ s. on (t, p) s
+    after n t = λ s. runOn (line (countLine (bytes "program=") programOk) s) λ k. λ s. runOn (each (instructionAt e n) k 0 (programOf e k) s) λ p. λ s. runOn (atEnd s) λ _. λ s. on (t, p) s
 
     rest : (n : ℕ) (m : Run Tables) → runOn (mapRun (deep d) m) (after n) ≡ mapRun (deeper d) (runOn m (after n))
     rest n (on t s) =
-        map-next (deeper d) (line (countLine (bytes "program=") programOk) s) _ _ λ k s. map-next (deeper d) (each (instructionAt n) k 0 (programOf k) s) _ _ λ p s. map-next (deeper d) (atEnd s) _ _ λ _ s. refl
+        map-next (deeper d) (line (countLine (bytes "program=") programOk) s) _ _ λ k s. map-next (deeper d) (each (instructionAt e n) k 0 (programOf e k) s) _ _ λ p s. map-next (deeper d) (atEnd s) _ _ λ _ s. refl
     rest n (stop k s) = refl
 
 -- the same sheet with the depth 4
-rewritten-read : (x r : List ℕ) (t : Tables) (p : Program) → sheet (oldHead ++ x) ≡ on (t, p) r → sheet (newHead ++ x) ≡ on (deep 4 t, p) r
+rewritten-read : (e : ℕ) → editionOk e ≡ true → (x r : List ℕ) (t : Tables) (p : Program) → sheet (oldHead e ++ x) ≡ on (t, p) r → sheet (newHead e ++ x) ≡ on (deep 4 t, p) r
 unfolding mapRun deeper
-rewritten-read x r t p q = new-head x ∙ tail-deep 4 x ∙ ap (mapRun (deeper 4)) (sym (old-head x) ∙ q)
+rewritten-read e ok x r t p q = new-head e ok x ∙ tail-deep e 4 x ∙ ap (mapRun (deeper 4)) (sym (old-head e ok x) ∙ q)
 
 -- ---- what is judged
 -- what comes after the sheet
 answering : ℕ → Tables → Program → Beginning → List ℕ → Course Walked
 answering d t p g a =
-    goOn (shortStart g) λ _. goOn (short text.Answer a) λ _. goOn (outset d t g) λ c. goOn (read text.Answer answer a) λ y. reached (walkFrom d t p c y)
+    goOn (shortStart g) λ _. goOn (short text.Answer a) λ _. goOn (outset d t p g) λ x. goOn (read text.Answer answer a) λ y. reached (walkFrom d t (x .0) (x .1) y)
 
 short-on : (x : Text) (s : List ℕ) → lengthOk (length s) ≡ true → short x s ≡ reached tt
 unfolding short
@@ -109,11 +117,11 @@ read-on x m s r y q = rw (q, read)
 course-is : (d : ℕ) (s a r : List ℕ) (g : Beginning) (t : Tables) (p : Program) → lengthOk (length s) ≡ true → sheet s ≡ on (t, p) r → courseUnder d (from s g) a ≡ answering d t p g a
 unfolding allUnder answering
 course-is d s a r g t p l q =
-    rw (short-on text.Sheet s l, read-on text.Sheet sheet s r (t, p) q) (go (shortStart g) (short text.Answer a) (outset d t g) (read text.Answer answer a))
+    rw (short-on text.Sheet s l, read-on text.Sheet sheet s r (t, p) q) (go (shortStart g) (short text.Answer a) (outset d t p g) (read text.Answer answer a))
   where
-    go : (k : Course (Unit {0})) (m : Course (Unit {0})) (b : Course Configuration) (n : Course Answer)
-        → goOn (goOn k λ _. goOn m λ _. goOn b λ c. goOn n λ y. reached (t, p, c, y)) (λ (x : Tables × Program × Configuration × Answer). reached (walkFrom d (x .0) (x .1) (x .2) (x .3)))
-        ≡ goOn k λ _. goOn m λ _. goOn b λ c. goOn n λ y. reached (walkFrom d t p c y)
+    go : (k : Course (Unit {0})) (m : Course (Unit {0})) (b : Course (Program × Configuration)) (n : Course Answer)
+        → goOn (goOn k λ _. goOn m λ _. goOn b λ x. goOn n λ y. reached (t, x .0, x .1, y)) (λ (x : Tables × Program × Configuration × Answer). reached (walkFrom d (x .0) (x .1) (x .2) (x .3)))
+        ≡ goOn k λ _. goOn m λ _. goOn b λ x. goOn n λ y. reached (walkFrom d t (x .0) (x .1) y)
     go (faulty x k at) m b n = refl
     go (reached tt) (faulty x k at) b n = refl
     go (reached u) (reached v) (faulty x k at) n = refl
@@ -136,17 +144,17 @@ unfolding shortStart
 later-length nothing = reaches
 later-length (given x) = by-test (startLengthOk (length x)) (λ e. rw (e, shortStart) reaches) (λ e. rw (e, shortStart) in-start)
 
-later-served : (t : Tables) (c : Configuration) → Later (served t c)
+later-served : (t : Tables) (p : Program) (y : Outset) → Later (served t p y)
 unfolding served
-later-served t c = by-test (someUnserved t c) (λ e. rw (e, served) in-start) (λ e. rw (e, served) reaches)
+later-served t p y = by-test (someUnserved t (y .0)) (λ e. rw (e, served) in-start) (λ e. rw (e, served) reaches)
 
-later-begins : (d : ℕ) (t : Tables) (g : Beginning) → Later (outset d t g)
+later-begins : (d : ℕ) (t : Tables) (p : Program) (g : Beginning) → Later (outset d t p g)
 unfolding outset read
-later-begins d t nothing = reaches
-later-begins d t (given x) = go (startLines (depthOf d t) t x)
+later-begins d t p nothing = reaches
+later-begins d t p (given x) = go (startLines (p .edition) (depthOf d t) t x)
   where
-    go : (z : Run Configuration) → Later (goOn (elim z as (λ _. Course Configuration) [ on c r ↦ reached c | stop n r ↦ faulty text.Start n (length x - length r) ]) (served t))
-    go (on c r) = later-served t c
+    go : (z : Run Outset) → Later (goOn (elim z as (λ _. Course Outset) [ on c r ↦ reached c | stop n r ↦ faulty text.Start n (length x - length r) ]) (served t p))
+    go (on c r) = later-served t p c
     go (stop n r) = in-start
 
 later-short : (a : List ℕ) → Later (short text.Answer a)
@@ -166,7 +174,7 @@ unfolding answering
 later d t p g a =
     later-then _ (later-length g) (λ _.
     later-then _ (later-short a) (λ _.
-    later-then _ (later-begins d t g) (λ c. later-then _ (later-answer a) (λ y. reaches))))
+    later-then _ (later-begins d t p g) (λ c. later-then _ (later-answer a) (λ y. reaches))))
 
 -- so that the sheet's bytes aren't looked at
 ends-alike : (s r a : List ℕ) (g : Beginning) (room : ℕ) {z : Course Walked} → Later z → ending (from r g) a room z ≡ ending (from s g) a room z
@@ -184,15 +192,15 @@ prints-alike s r a g reaches = refl
 -- what 0 stands for is the only difference
 answered-alike : (d e x : ℕ) (t : Tables) (p : Program) (g : Beginning) (a : List ℕ) → depthOf d t ≡ depthOf e (deep x t) → answering d t p g a ≡ answering e (deep x t) p g a
 unfolding answering walkFrom
-answered-alike d e x t p g a same = rw (begins-deep d e x t same g) (go (shortStart g) (short text.Answer a) (outset e (deep x t) g) (read text.Answer answer a))
+answered-alike d e x t p g a same = rw (begins-deep d e x t p same g) (go (shortStart g) (short text.Answer a) (outset e (deep x t) p g) (read text.Answer answer a))
   where
-    go : (k : Course (Unit {0})) (m : Course (Unit {0})) (b : Course Configuration) (n : Course Answer)
-        → (goOn k λ _. goOn m λ _. goOn b λ c. goOn n λ y. reached (walkFrom d t p c y)) ≡ (goOn k λ _. goOn m λ _. goOn b λ c. goOn n λ y. reached (walkFrom e (deep x t) p c y))
+    go : (k : Course (Unit {0})) (m : Course (Unit {0})) (b : Course (Program × Configuration)) (n : Course Answer)
+        → (goOn k λ _. goOn m λ _. goOn b λ z. goOn n λ y. reached (walkFrom d t (z .0) (z .1) y)) ≡ (goOn k λ _. goOn m λ _. goOn b λ z. goOn n λ y. reached (walkFrom e (deep x t) (z .0) (z .1) y))
     go (faulty x k at) m b n = refl
     go (reached tt) (faulty x k at) b n = refl
     go (reached u) (reached v) (faulty x k at) n = refl
     go (reached u) (reached v) (reached c) (faulty x k at) = refl
-    go (reached u) (reached v) (reached c) (reached y) = ap reached (walk-same d e x t same p (stepsOf y) c)
+    go (reached u) (reached v) (reached c) (reached y) = ap reached (walk-same d e x t same (c .0) (stepsOf y) (c .1))
 
 -- two sheets that are read, the second with the depth x
 module _ (s r a s₀ r₀ : List ℕ) (g : Beginning) (t : Tables) (p : Program) (x : ℕ) (ls : lengthOk (length s) ≡ true) (lr : lengthOk (length r) ≡ true)
@@ -236,14 +244,14 @@ module _ (s r : List ℕ) (c : Came s r) where
   as-it-was : eqb (c .t .depth) 0 ≡ false → r ≡ s
   as-it-was e = sym (c .text-is) ∙ rw e
 
-  anew : eqb (c .t .depth) 0 ≡ true → (x : List ℕ) × (s ≡ oldHead ++ x) × (r ≡ newHead ++ x)
+  anew : eqb (c .t .depth) 0 ≡ true → (e : ℕ) × (x : List ℕ) × (editionOk e ≡ true) × (s ≡ oldHead e ++ x) × (r ≡ newHead e ++ x)
   anew e =
-      let (x, q) = begins s (c .rest) (c .t) (c .p) (c .sheet-is) (eqb-true _ 0 e) in
-      (x, q, sym (c .text-is) ∙ rw e (ap (λ (l : List ℕ). newHead ++ drop (length oldHead) l) q))
+      let (h, x, ok, q) = begins s (c .rest) (c .t) (c .p) (c .sheet-is) (eqb-true _ 0 e) in
+      (h, x, ok, q, sym (c .text-is) ∙ rw e (ap (λ (l : List ℕ). take 14 l ++ byte "4" ∷ drop 15 l) q))
 
 pub nothing-else-altered : NothingElseAltered
 unfolding NothingElseAltered
-nothing-else-altered s r q = let c = came s r q in by-test (eqb (c .t .depth) 0) (λ e. inr (anew s r c e)) (λ e. inl (as-it-was s r c e))
+nothing-else-altered s r q = let c = came s r q in by-test (eqb (c .t .depth) 0) (λ e. let (h, x, ok, old, new) = anew s r c e in inr (h, x, old, new)) (λ e. inl (as-it-was s r c e))
 
 pub judged-alike : JudgedAlike
 unfolding JudgedAlike
@@ -251,8 +259,8 @@ judged-alike s r a g q = let c = came s r q in by-test (eqb (c .t .depth) 0) (ne
   where
     new : (c : Came s r) → eqb (c .t .depth) 0 ≡ true → ((room : ℕ) → judgedUnder defaultDepth (from r g) a room ≡ judgedUnder oldDefault (from s g) a room) × (printedUnder defaultDepth (from r g) a ≡ printedUnder oldDefault (from s g) a)
     new c e =
-        let (x, is, anew) = anew s r c e in
-        alike s r a (c .rest) (c .rest) g (c .t) (c .p) 4 (c .short-is) (rw anew (rw is at (c .short-is))) (c .sheet-is) (rw anew (rewritten-read x (c .rest) (c .t) (c .p) (rw is at (c .sheet-is)))) (rw e)
+        let (h, x, ok, is, anew) = anew s r c e in
+        alike s r a (c .rest) (c .rest) g (c .t) (c .p) 4 (c .short-is) (rw anew (rw is at (c .short-is))) (c .sheet-is) (rw anew (rewritten-read h ok x (c .rest) (c .t) (c .p) (rw is at (c .sheet-is)))) (rw e)
 
     old : (c : Came s r) → eqb (c .t .depth) 0 ≡ false → ((room : ℕ) → judgedUnder defaultDepth (from r g) a room ≡ judgedUnder oldDefault (from s g) a room) × (printedUnder defaultDepth (from r g) a ≡ printedUnder oldDefault (from s g) a)
     old c e =
@@ -261,7 +269,7 @@ judged-alike s r a g q = let c = came s r q in by-test (eqb (c .t .depth) 0) (ne
 
 pub length-stays : LengthStays
 unfolding LengthStays NothingElseAltered
-length-stays s r q = ⊎-elim (ap length) (λ (x, old, new). ap length new ∙ simp length-append refl ∙ sym (ap length old)) (nothing-else-altered s r q)
+length-stays s r q = ⊎-elim (ap length) (λ (e, x, old, new). ap length new ∙ simp length-append refl ∙ sym (ap length old)) (nothing-else-altered s r q)
 
 pub another-depth-unchanged : AnotherDepthUnchanged
 unfolding AnotherDepthUnchanged rewritten
@@ -278,9 +286,9 @@ rewritten-once s r q = let c = came s r q in by-test (eqb (c .t .depth) 0) (new 
   where
     new : (c : Came s r) → eqb (c .t .depth) 0 ≡ true → rewritten r ≡ reached r
     new c e =
-        let (x, is, new) = anew s r c e in
+        let (h, x, ok, is, new) = anew s r c e in
         another-depth-unchanged r (deep 4 (c .t)) (c .p)
-        (reads r (c .rest) (deep 4 (c .t)) (c .p) (rw new (rw is at (c .short-is))) (rw new (rewritten-read x (c .rest) (c .t) (c .p) (rw is at (c .sheet-is)))))
+        (reads r (c .rest) (deep 4 (c .t)) (c .p) (rw new (rw is at (c .short-is))) (rw new (rewritten-read h ok x (c .rest) (c .t) (c .p) (rw is at (c .sheet-is)))))
         (λ z. omega (arith, z))
 
     old : (c : Came s r) → eqb (c .t .depth) 0 ≡ false → rewritten r ≡ reached r

@@ -31,7 +31,7 @@ use Rattle.rules_spec.specs.Walk.{walkBy, walk}
 use Rattle.model.specs.declared.Text.the-variants as text
 use Rattle.start_spec.specs.Paper.{Beginning, nothing, given}
 use Rattle.start_spec.specs.Row.{instanceLine, withRow, portIn, connectionLine}
-use Rattle.start_spec.specs.Text.{instanceAt, connectionAt, startLines}
+use Rattle.start_spec.specs.Text.{Outset, instanceAt, connectionAt, startLines}
 use Rattle.start_spec.specs.Served.{failsStill, someUnserved}
 use Rattle.judge_spec.specs.Course.{Course, faulty, reached, goOn, read, served, outset}
 
@@ -90,33 +90,33 @@ module _ (d e x : ℕ) (t : Tables) (same : depthOf d t ≡ depthOf e (deep x t)
 
 -- ---- the start
 -- its lines look at the types and not at the depth
-starts-deep : (d x : ℕ) (t : Tables) (s : List ℕ) → startLines d t s ≡ startLines d (deep x t) s
+starts-deep : (h d x : ℕ) (t : Tables) (s : List ℕ) → startLines h d t s ≡ startLines h d (deep x t) s
 unfolding startLines instanceAt instanceLine withRow added connectionAt connectionLine portIn conCheck isUsePort isProvidePort
-starts-deep d x t s = refl
+starts-deep h d x t s = refl
 
 unserved-deep : (x : ℕ) (t : Tables) (c : Configuration) → someUnserved t c ≡ someUnserved (deep x t) c
 unfolding someUnserved failsStill portCheck failsUnconnected failsUnserved failsRefusing failsInUse serves blocks employs refusing wouldLeave wouldEnter active leaving entering current
 unserved-deep x t c = refl
 
-served-deep : (x : ℕ) (t : Tables) (c : Configuration) → served t c ≡ served (deep x t) c
+served-deep : (x : ℕ) (t : Tables) (p : Program) (y : Outset) → served t p y ≡ served (deep x t) p y
 unfolding served
-served-deep x t c = rw (unserved-deep x t c, served)
+served-deep x t p y = rw (unserved-deep x t (y .0), served)
 
-reads-deep : (n x : ℕ) (t : Tables) (s : List ℕ) → read text.Start (startLines n t) s ≡ read text.Start (startLines n (deep x t)) s
+reads-deep : (h n x : ℕ) (t : Tables) (s : List ℕ) → read text.Start (startLines h n t) s ≡ read text.Start (startLines h n (deep x t)) s
 unfolding read
-reads-deep n x t s = ap (λ (z : Run Configuration). elim z as (λ _. Course Configuration) [ on c r ↦ reached c | stop k r ↦ faulty text.Start k (length s - length r) ]) (starts-deep n x t s)
+reads-deep h n x t s = ap (λ (z : Run Outset). elim z as (λ _. Course Outset) [ on c r ↦ reached c | stop k r ↦ faulty text.Start k (length s - length r) ]) (starts-deep h n x t s)
 
-pub begins-deep : (d e x : ℕ) (t : Tables) → depthOf d t ≡ depthOf e (deep x t) → (g : Beginning) → outset d t g ≡ outset e (deep x t) g
+pub begins-deep : (d e x : ℕ) (t : Tables) (p : Program) → depthOf d t ≡ depthOf e (deep x t) → (g : Beginning) → outset d t p g ≡ outset e (deep x t) p g
 unfolding outset
-begins-deep d e x t same nothing = refl
-begins-deep d e x t same (given s) =
-    ap (λ (n : ℕ). goOn (read text.Start (startLines n t) s) (served t)) same
-    ∙ ap (λ (m : Course Configuration). goOn m (served t)) (reads-deep (depthOf e (deep x t)) x t s)
-    ∙ go (read text.Start (startLines (depthOf e (deep x t)) (deep x t)) s)
+begins-deep d e x t p same nothing = refl
+begins-deep d e x t p same (given s) =
+    ap (λ (n : ℕ). goOn (read text.Start (startLines (p .edition) n t) s) (served t p)) same
+    ∙ ap (λ (m : Course Outset). goOn m (served t p)) (reads-deep (p .edition) (depthOf e (deep x t)) x t s)
+    ∙ go (read text.Start (startLines (p .edition) (depthOf e (deep x t)) (deep x t)) s)
   where
-    go : (m : Course Configuration) → goOn m (served t) ≡ goOn m (served (deep x t))
+    go : (m : Course Outset) → goOn m (served t p) ≡ goOn m (served (deep x t) p)
     go (faulty k n at) = refl
-    go (reached c) = served-deep x t c
+    go (reached y) = served-deep x t p y
 
 -- ---- the reader
 unfoldable pub mapRun : {A : Type 0} → (A → A) → Run A → Run A

@@ -1,12 +1,12 @@
 -- "A program rewrites such a sheet with `depth=4` and nothing else altered." "A sheet with another depth comes out unchanged."
-use Prim.Native.Nat.{ℕ}
+use Prim.Native.Nat.{ℕ, _+_}
 use mathlib.Core.Bool.{cond}
-use mathlib.Core.List.{List, _++_}
+use mathlib.Core.List.{List, _∷_, _++_}
 use mathlib.Core.Path.{_≡_}
 use mathlib.Core.Logic.{_⊎_, _≢_}
 use lib.Dec.{eqb}
-use lib.ListN.{length, drop}
-use Rattle.item_spec.specs.Reader.{bytes}
+use lib.ListN.{length, take, drop}
+use Rattle.item_spec.specs.Reader.{bytes, byte}
 use Rattle.model.specs.declared.Tables.{Tables}
 use Rattle.model.specs.declared.Program.{Program}
 use Rattle.start_spec.specs.Paper.{Beginning, from}
@@ -17,16 +17,20 @@ use Rattle.rewrite_spec.specs.Under.{judgedUnder, printedUnder}
 abbrev pub oldDefault : ℕ
 oldDefault = 4
 
--- the first two lines of a sheet that leaves the depth at 0, and of the same sheet rewritten
-abbrev pub oldHead : List ℕ
-oldHead = bytes "sheet=1\ndepth=0\n"
+-- the first two lines of a sheet that opens with e and has a depth of the digit c
+abbrev pub headOf : ℕ → ℕ → List ℕ
+headOf e c = bytes "sheet=" ++ (byte "0" + e) ∷ bytes "\ndepth=" ++ c ∷ bytes "\n"
 
-abbrev pub newHead : List ℕ
-newHead = bytes "sheet=1\ndepth=4\n"
+-- of a sheet that leaves the depth at 0, and of the same sheet rewritten
+abbrev pub oldHead : ℕ → List ℕ
+oldHead e = headOf e (byte "0")
 
--- what a sheet of depth d that is read becomes
+abbrev pub newHead : ℕ → List ℕ
+newHead e = headOf e (byte "4")
+
+-- what a sheet of depth d that is read becomes: one byte is another
 abbrev pub sheetAfter : ℕ → List ℕ → List ℕ
-sheetAfter d s = cond (eqb d 0) (newHead ++ drop (length oldHead) s) s
+sheetAfter d s = cond (eqb d 0) (take 14 s ++ byte "4" ∷ drop 15 s) s
 
 -- "Refusals: 1 to 5 as the reader gives them"
 unfoldable pub rewritten : List ℕ → Course (List ℕ)
@@ -36,7 +40,7 @@ rewritten s = do
 
 -- nothing else is altered: the sheet as it was, or its first lines alone
 unfoldable pub NothingElseAltered : Type 0
-NothingElseAltered = (s r : List ℕ) → rewritten s ≡ reached r → (r ≡ s) ⊎ ((x : List ℕ) × (s ≡ oldHead ++ x) × (r ≡ newHead ++ x))
+NothingElseAltered = (s r : List ℕ) → rewritten s ≡ reached r → (r ≡ s) ⊎ ((e : ℕ) × (x : List ℕ) × (s ≡ oldHead e ++ x) × (r ≡ newHead e ++ x))
 
 -- so it stays as long as it was
 unfoldable pub LengthStays : Type 0

@@ -12,15 +12,15 @@ use Rattle.item_spec.specs.Write.{digitsIn, numberText, membersBelow, moreText,
 use Rattle.start_spec.specs.Paper.{nothingUp}
 use Rattle.judge_spec.specs.Course.{short, shortStart, outset, read, allUnder, course}
 use Rattle.judge_spec.specs.Judged.{faultLine, faultPlace, afterFault, noRoom, stepPlace, afterWalk, inRoom, ending, judged, over, printing, printed}
-use Rattle.model.specs.Empty.{noTables, noProgram, noAnswer, start}
+use Rattle.model.specs.Empty.{noTables, noneBegun, noProgram, noAnswer, start}
 use Rattle.model.specs.View.{isServed, listOf, queueOf, put, withQueue, withServers, withDone}
 use Rattle.read_spec.specs.Fill.{headed, withType, withTransition, withPort, programOf, withInstruction, answerOf, withStep}
-use Rattle.read_spec.specs.Kinds.{dueLine, countLineIn, initialLine, tranLine, behaviorLine, group, portLine, doId, doNumber, doEnds, doLine, stepId, stepNumber, stepLine}
+use Rattle.read_spec.specs.Kinds.{editionLine, doTicketed, doWait, dueLine, countLineIn, initialLine, tranLine, behaviorLine, group, portLine, doId, doNumber, doEnds, doLine, stepId, stepNumber, stepLine}
 use Rattle.read_spec.specs.Lines.{each}
 use Rattle.read_spec.specs.Place.{upToLf, lfs, lineNumber, lineStart}
 use Rattle.read_spec.specs.Texts.{tranAt, behaviorAt, portAt, typeLines, instructionAt, sheet, stepAt, answer}
 use Rattle.report_spec.specs.Faults.{textText, faultText}
-use Rattle.report_spec.specs.Report.{countText, portText, instanceText, connectionText, instanceAt, connectionLine, linesFrom, instancesText, connectionsText, reportWith, report}
+use Rattle.report_spec.specs.Report.{slotText, moreSlots, queueText, countText, portText, instanceText, connectionText, instanceAt, connectionLine, linesFrom, instancesText, connectionsText, reportWith, report}
 use Rattle.rules_spec.specs.Action.{Action, add, pushb, fire, end, instructionAction, moveAction, actionCheck, effect, concern}
 use Rattle.rules_spec.specs.Add.{addCheck, added}
 use Rattle.rules_spec.specs.Closing.{down, closed, zeroed, renewed}
@@ -34,14 +34,15 @@ use Rattle.rules_spec.specs.Fire.{fireRow, fireCheck, fireTo}
 use Rattle.rules_spec.specs.Instance.{active, current, endsAt, leaving, entering, fired, endedBy, entered, withQueued}
 use Rattle.rules_spec.specs.Standing.{entries, inTable}
 use Rattle.rules_spec.specs.Ports.{isOf, wouldLeave, wouldEnter, refusing, serves, blocks, employs, failsUnconnected, failsUnserved, failsRefusing, failsInUse, portCheck, concerned}
-use Rattle.rules_spec.specs.PushB.{pushbCheck, pushed}
+use Rattle.rules_spec.specs.Tickets.{stamped, begunTo, goesOn, pushedTo, notAbove, hasStamp}
+use Rattle.rules_spec.specs.PushB.{plain, pushbCheck, pushed}
 use Rattle.rules_spec.specs.Step.{actionAt, action, stepCheckWith, stepTo, step}
 use Rattle.rules_spec.specs.Wait.{waitCheck}
 use Rattle.rules_spec.specs.Walk.{oneMore, walk, walkFrom}
 use Rattle.sets.specs.Mask.{member, collect}
 use Rattle.sets.specs.Test.{allBelow, anyBelow, lowest, tally}
 use Rattle.demands.specs.Agree.{names, deeds, naming}
-use Rattle.demands.specs.OnTexts.{sheetTables, sheetProgram, answerSteps, AllAllowed}
+use Rattle.demands.specs.OnTexts.{sheetTables, ownProgram, outsetOf, sheetProgram, answerSteps, AllAllowed}
 use Rattle.timing_spec.specs.Order.{OrderMayAlterTheMark}
 use Rattle.timing_spec.specs.Cases.{twins, together, oneByOne, seconds, timedTable, AllTimedMet}
 use Rattle.timing_spec.specs.Clock.{atStart, notes, tick, clockFrom, clockOf}
@@ -72,7 +73,7 @@ record Marks (m : Marking) (a x : List ℕ) (mark sham : ℕ) : Type 0 where
 
 -- what the two answers do: the four instructions, then the moves of both
 abbrev instructions : List Action → List Action
-instructions moves = add 0 0 ∷ add 1 0 ∷ pushb 0 0 ∷ pushb 1 0 ∷ moves
+instructions moves = add 0 0 ∷ add 1 0 ∷ pushb 0 (plain 0) ∷ pushb 1 (plain 0) ∷ moves
 
 abbrev togetherDoes : List Action
 togetherDoes = instructions (fire 0 0 ∷ fire 1 0 ∷ end 0 0 ∷ end 1 0 ∷ [])
@@ -116,7 +117,7 @@ record Computed : Type 0 where
   each-step : Marks roundsEachStep oneByOne underAPass 464 650
 
 computed : Computed
-unfolding member collect allBelow anyBelow noTables noProgram noAnswer start isServed entries inTable listOf queueOf put withQueue withServers withDone key digit numberFrom membersFrom list oneForm twoForm threeForm fourForm listForm listsForm digitsIn numberText membersBelow moreText listText maskText inTurn oneText twoText threeText fourText headed withType withTransition withPort programOf withInstruction answerOf withStep dueLine countLineIn initialLine tranLine behaviorLine group portLine doId doNumber doEnds doLine stepId stepNumber stepLine each upToLf lfs lineNumber lineStart tranAt behaviorAt portAt typeLines instructionAt sheet stepAt answer instructionAction moveAction actionCheck effect concern addCheck added down closed zeroed renewed isOf isUsePort isProvidePort conCheck connected sameConnection dconCheck disconnected namedBy delCheck deleted endCheck endTo enterRow enterCheck enterTo mayLeave finishRow finishCheck finished fireRow fireCheck fireTo active current endsAt leaving entering fired endedBy entered withQueued wouldLeave wouldEnter refusing serves blocks employs failsUnconnected failsUnserved failsRefusing failsInUse portCheck lowest concerned pushbCheck pushed actionAt action stepCheckWith stepTo step waitCheck oneMore walk walkFrom textText faultText tally countText portText instanceText connectionText instanceAt connectionLine linesFrom instancesText connectionsText reportWith report short shortStart outset read allUnder course faultLine faultPlace afterFault noRoom stepPlace afterWalk inRoom ending judged over printing printed timesNumber timeLine time times timesOf withTime atStart notes tick clockFrom clockOf nearest markOf markAfter clockBy courseBy timedBy clocked timedCourse markedReport markInRoom timedEnding timed timedPrinting timedPrinted names deeds naming sheetTables sheetProgram answerSteps
+unfolding member collect allBelow anyBelow noTables noneBegun noProgram noAnswer start isServed entries inTable listOf queueOf put withQueue withServers withDone key digit numberFrom membersFrom list oneForm twoForm threeForm fourForm listForm listsForm digitsIn numberText membersBelow moreText listText maskText inTurn oneText twoText threeText fourText headed withType withTransition withPort programOf withInstruction answerOf withStep editionLine dueLine countLineIn initialLine tranLine behaviorLine group portLine doId doNumber doEnds doTicketed doWait doLine stepId stepNumber stepLine each upToLf lfs lineNumber lineStart tranAt behaviorAt portAt typeLines instructionAt sheet stepAt answer instructionAction moveAction actionCheck effect concern addCheck added down closed zeroed renewed isOf isUsePort isProvidePort conCheck connected sameConnection dconCheck disconnected namedBy delCheck deleted endCheck endTo enterRow enterCheck enterTo mayLeave finishRow finishCheck finished fireRow fireCheck fireTo active current endsAt leaving entering fired endedBy entered withQueued wouldLeave wouldEnter refusing serves blocks employs failsUnconnected failsUnserved failsRefusing failsInUse portCheck lowest concerned pushbCheck pushed stamped begunTo goesOn pushedTo notAbove hasStamp actionAt action stepCheckWith stepTo step waitCheck oneMore walk walkFrom textText faultText tally countText portText slotText moreSlots queueText instanceText connectionText instanceAt connectionLine linesFrom instancesText connectionsText reportWith report short shortStart outset read allUnder course faultLine faultPlace afterFault noRoom stepPlace afterWalk inRoom ending judged over printing printed timesNumber timeLine time times timesOf withTime atStart notes tick clockFrom clockOf nearest markOf markAfter clockBy courseBy timedBy clocked timedCourse markedReport markInRoom timedEnding timed timedPrinting timedPrinted names deeds naming sheetTables ownProgram outsetOf sheetProgram answerSteps
 computed = record {
   cases = ((refl, refl), ((refl, refl), ((refl, refl), ((refl, refl), ((refl, refl), ((refl, refl), ((refl, refl), ((refl, refl), ((refl, refl), ((refl, refl), ((refl, refl), ((refl, refl), ((refl, refl), ((refl, refl), ((refl, refl), ((refl, refl), tt))))))))))))))));
   order = record { first = refl; second = refl; together-does = refl; one-by-one-does = refl; quick = refl; slow = refl };

@@ -25,7 +25,7 @@ use Rattle.read_spec.proofs.Rests.{StopsAt}
 use Rattle.read_spec.specs.Lawful.{Lawful, SheetsAreLawful}
 use Rattle.read_spec.proofs.Lawful.{sheet-stops, answer-stops, sheets-are-lawful}
 use Rattle.start_spec.specs.Paper.{Beginning, nothing, given, Paper}
-use Rattle.start_spec.specs.Text.{startLengthOk}
+use Rattle.start_spec.specs.Text.{Outset, startLengthOk}
 use Rattle.start_spec.specs.Served.{someUnserved}
 use Rattle.start_spec.proofs.Proper.{start-stops}
 use Rattle.judge_spec.specs.Course.{Course, faulty, reached, goOn, short, shortStart, served, outset, read, defaultDepth, allUnder, course}
@@ -90,18 +90,18 @@ unfolding shortStart
 short-start-stage nothing = passes
 short-start-stage (given x) = by-test (startLengthOk (length x)) (λ e. rw (e, shortStart) passes) (λ e. rw (e, shortStart) (fails {n = 1} (low-number 1 (omega arith))))
 
-served-stage : (t : Tables) (c : Configuration) → Stage text.Start (served t c)
+served-stage : (t : Tables) (p : Program) (y : Outset) → Stage text.Start (served t p y)
 unfolding served
-served-stage t c = by-test (someUnserved t c) (λ e. rw (e, served) (fails {n = 50} (record { range = inr refl }))) (λ e. rw (e, served) passes)
+served-stage t p y = by-test (someUnserved t (y .0)) (λ e. rw (e, served) (fails {n = 50} (record { range = inr refl }))) (λ e. rw (e, served) passes)
 
 stage-then : {A B : Type 0} {k : Text} {m : Course A} (f : A → Course B) → Stage k m → ((a : A) → Stage k (f a)) → Stage k (goOn m f)
 stage-then f (fails l) h = fails l
 stage-then f (passes {a}) h = h a
 
-begins-stage : (t : Tables) (p : Program) → Lawful t p → (g : Beginning) → Stage text.Start (outset defaultDepth t g)
+begins-stage : (t : Tables) (p : Program) → Lawful t p → (g : Beginning) → Stage text.Start (outset defaultDepth t p g)
 unfolding outset
 begins-stage t p law nothing = passes
-begins-stage t p law (given x) = stage-then _ (read-stage text.Start _ x (start-stops defaultDepth t p x (omega arith) law)) (λ c. served-stage t c)
+begins-stage t p law (given x) = stage-then _ (read-stage text.Start _ x (start-stops defaultDepth t p x (omega arith) law)) (λ y. served-stage t p y)
 
 sheet-read : {B : Type 0} (s : List ℕ) (f : Tables × Program → Course B) → ((x : Tables × Program) → Lawful (x .0) (x .1) → Pair (f x)) → Pair (goOn (read text.Sheet sheet s) f)
 unfolding read SheetsAreLawful
