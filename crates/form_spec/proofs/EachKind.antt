@@ -12,7 +12,7 @@ use Rattle.item_spec.specs.Reader.{byte, bytes}
 use Rattle.item_spec.specs.Write.{digitsIn, numberText, members, moreText, listText, maskText, oneText, twoText, threeText, fourText}
 use Rattle.item_spec.proofs.Tests.{by-test}
 use Rattle.model.specs.declared.Instruction.{Instruction}
-use Rattle.model.specs.Verb.{addVerb, delVerb, pushbVerb, conVerb, dconVerb, waitVerb}
+use Rattle.model.specs.Verb.{addVerb, delVerb, pushbVerb, conVerb, dconVerb, waitVerb, pushTicketVerb, waitTicketVerb}
 use Rattle.report_spec.specs.Report.{countText}
 use Rattle.write_spec.specs.Kinds.{setsText, initialText, tranText, behaviorText, portLineText, portFault, doText, doFault}
 use Rattle.form_spec.proofs.Rows.{plain, plains, plains-append, Cell, Rest, ends, then-cell, Row, row}
@@ -69,11 +69,13 @@ rest-two : (a b : ℕ) → Rest (bytes "," ++ twoText a b)
 unfolding twoText
 rest-two a b = rw (append-assoc (numberText a) (bytes ",") (oneText b)) (then-cell (numberText a) (bytes "," ++ oneText b) (number-cell a) (rest-one b))
 
+rest-three : (a b c : ℕ) → Rest (bytes "," ++ threeText a b c)
+unfolding threeText
+rest-three a b c = rw (append-assoc (numberText a) (bytes ",") (twoText b c)) (then-cell (numberText a) (bytes "," ++ twoText b c) (number-cell a) (rest-two b c))
+
 rest-four : (a b c d : ℕ) → Rest (bytes "," ++ fourText a b c d)
-unfolding fourText threeText
-rest-four a b c d =
-    rw (append-assoc (numberText a) (bytes ",") (numberText b ++ bytes "," ++ twoText c d), append-assoc (numberText b) (bytes ",") (twoText c d))
-    (then-cell (numberText a) _ (number-cell a) (then-cell (numberText b) _ (number-cell b) (rest-two c d)))
+unfolding fourText
+rest-four a b c d = rw (append-assoc (numberText a) (bytes ",") (threeText b c d)) (then-cell (numberText a) (bytes "," ++ threeText b c d) (number-cell a) (rest-three b c d))
 
 rest-sets : (a b : ℕ) → Rest (bytes "," ++ setsText a b)
 rest-sets a b =
@@ -81,6 +83,10 @@ rest-sets a b =
     (then-cell (maskText a) _ (mask-cell a) (then-cell (maskText b) (bytes "\n") (mask-cell b) ends))
 
 -- ---- the kinds of lines
+pub edition-row : (n : ℕ) → Row (bytes "sheet=") (countText (bytes "sheet=") n)
+unfolding countText oneText plains plain
+edition-row n = row (byte "s") (bytes "heet") (numberText n) (bytes "\n") refl (number-cell n) ends _ refl
+
 pub depth-row : (n : ℕ) → Row (bytes "depth=") (countText (bytes "depth=") n)
 unfolding countText oneText plains plain
 depth-row n = row (byte "d") (bytes "epth") (numberText n) (bytes "\n") refl (number-cell n) ends _ refl
@@ -120,13 +126,15 @@ port-row n k m y f =
     λ u. by-test (eqb (y .0) 0) (λ z. rw (u, z) (port-of (bytes "provide") _ (record { all-plain = refl; some = omega arith }) rest))
     λ z. absurd (let q : _≡_ {A = ℕ} 2 0 = rw (lt-leb (y .0) 1 (omega (arith, eqb-false (y .0) 1 u, eqb-false (y .0) 0 z))) at f in omega arith)
 
-pub do-row : (n : ℕ) (x : Instruction) → doFault n x ≡ 0 → Row (bytes "do=") (doText x)
+pub do-row : (f n : ℕ) (x : Instruction) → doFault f n x ≡ 0 → Row (bytes "do=") (doText x)
 unfolding doText doFault plains plain
-do-row n x f =
+do-row f n x z =
     by-test (eqb (x .verb) addVerb) (λ a. rw a (do-of (bytes "add") _ (record { all-plain = refl; some = omega arith }) (rest-two (x .id) (x .number))))
     λ a. by-test (eqb (x .verb) delVerb) (λ d. rw (a, d) (do-of (bytes "del") _ (record { all-plain = refl; some = omega arith }) (rest-one (x .id))))
     λ d. by-test (eqb (x .verb) pushbVerb) (λ b. rw (a, d, b) (do-of (bytes "pushb") _ (record { all-plain = refl; some = omega arith }) (rest-two (x .id) (x .number))))
     λ b. by-test (eqb (x .verb) conVerb) (λ c. rw (a, d, b, c) (do-of (bytes "con") _ (record { all-plain = refl; some = omega arith }) (rest-four (x .id) (x .number) (x .provider) (x .provideport))))
     λ c. by-test (eqb (x .verb) dconVerb) (λ e. rw (a, d, b, c, e) (do-of (bytes "dcon") _ (record { all-plain = refl; some = omega arith }) (rest-four (x .id) (x .number) (x .provider) (x .provideport))))
     λ e. by-test (eqb (x .verb) waitVerb) (λ w. rw (a, d, b, c, e, w) (do-of (bytes "wait") _ (record { all-plain = refl; some = omega arith }) (rest-one (x .id))))
-    λ w. absurd (let q : _≡_ {A = ℕ} 2 0 = rw (a, d, b, c, e, w) at f in omega arith)
+    λ w. by-test (eqb (x .verb) pushTicketVerb) (λ g. rw (a, d, b, c, e, w, g) (do-of (bytes "pushb") _ (record { all-plain = refl; some = omega arith }) (rest-three (x .id) (x .number) (x .provider))))
+    λ g. by-test (eqb (x .verb) waitTicketVerb) (λ i. rw (a, d, b, c, e, w, g, i) (do-of (bytes "wait") _ (record { all-plain = refl; some = omega arith }) (rest-two (x .id) (x .number))))
+    λ i. absurd (let q : _≡_ {A = ℕ} 2 0 = rw (a, d, b, c, e, w, g, i) at z in omega arith)

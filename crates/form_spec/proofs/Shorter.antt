@@ -3,10 +3,12 @@
 use Prim.Native.Nat.{ℕ, zero, suc, _+_, _*_, _≤_, _<_}
 use mathlib.Core.List.{List, _++_}
 use mathlib.Core.Path.{_≡_}
+use lib.Dec.{eqb}
 use native.Mathlib.Omega.{arith}
 use lib.ListN.{length, length-append}
 use Rattle.item_spec.specs.Reader.{bytes}
 use Rattle.item_spec.specs.Write.{inTurn, oneText}
+use Rattle.item_spec.proofs.Tests.{by-test}
 use Rattle.model.specs.declared.Tables.{Tables}
 use Rattle.model.specs.declared.Program.{Program}
 use Rattle.model.specs.View.{typeOf}
@@ -14,7 +16,7 @@ use Rattle.report_spec.specs.Report.{countText}
 use Rattle.form_cells.proofs.Laws.{cells-length}
 use Rattle.write_spec.specs.Kinds.{initialText, tranText, behaviorText, portLineText, doText}
 use Rattle.write_spec.specs.Texts.{transitionRow, behaviorRow, portRow, instructionRow, typeText, sheetText}
-use Rattle.write_texts.specs.Form.{typeLinesText, typeRowsText, formLines, formText}
+use Rattle.write_texts.specs.Form.{typeLinesText, typeRowsText, editionRow, formFirst, formLines, formText}
 use Rattle.form_spec.proofs.TypeForm.{typeRowsOf}
 
 -- no line is looked into but for its key
@@ -42,15 +44,19 @@ type-shorter t i =
     (countText (bytes "behaviors=") (typeOf t i .behaviors)) (countText (bytes "ports=") (typeOf t i .ports))
     (omega (arith, count-long (bytes "type=") n, count-long (bytes "places=") n))
 
-form-sums : (a b c d e f g : List ℕ) → length c ≤ length f → 0 < length a → length ((b ++ c) ++ e) < length (a ++ (b ++ (d ++ (f ++ (g ++ e)))))
-form-sums a b c d e f g l s = simp length-append (omega (arith, l, s))
+-- the first line is left out, or it is the same
+edition-shorter : (e : ℕ) → length (editionRow e) ≤ length (countText (bytes "sheet=") e)
+edition-shorter e = by-test (eqb e 1) (λ q. rw q (omega arith)) (λ q. rw q (omega arith))
+
+form-sums : (o a b c d e f g : List ℕ) → length o ≤ length a → length c ≤ length f → 0 < length d → length (((o ++ b) ++ c) ++ e) < length (a ++ (b ++ (d ++ (f ++ (g ++ e)))))
+form-sums o a b c d e f g h l s = simp length-append (omega (arith, h, l, s))
 
 pub form-shorter : (t : Tables) (p : Program) → length (formText t p) < length (sheetText t p)
-unfolding formText formLines sheetText
+unfolding formText formLines formFirst sheetText
 form-shorter t p =
     let q = cells-length (formLines t p) in
     let l : length (formLines t p) < length (sheetText t p) =
-    form-sums (countText (bytes "sheet=") 1) (countText (bytes "depth=") (t .depth)) (inTurn (typeRowsOf t) (t .count)) (countText (bytes "types=") (t .count))
+    form-sums (editionRow (p .edition)) (countText (bytes "sheet=") (p .edition)) (countText (bytes "depth=") (t .depth)) (inTurn (typeRowsOf t) (t .count)) (countText (bytes "types=") (t .count))
     (inTurn (λ j. doText (instructionRow p j)) (p .count)) (inTurn (λ i. typeText t i) (t .count)) (countText (bytes "program=") (p .count))
-    (turn-shorter (typeRowsOf t) (λ i. typeText t i) (type-shorter t) (t .count)) (omega (arith, count-long (bytes "sheet=") 1)) in
+    (edition-shorter (p .edition)) (turn-shorter (typeRowsOf t) (λ i. typeText t i) (type-shorter t) (t .count)) (omega (arith, count-long (bytes "types=") (t .count))) in
     omega (arith, q, l)

@@ -38,7 +38,8 @@ use Rattle.write_spec.specs.Cleared.{column, spokenStep, clearedAnswer}
 use Rattle.write_spec.specs.Round.{Digits, DigitsOfStep, HeldSteps, AnswersAreShort, OneNeverOfAnswers}
 use Rattle.write_spec.proofs.Turns.{or-zero, or-some, or-both, first-none, first-zero, limit-met}
 use Rattle.write_spec.proofs.Says.{Says, says-line, says-map, says-all, Ends, ends-then, ends-here}
-use Rattle.write_spec.proofs.Written.{says-due, says-count, says-step}
+use Rattle.write_spec.proofs.Written.{says-due, says-count}
+use Rattle.write_spec.proofs.Verbs.{says-step}
 use Rattle.write_spec.proofs.Columns.{column-none, column-set, up-none, up-next}
 use Rattle.write_spec.proofs.Took.{takes-due, takes-count, takes-step, takes-all, end-back, on-value, run-then, line-then}
 

@@ -21,7 +21,7 @@ use Rattle.model.specs.View.{typeOf}
 use Rattle.model.specs.Empty.{noType, noTables, noProgram}
 use Rattle.read_spec.specs.Limits.{depthOk, typesOk, placesOk, transitionsOk, behaviorsOk, portsOk, programOk}
 use Rattle.read_spec.specs.Lines.{Run, on, stop, Lines, runOn, line, each, atEnd}
-use Rattle.read_spec.specs.Kinds.{dueLine, countLine, initialLine, tranLine, behaviorLine, portLine, doLine}
+use Rattle.read_spec.specs.Kinds.{editionLine, dueLine, countLine, initialLine, tranLine, behaviorLine, portLine, doLine}
 use Rattle.read_spec.specs.Fill.{headed, withType, withTransition, withPort, programOf, withInstruction}
 use Rattle.read_spec.specs.Texts.{tranAt, behaviorAt, portAt, typeLines, instructionAt, sheet}
 use Rattle.read_spec.proofs.Slots.{typeSlots, types-sound, transitionSlots, transitions-sound, behaviorSlots, behaviors-sound, portSlots, ports-sound, instructionSlots, instructions-sound}
@@ -29,7 +29,7 @@ use Rattle.report_spec.specs.Report.{countText}
 use Rattle.write_spec.specs.Kinds.{initialText, tranText, behaviorText, portLineText, doText}
 use Rattle.write_spec.specs.Texts.{transitionRow, behaviorRow, portRow, instructionRow, typeText, sheetText}
 use Rattle.write_spec.proofs.Turns.{inTurnFrom, turn-from, turn-same}
-use Rattle.write_spec.proofs.Took.{takes-due, takes-count, takes-initial, takes-tran, takes-behavior, takes-port, takes-do, takes-rows, takes-all, end-back, on-value, on-rest, not-on, run-then, line-then}
+use Rattle.write_spec.proofs.Took.{takes-edition, takes-due, takes-count, takes-initial, takes-tran, takes-behavior, takes-port, takes-do, takes-rows, takes-all, end-back, on-value, on-rest, not-on, run-then, line-then}
 
 -- the arrays have their lengths
 record Whole (t : Tables) : Type 0 where
@@ -166,7 +166,7 @@ read-types (suc n) i t u s r l w q =
       whole = y .whole;
     }
 
-sheet-made : (u : Tables) (v : Program) (s s₁ s₂ s₃ s₄ s₅ : List ℕ) → s ≡ countText (bytes "sheet=") 1 ++ s₁ → s₁ ≡ countText (bytes "depth=") (u .depth) ++ s₂ → s₂ ≡ countText (bytes "types=") (u .count) ++ s₃
+sheet-made : (u : Tables) (v : Program) (s s₁ s₂ s₃ s₄ s₅ : List ℕ) → s ≡ countText (bytes "sheet=") (v .edition) ++ s₁ → s₁ ≡ countText (bytes "depth=") (u .depth) ++ s₂ → s₂ ≡ countText (bytes "types=") (u .count) ++ s₃
     → s₃ ≡ inTurn (typeText u) (u .count) ++ s₄ → s₄ ≡ countText (bytes "program=") (v .count) ++ s₅ → s₅ ≡ inTurn (λ j. doText (instructionRow v j)) (v .count) → s ≡ sheetText u v
 unfolding sheetText
 sheet-made u v s s₁ s₂ s₃ s₄ s₅ a b c d e f = rw (a, b, c, d, e, f)
@@ -174,17 +174,17 @@ sheet-made u v s s₁ s₂ s₃ s₄ s₅ a b c d e f = rw (a, b, c, d, e, f)
 pub sheets-are-their-texts : (s r : List ℕ) (t : Tables) (p : Program) → sheet s ≡ on (t, p) r → s ≡ sheetText t p
 unfolding sheet sheetText headed noTables programOf noProgram instructionAt typeText
 sheets-are-their-texts s r t p q =
-    line-then (dueLine (bytes "sheet=") 1) _ s q λ _ s₁ e₁ q. line-then (countLine (bytes "depth=") depthOk) _ s₁ q λ d s₂ e₂ q. line-then (countLine (bytes "types=") typesOk) _ s₂ q λ n s₃ e₃ q.
+    line-then editionLine _ s q λ e s₁ e₁ q. line-then (countLine (bytes "depth=") depthOk) _ s₁ q λ d s₂ e₂ q. line-then (countLine (bytes "types=") typesOk) _ s₂ q λ n s₃ e₃ q.
     let (x₃, ln) = takes-count (bytes "types=") typesOk s₂ e₃ in
     let hn : n ≤ 16 = leb-true n 16 (and-right (leb 1 n) (leb n 16) ln) in
     run-then (each typeLines n 0 (headed d n) s₃) _ q λ u s₄ e₄ q. line-then (countLine (bytes "program=") programOk) _ s₄ q λ k s₅ e₅ q.
     let (x₅, lk) = takes-count (bytes "program=") programOk s₄ e₅ in
     let hk : k ≤ 256 = leb-true k 256 lk in
-    run-then (each (instructionAt n) k 0 (programOf k) s₅) _ q λ v s₆ e₆ q. run-then (atEnd s₆) _ q λ _ s₇ e₇ q.
+    run-then (each (instructionAt e n) k 0 (programOf e k) s₅) _ q λ v s₆ e₆ q. run-then (atEnd s₆) _ q λ _ s₇ e₇ q.
     let types = read-types n 0 (headed d n) u s₃ s₄ (omega arith) (record { types = (refl, tt); transitions = (refl, refl); behaviors = (refl, tt); ports = (refl, refl, refl) }) e₄ in
-    let lines = takes-all (instructionSlots k) (instructions-sound k) (doLine n) doText (takes-do n) k (programOf k) v s₅ s₆ hk (refl, refl) e₆ in
+    let lines = takes-all (instructionSlots e k) (instructions-sound e k) (doLine e n) doText (takes-do e n) k (programOf e k) v s₅ s₆ hk (refl, (refl, refl, refl)) e₆ in
     let tables : u ≡ t = ap (λ (x : Tables × Program). x .0) (on-value q) in
     let program : v ≡ p = ap (λ (x : Tables × Program). x .1) (on-value q) in
     rw (← tables, ← program)
-    (sheet-made u v s s₁ s₂ s₃ s₄ s₅ (takes-due (bytes "sheet=") 1 s e₁) (rw (types .stays .depth) (takes-count (bytes "depth=") depthOk s₁ e₂ .0)) (rw (types .stays .count) x₃)
-    (rw (types .stays .count) (types .is ∙ ap (λ (l : List ℕ). l ++ s₄) (sym (turn-from 0 (typeText u) (typeText u) (λ x. ap (typeText u) (sym (zero-add x))) n)))) (rw (lines .sized .1) x₅) (rw (lines .sized .1) (lines .is ∙ rw (end-back s₆ e₇) (append-nil _))))
+    (sheet-made u v s s₁ s₂ s₃ s₄ s₅ (rw (lines .sized .1 .0) (takes-edition s e₁ .0)) (rw (types .stays .depth) (takes-count (bytes "depth=") depthOk s₁ e₂ .0)) (rw (types .stays .count) x₃)
+    (rw (types .stays .count) (types .is ∙ ap (λ (l : List ℕ). l ++ s₄) (sym (turn-from 0 (typeText u) (typeText u) (λ x. ap (typeText u) (sym (zero-add x))) n)))) (rw (lines .sized .1 .1) x₅) (rw (lines .sized .1 .1) (lines .is ∙ rw (end-back s₆ e₇) (append-nil _))))

@@ -12,11 +12,11 @@ use Rattle.model.specs.declared.Tables.{Tables}
 use Rattle.model.specs.declared.Instruction.{Instruction}
 use Rattle.model.specs.declared.Program.{Program}
 use Rattle.model.specs.View.{typeOf}
-use Rattle.model.specs.Verb.{addVerb, delVerb, pushbVerb, conVerb, dconVerb, waitVerb}
-use Rattle.read_spec.specs.Limits.{depthOk, typesOk, placesOk, transitionsOk, behaviorsOk, portsOk, programOk, maskOk, endOk, endsOk, initialOk, useOk, kindOk, idOk, portOk, typeOk, behaviorOk}
+use Rattle.model.specs.Verb.{addVerb, delVerb, pushbVerb, conVerb, dconVerb, waitVerb, pushTicketVerb, waitTicketVerb}
+use Rattle.read_spec.specs.Limits.{depthOk, typesOk, placesOk, transitionsOk, behaviorsOk, portsOk, programOk, maskOk, endOk, endsOk, initialOk, useOk, kindOk, idOk, portOk, typeOk, behaviorOk, ticketOk, hasTickets, editionOk}
 use Rattle.read_spec.specs.Lawful.{transitionLawful, behaviorLawful, portLawful, typeLawful, tablesLawful, instructionLawful, programLawful, Lawful}
 use Rattle.rules_spec.specs.Refusal.{_⇒_∣_, orNumber}
-use Rattle.write_spec.specs.Kinds.{limitFault, initialFault, tranFault, behaviorFault, portFault, doFault}
+use Rattle.write_spec.specs.Kinds.{limitFault, editionFault, initialFault, tranFault, behaviorFault, portFault, doFault}
 use Rattle.write_spec.specs.Texts.{firstOf, transitionRow, behaviorRow, portRow, instructionRow, typeFault, sheetFault}
 use Rattle.write_spec.proofs.Turns.{or-both, first-zero, limit-met, clauses-met}
 
@@ -81,27 +81,42 @@ module _ (t : Tables) (i : ℕ) where
       (all-of (v .ports) (portLawful t i) (λ x h. port-lawful x (first-zero groupFault (v .ports) groups x h)))
 
 -- ---- an instruction
-pub do-lawful : (n : ℕ) (x : Instruction) → doFault n x ≡ 0 → instructionLawful n x ≡ true
+pub do-lawful : (f n : ℕ) (x : Instruction) → doFault f n x ≡ 0 → instructionLawful f n x ≡ true
 unfolding doFault instructionLawful
-do-lawful n x e =
+do-lawful f n x e =
     by-test (eqb (x .verb) addVerb) (λ a. let h = limit-met (idOk (x .id) && typeOk n (x .number)) (rw a at e) in rw (and-left (idOk (x .id)) (typeOk n (x .number)) h, a) (and-right (idOk (x .id)) (typeOk n (x .number)) h))
     λ a. by-test (eqb (x .verb) delVerb) (λ d. rw (limit-met (idOk (x .id)) (rw (a, d) at e), eqb-true (x .verb) delVerb d))
-    λ d. by-test (eqb (x .verb) pushbVerb) (λ b. let h = limit-met (idOk (x .id) && behaviorOk (x .number)) (rw (a, d, b) at e) in rw (and-left (idOk (x .id)) (behaviorOk (x .number)) h, a, b) (and-right (idOk (x .id)) (behaviorOk (x .number)) h))
+    λ d. by-test (eqb (x .verb) pushbVerb) (λ b. by-test (hasTickets f) (λ k. absurd (let z : _≡_ {A = ℕ} 2 0 = rw (a, d, b, k) at e in omega arith))
+    (λ k. let h = limit-met (idOk (x .id) && behaviorOk (x .number)) (rw (a, d, b, k) at e) in rw (and-left (idOk (x .id)) (behaviorOk (x .number)) h, a, b, k) (and-right (idOk (x .id)) (behaviorOk (x .number)) h)))
     λ b. by-test (eqb (x .verb) conVerb || eqb (x .verb) dconVerb) (λ c. let h = limit-met (idOk (x .id) && ends) (rw (a, d, b, c) at e) in rw (and-left (idOk (x .id)) ends h, a, b, c) (and-right (idOk (x .id)) ends h))
-    λ c. by-test (eqb (x .verb) waitVerb) (λ w. rw (limit-met (idOk (x .id)) (rw (a, d, b, c, w) at e), a, b, c, d) w)
-    λ w. absurd (let z : _≡_ {A = ℕ} 2 0 = rw (a, d, b, c, w) at e in omega arith)
+    λ c. by-test (eqb (x .verb) waitVerb) (λ w. rw (limit-met (idOk (x .id)) (rw (a, d, b, c, w) at e), eqb-true (x .verb) waitVerb w))
+    λ w. by-test (eqb (x .verb) pushTicketVerb) (λ g. by-test (hasTickets f)
+    (λ k. let h = limit-met (idOk (x .id) && pair) (rw (a, d, b, c, w, g, k) at e) in rw (and-left (idOk (x .id)) pair h, a, b, c, g, k) (and-right (idOk (x .id)) pair h))
+    (λ k. absurd (let z : _≡_ {A = ℕ} 2 0 = rw (a, d, b, c, w, g, k) at e in omega arith)))
+    λ g. by-test (eqb (x .verb) waitTicketVerb) (λ i. by-test (hasTickets f)
+    (λ k. let h = limit-met (idOk (x .id) && ticketOk (x .number)) (rw (a, d, b, c, w, g, i, k) at e) in rw (and-left (idOk (x .id)) (ticketOk (x .number)) h, a, b, c, g, i, k) (and-right (idOk (x .id)) (ticketOk (x .number)) h))
+    (λ k. absurd (let z : _≡_ {A = ℕ} 2 0 = rw (a, d, b, c, w, g, i, k) at e in omega arith)))
+    λ i. absurd (let z : _≡_ {A = ℕ} 2 0 = rw (a, d, b, c, w, g, i) at e in omega arith)
   where
+    pair : Bool
+    pair = behaviorOk (x .number) && ticketOk (x .provider)
+
     ends : Bool
     ends = portOk (x .number) && (idOk (x .provider) && portOk (x .provideport))
+
+pub edition-met : (f : ℕ) → editionFault f ≡ 0 → editionOk f ≡ true
+unfolding editionFault
+edition-met f e = by-test (editionOk f) (λ k. k) (λ k. absurd (let z : _≡_ {A = ℕ} 2 0 = rw k at e in omega arith))
 
 -- ---- the sheet
 pub sheet-lawful : (t : Tables) (p : Program) → sheetFault t p ≡ 0 → Lawful t p
 unfolding sheetFault Lawful tablesLawful programLawful
-sheet-lawful t p e =
+sheet-lawful t p e₀ =
+    let (edition, e) = or-both (editionFault (p .edition)) _ e₀ in
     let (depth, e₁) = or-both _ _ e in
     let (count, e₂) = or-both _ _ e₁ in
     let (types, e₃) = or-both (firstOf (typeFault t) (t .count)) _ e₂ in
-    let (program, lines) = or-both (limitFault (programOk (p .count))) (firstOf (λ j. doFault (t .count) (instructionRow p j)) (p .count)) e₃ in (
+    let (program, lines) = or-both (limitFault (programOk (p .count))) (firstOf (λ j. doFault (p .edition) (t .count) (instructionRow p j)) (p .count)) e₃ in (
       rw (limit-met (depthOk (t .depth)) depth, limit-met (typesOk (t .count)) count) (all-of (t .count) (typeLawful t) (λ i h. type-lawful t i (first-zero (typeFault t) (t .count) types i h))),
-      rw (limit-met (programOk (p .count)) program) (all-of (p .count) _ (λ j h. do-lawful (t .count) (instructionRow p j) (first-zero (λ j. doFault (t .count) (instructionRow p j)) (p .count) lines j h))),
+      rw (limit-met (programOk (p .count)) program, edition-met (p .edition) edition) (all-of (p .count) _ (λ j h. do-lawful (p .edition) (t .count) (instructionRow p j) (first-zero (λ j. doFault (p .edition) (t .count) (instructionRow p j)) (p .count) lines j h))),
     )

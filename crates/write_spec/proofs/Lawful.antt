@@ -9,7 +9,7 @@ use native.Mathlib.Nat.{lt-of-lt-of-le, zero-add}
 use lib.Pow.{pow-mono}
 use lib.Dec.{eqb, leb}
 use lib.ListN.{getD}
-use borrow.Author.Tests.{leb-true, ltb-true, eqb-true}
+use borrow.Author.Tests.{leb-true, ltb-true, eqb-true, not-true}
 use Rattle.sets.specs.Test.{allBelow}
 use Rattle.sets.proofs.Laws.{all-at}
 use Rattle.item_spec.proofs.Tests.{by-test, or-not}
@@ -18,12 +18,12 @@ use Rattle.model.specs.declared.Instruction.{Instruction}
 use Rattle.model.specs.declared.Program.{Program}
 use Rattle.model.specs.Empty.{noInstruction}
 use Rattle.model.specs.View.{typeOf}
-use Rattle.model.specs.Verb.{addVerb, delVerb, pushbVerb, conVerb, dconVerb, waitVerb}
-use Rattle.read_spec.specs.Limits.{depthOk, typesOk, placesOk, transitionsOk, behaviorsOk, portsOk, programOk, maskOk, endOk, endsOk, initialOk, useOk, kindOk, idOk, portOk, typeOk, behaviorOk}
-use Rattle.read_spec.specs.Lawful.{transitionLawful, behaviorLawful, portLawful, typeLawful, tablesLawful, instructionLawful, programLawful, Lawful}
+use Rattle.model.specs.Verb.{addVerb, delVerb, pushbVerb, conVerb, dconVerb, waitVerb, pushTicketVerb, waitTicketVerb}
+use Rattle.read_spec.specs.Limits.{depthOk, typesOk, placesOk, transitionsOk, behaviorsOk, portsOk, programOk, maskOk, endOk, endsOk, initialOk, useOk, kindOk, idOk, portOk, typeOk, behaviorOk, hasTickets, editionOk}
+use Rattle.read_spec.specs.Lawful.{transitionLawful, behaviorLawful, portLawful, typeLawful, tablesLawful, verbLawful, instructionLawful, programLawful, Lawful}
 use Rattle.rules_spec.specs.Refusal.{_⇒_∣_, orNumber}
 use Rattle.rules_spec.proofs.Tables.{Kept, kept}
-use Rattle.write_spec.specs.Kinds.{limitFault, initialFault, tranFault, behaviorFault, portFault, doFault}
+use Rattle.write_spec.specs.Kinds.{limitFault, editionFault, initialFault, tranFault, behaviorFault, portFault, doFault}
 use Rattle.write_spec.specs.Texts.{transitionRow, behaviorRow, portRow, instructionRow, typeFault, sheetText, sheetFault}
 use Rattle.write_spec.specs.Cleared.{cleared, spoken, clearedProgram}
 use Rattle.write_spec.specs.Round.{Digits, Mask, DigitsOf, Held}
@@ -79,39 +79,46 @@ module _ (t : Tables) (i : ℕ) (law : typeLawful t i ≡ true) where
 
 -- ---- an instruction
 -- what holds of it by each verb that a line says
-pub record Told (n : ℕ) (x : Instruction) : Type 0 where
-  pub none : doFault n x ≡ 0
+pub record Told (f n : ℕ) (x : Instruction) : Type 0 where
+  pub none : doFault f n x ≡ 0
   pub digits : DigitsOf (spoken x)
 
 small : (a : ℕ) → idOk a ≡ true → Digits a
 small a e = omega (arith, leb-true a 31 e)
 
-pub told : (n : ℕ) (x : Instruction) → n ≤ 16 → instructionLawful n x ≡ true → Told n x
+pub told : (f n : ℕ) (x : Instruction) → n ≤ 16 → instructionLawful f n x ≡ true → Told f n x
 unfolding instructionLawful doFault spoken
-told n x few e =
+told f n x few e =
     let (id, rest) = both (idOk (x .id)) e in
     let i : Digits (x .id) = small (x .id) id in
     let z : Digits 0 = omega arith in
-    by-test (eqb (x .verb) addVerb)
-    (λ a. let h = rw a at rest in record { none = rw (a, id, h); digits = rw a (i, omega (arith, ltb-true (x .number) n h), z, z) })
-    (λ a. by-test (eqb (x .verb) pushbVerb)
-    (λ b. let h = rw (a, b) at rest in record { none = rw (a, not-del b, b, id, h); digits = rw (a, b) (i, omega (arith, leb-true (x .number) 7 h), z, z) })
-    (λ b. by-test (eqb (x .verb) conVerb || eqb (x .verb) dconVerb)
-    (λ c. let h = rw (a, b, c) at rest in
-    let (q, h₁) = both (portOk (x .number)) h in
-    let (j, r) = both (idOk (x .provider)) h₁ in
-    record { none = rw (a, not-del-con c, b, c, id, q, j, r); digits = rw (a, b, c) (i, omega (arith, leb-true (x .number) 15 q), small (x .provider) j, omega (arith, leb-true (x .provideport) 15 r)) })
-    (λ c. let h = rw (a, b, c) at rest in
-    by-test (eqb (x .verb) delVerb)
-    (λ d. record { none = rw (a, d, id); digits = rw (a, b, c) (i, z, z, z) })
-    (λ d. record { none = rw (a, d, b, c, or-not (eqb (x .verb) delVerb) _ h d, id); digits = rw (a, b, c) (i, z, z, z) }))))
+    by-test (eqb (x .verb) addVerb) (λ v. let q = eqb-true (x .verb) addVerb v in let h = rw q at rest in record { none = rw (q, id, h); digits = rw q (i, omega (arith, ltb-true (x .number) n h), z, z) })
+    λ a. by-test (eqb (x .verb) pushbVerb) (λ v. let q = eqb-true (x .verb) pushbVerb v in
+    let (k, h) = both (not (hasTickets f)) (rw q at rest) in
+    record { none = rw (q, not-true (hasTickets f) k, id, h); digits = rw q (i, omega (arith, leb-true (x .number) 7 h), z, z) })
+    λ b. by-test (eqb (x .verb) conVerb) (λ v. let q = eqb-true (x .verb) conVerb v in ends a (rw q) b (rw q) (rw q) id rest)
+    λ c. by-test (eqb (x .verb) dconVerb) (λ v. let q = eqb-true (x .verb) dconVerb v in ends a (rw q) b (rw q) (rw q) id rest)
+    λ d. by-test (eqb (x .verb) pushTicketVerb) (λ v. let q = eqb-true (x .verb) pushTicketVerb v in
+    let (k, h) = both (hasTickets f) (rw q at rest) in
+    let (j, l) = both (behaviorOk (x .number)) h in
+    record { none = rw (q, k, id, j, l); digits = rw q (i, omega (arith, leb-true (x .number) 7 j), omega (arith, leb-true (x .provider) 255 l), z) })
+    λ g. by-test (eqb (x .verb) waitTicketVerb) (λ v. let q = eqb-true (x .verb) waitTicketVerb v in
+    let (k, h) = both (hasTickets f) (rw q at rest) in
+    record { none = rw (q, k, id, h); digits = rw q (i, omega (arith, leb-true (x .number) 255 h), z, z) })
+    λ w. let h : (eqb (x .verb) delVerb || eqb (x .verb) waitVerb) ≡ true = rw (a, b, c, d, g, w) at rest in
+    by-test (eqb (x .verb) delVerb) (λ v. let q = eqb-true (x .verb) delVerb v in record { none = rw (q, id); digits = rw q (i, z, z, z) })
+    λ y. let q = eqb-true (x .verb) waitVerb (or-not (eqb (x .verb) delVerb) _ h y) in record { none = rw (q, id); digits = rw q (i, z, z, z) }
   where
-    not-del : eqb (x .verb) pushbVerb ≡ true → eqb (x .verb) delVerb ≡ false
-    not-del b = rw (eqb-true (x .verb) pushbVerb b)
+    ends : eqb (x .verb) addVerb ≡ false → eqb (x .verb) delVerb ≡ false → eqb (x .verb) pushbVerb ≡ false → eqb (x .verb) waitTicketVerb ≡ false
+        → (eqb (x .verb) conVerb || eqb (x .verb) dconVerb) ≡ true → idOk (x .id) ≡ true → verbLawful f n x ≡ true → Told f n x
+    ends a d b w c id rest =
+        let h = rw (a, b, c) at rest in
+        let (q, h₁) = both (portOk (x .number)) h in
+        let (j, r) = both (idOk (x .provider)) h₁ in
+        record { none = rw (a, d, b, c, id, q, j, r); digits = rw (a, b, w, c) (small (x .id) id, omega (arith, leb-true (x .number) 15 q), small (x .provider) j, omega (arith, leb-true (x .provideport) 15 r)) }
 
-    not-del-con : (eqb (x .verb) conVerb || eqb (x .verb) dconVerb) ≡ true → eqb (x .verb) delVerb ≡ false
-    not-del-con c =
-        by-test (eqb (x .verb) conVerb) (λ k. rw (eqb-true (x .verb) conVerb k)) (λ k. rw (eqb-true (x .verb) dconVerb (or-not (eqb (x .verb) conVerb) _ c k)))
+pub edition-small : (f : ℕ) → editionOk f ≡ true → Digits f
+edition-small f e = by-test (eqb f 1) (λ q. omega (arith, eqb-true f 1 q)) (λ q. omega (arith, eqb-true f 2 (or-not (eqb f 1) _ e q)))
 
 -- ---- the sheet
 pub masked : (n m : ℕ) → n ≤ 32 → maskOk n m ≡ true → Mask m
@@ -123,33 +130,36 @@ module _ (t : Tables) (p : Program) (law : Lawful t p) where
     count : typesOk (t .count) ≡ true
     type : (i : ℕ) → i < t .count → typeLawful t i ≡ true
     program : programOk (p .count) ≡ true
-    instruction : (j : ℕ) → j < p .count → instructionLawful (t .count) (instructionRow p j) ≡ true
+    edition : editionOk (p .edition) ≡ true
+    instruction : (j : ℕ) → j < p .count → instructionLawful (p .edition) (t .count) (instructionRow p j) ≡ true
 
   parts : Sheet
   unfolding Lawful tablesLawful programLawful
   parts =
       let (depth, e) = both (depthOk (t .depth)) (law .0) in
       let (count, types) = both (typesOk (t .count)) e in
-      let (program, lines) = both (programOk (p .count)) (law .1) in
+      let (program, rest) = both (programOk (p .count)) (law .1) in
+      let (edition, lines) = both (editionOk (p .edition)) rest in
       record {
         depth = depth;
         count = count;
         type = all-at (t .count) (typeLawful t) types;
         program = program;
-        instruction = all-at (p .count) (λ j. instructionLawful (t .count) (instructionRow p j)) lines;
+        edition = edition;
+        instruction = all-at (p .count) (λ j. instructionLawful (p .edition) (t .count) (instructionRow p j)) lines;
       }
 
   few : t .count ≤ 16
   few = leb-true (t .count) 16 (both (leb 1 (t .count)) (parts .count) .1)
 
-  line-told : (j : ℕ) → j < p .count → Told (t .count) (instructionRow p j)
-  line-told j h = told (t .count) (instructionRow p j) few (parts .instruction j h)
+  line-told : (j : ℕ) → j < p .count → Told (p .edition) (t .count) (instructionRow p j)
+  line-told j h = told (p .edition) (t .count) (instructionRow p j) few (parts .instruction j h)
 
   pub sheet-none : sheetFault t p ≡ 0
-  unfolding sheetFault
+  unfolding sheetFault editionFault
   sheet-none =
-      rw (parts .depth, parts .count, first-none (typeFault t) (t .count) (λ i h. type-none t i (parts .type i h)), parts .program)
-      (first-none (λ j. doFault (t .count) (instructionRow p j)) (p .count) (λ j h. line-told j h .none))
+      rw (parts .edition, parts .depth, parts .count, first-none (typeFault t) (t .count) (λ i h. type-none t i (parts .type i h)), parts .program)
+      (first-none (λ j. doFault (p .edition) (t .count) (instructionRow p j)) (p .count) (λ j h. line-told j h .none))
 
   module _ (i : ℕ) (h : i < t .count) where
     abbrev at : Kept t i
@@ -181,6 +191,7 @@ module _ (t : Tables) (p : Program) (law : Lawful t p) where
 
   pub sheet-held : Held t p
   sheet-held = record {
+    edition = edition-small (p .edition) (parts .edition);
     depth = omega (arith, leb-true (t .depth) 8 (parts .depth));
     count = omega (arith, few);
     places = λ i h. omega (arith, places-few i h);

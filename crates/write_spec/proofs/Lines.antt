@@ -13,14 +13,15 @@ use Rattle.item_spec.specs.Reader.{Reader}
 use Rattle.item_spec.proofs.Tests.{by-test, and-left, and-right}
 use Rattle.model.specs.declared.Instruction.{Instruction}
 use Rattle.model.specs.declared.Step.{Step}
-use Rattle.read_spec.specs.Limits.{depthOk, typesOk, placesOk, transitionsOk, behaviorsOk, portsOk, programOk, stepsOk, endOk, idOk, typeOk, behaviorOk, portOk, placeOk, transitionOk}
+use Rattle.read_spec.specs.Limits.{depthOk, typesOk, placesOk, transitionsOk, behaviorsOk, portsOk, programOk, stepsOk, endOk, idOk, typeOk, behaviorOk, portOk, placeOk, transitionOk, ticketOk, hasTickets}
 use Rattle.write_spec.specs.Kinds.{limitFault, tranFault, doFault, stepFault}
 use Rattle.write_spec.specs.Texts.{firstOf}
 use Rattle.write_spec.specs.Cleared.{spoken, spokenStep}
 use Rattle.write_spec.specs.Round.{Digits, DigitsOf, DigitsOfStep}
-use Rattle.write_spec.specs.Lines.{Replied, EachLineIsReplied, SixDigitsGetThree, FirstIsTheFirst}
+use Rattle.write_spec.specs.Lines.{Replied, HasWord, EachLineIsReplied, SixDigitsGetThree, FirstIsTheFirst}
 use Rattle.write_spec.proofs.Says.{SaysLine}
-use Rattle.write_spec.proofs.Written.{says-count, says-tran, says-initial, says-behavior, says-port, says-do, says-step}
+use Rattle.write_spec.proofs.Written.{says-count, says-tran, says-initial, says-behavior, says-port}
+use Rattle.write_spec.proofs.Verbs.{says-do, says-step}
 
 replied : {A : Type 0} {m : Reader A} {x : List ℕ} {n : ℕ} {a : A} → SaysLine m x n a → Replied m x n a
 replied w = record { reads = w .reads; refuses = w .refuses }
@@ -32,7 +33,7 @@ each-line-is-replied = record {
   tran = λ n y h g. replied (says-tran n y h g);
   behavior = λ k m l h. replied (says-behavior k m l h);
   port = λ n k m y l e h g. replied (says-port n k m y l e h g);
-  instruction = λ n x h. replied (says-do n x h);
+  instruction = λ e n x h. replied (says-do e n x h);
   step = λ x h. replied (says-step x h);
 }
 
@@ -47,24 +48,48 @@ at-most k n h e = omega (arith, leb-true n k e)
 two-kept : (ok : Bool) (a b most : ℕ) → most < 100000 → (ok ≡ true → b ≤ most) → idOk a && ok ≡ true → Digits a × Digits b
 two-kept ok a b most h least e = let l = least (and-right (idOk a) ok e) in (at-most 31 a (omega arith) (and-left (idOk a) ok e), omega arith)
 
-do-three : (n : ℕ) (x : Instruction) → n ≤ 16 → x .verb ≤ 5 → (DigitsOf (spoken x) → ⊥) → doFault n x ≡ 3
+-- a verb that is none of those below it
+past : (n v : ℕ) → n ≤ v → (v ≡ n → ⊥) → suc n ≤ v
+past n v h d = omega arith
+
+some : (v : ℕ) → (v ≡ 0 → ⊥) → 1 ≤ v
+some v d = omega arith
+
+seven : (v : ℕ) → v ≤ 7 → 7 ≤ v → v ≡ 7
+seven v h g = omega arith
+
+do-three : (ed n : ℕ) (x : Instruction) → n ≤ 16 → HasWord ed (x .verb) → (DigitsOf (spoken x) → ⊥) → doFault ed n x ≡ 3
 unfolding doFault spoken
-do-three n x few known never =
+do-three ed n x few word never =
     by-cases (ℕ-discrete (x .verb) 0)
     (λ e. rw e (over (idOk (x .id) && typeOk n (x .number)) (DigitsOf (record { verb = 0; id = x .id; number = x .number; provider = 0; provideport = 0 })) (λ d. never (rw e d))
     (λ k. let (a, b) = two-kept _ (x .id) (x .number) 16 (omega arith) (λ q. omega (arith, ltb-true (x .number) n q)) k in (a, b, omega arith, omega arith))))
     (λ n₀. by-cases (ℕ-discrete (x .verb) 1)
     (λ e. rw e (over (idOk (x .id)) (DigitsOf (record { verb = 1; id = x .id; number = 0; provider = 0; provideport = 0 })) (λ d. never (rw e d)) (λ k. (at-most 31 (x .id) (omega arith) k, omega arith, omega arith, omega arith))))
     (λ n₁. by-cases (ℕ-discrete (x .verb) 2)
-    (λ e. rw e (over (idOk (x .id) && behaviorOk (x .number)) (DigitsOf (record { verb = 2; id = x .id; number = x .number; provider = 0; provideport = 0 })) (λ d. never (rw e d))
-    (λ k. let (a, b) = two-kept _ (x .id) (x .number) 7 (omega arith) (λ q. omega (arith, leb-true (x .number) 7 q)) k in (a, b, omega arith, omega arith))))
+    (λ e. by-test (hasTickets ed) (λ t. absurd (word .plain t e)) (λ f. rw (e, f) (over (idOk (x .id) && behaviorOk (x .number)) (DigitsOf (record { verb = 2; id = x .id; number = x .number; provider = 0; provideport = 0 })) (λ d. never (rw e d))
+    (λ k. let (a, b) = two-kept _ (x .id) (x .number) 7 (omega arith) (λ q. omega (arith, leb-true (x .number) 7 q)) k in (a, b, omega arith, omega arith)))))
     (λ n₂. by-cases (ℕ-discrete (x .verb) 3)
     (λ e. rw e (over (idOk (x .id) && (portOk (x .number) && (idOk (x .provider) && portOk (x .provideport)))) (DigitsOf x) (λ d. never (rw e d)) ends-kept))
     (λ n₃. by-cases (ℕ-discrete (x .verb) 4)
     (λ e. rw e (over (idOk (x .id) && (portOk (x .number) && (idOk (x .provider) && portOk (x .provideport)))) (DigitsOf x) (λ d. never (rw e d)) ends-kept))
-    (λ n₄. let e : x .verb ≡ 5 = omega arith in
-    rw e (over (idOk (x .id)) (DigitsOf (record { verb = 5; id = x .id; number = 0; provider = 0; provideport = 0 })) (λ d. never (rw e d)) (λ k. (at-most 31 (x .id) (omega arith) k, omega arith, omega arith, omega arith))))))))
+    (λ n₄. by-cases (ℕ-discrete (x .verb) 5)
+    (λ e. rw e (over (idOk (x .id)) (DigitsOf (record { verb = 5; id = x .id; number = 0; provider = 0; provideport = 0 })) (λ d. never (rw e d)) (λ k. (at-most 31 (x .id) (omega arith) k, omega arith, omega arith, omega arith))))
+    (λ n₅. by-cases (ℕ-discrete (x .verb) 6)
+    (λ e. by-test (hasTickets ed) (λ t. rw (e, t) (over (idOk (x .id) && (behaviorOk (x .number) && ticketOk (x .provider))) (DigitsOf (record { verb = 6; id = x .id; number = x .number; provider = x .provider; provideport = 0 })) (λ d. never (rw e d)) push-kept)) (λ f. absurd (word .ticket f .0 e)))
+    (λ n₆. let e = seven (x .verb) (word .known) (past 6 _ (past 5 _ (past 4 _ (past 3 _ (past 2 _ (past 1 _ (some _ n₀) n₁) n₂) n₃) n₄) n₅) n₆) in
+    by-test (hasTickets ed) (λ t. rw (e, t) (over (idOk (x .id) && ticketOk (x .number)) (DigitsOf (record { verb = 7; id = x .id; number = x .number; provider = 0; provideport = 0 })) (λ d. never (rw e d))
+    (λ k. let (a, b) = two-kept _ (x .id) (x .number) 255 (omega arith) (λ q. omega (arith, leb-true (x .number) 255 q)) k in (a, b, omega arith, omega arith)))) (λ f. absurd (word .ticket f .1 e)))))))))
   where
+    push-kept : idOk (x .id) && (behaviorOk (x .number) && ticketOk (x .provider)) ≡ true → DigitsOf (record { verb = 6; id = x .id; number = x .number; provider = x .provider; provideport = 0 })
+    push-kept k =
+        let r = and-right (idOk (x .id)) _ k in (
+          at-most 31 (x .id) (omega arith) (and-left (idOk (x .id)) _ k),
+          at-most 7 (x .number) (omega arith) (and-left (behaviorOk (x .number)) _ r),
+          at-most 255 (x .provider) (omega arith) (and-right (behaviorOk (x .number)) _ r),
+          omega arith,
+        )
+
     ends-kept : idOk (x .id) && (portOk (x .number) && (idOk (x .provider) && portOk (x .provideport))) ≡ true → DigitsOf x
     ends-kept k =
         let r = and-right (idOk (x .id)) _ k in

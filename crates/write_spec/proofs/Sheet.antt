@@ -19,13 +19,14 @@ use Rattle.read_spec.specs.Kinds.{tranLine, behaviorLine, portLine, doLine}
 use Rattle.read_spec.specs.Fill.{headed, programOf}
 use Rattle.read_spec.specs.Texts.{tranAt, behaviorAt, portAt, typeLines, instructionAt, sheet}
 use Rattle.report_spec.specs.Report.{countText}
-use Rattle.write_spec.specs.Kinds.{limitFault, initialText, initialFault, tranText, tranFault, behaviorText, behaviorFault, portLineText, portFault, doText, doFault}
+use Rattle.write_spec.specs.Kinds.{editionFault, limitFault, initialText, initialFault, tranText, tranFault, behaviorText, behaviorFault, portLineText, portFault, doText, doFault}
 use Rattle.write_spec.specs.Texts.{firstOf, transitionRow, behaviorRow, portRow, instructionRow, typeText, typeFault, sheetText, sheetFault}
 use Rattle.write_spec.specs.Cleared.{cleared, clearedProgram}
 use Rattle.write_spec.specs.Round.{Digits, Mask, Held}
 use Rattle.write_spec.proofs.Turns.{limit-met}
 use Rattle.write_spec.proofs.Says.{Says, says-line, says-then, says-map, says-made, says-rows, says-all, Ends, ends-then, ends-here}
-use Rattle.write_spec.proofs.Written.{says-due, says-count, says-initial, says-tran, says-behavior, says-port, says-do}
+use Rattle.write_spec.proofs.Written.{says-edition, says-due, says-count, says-initial, says-tran, says-behavior, says-port}
+use Rattle.write_spec.proofs.Verbs.{says-do}
 use Rattle.write_spec.proofs.Columns.{upTo}
 use Rattle.write_spec.proofs.Tables.{transitionsOf, behaviorsOf, portsOf, tran-none, behavior-none, port-none, tran-made, behavior-made, port-made, trans, behaves, gates, saidTo, type-made, head-said, programTo, program-made, program-none}
 
@@ -114,21 +115,21 @@ module _ (t : Tables) (p : Program) (held : Held t p) where
   unfolding cleared
   types-say few = says-all typeLines (typeText t) (typeFault t) tablesTo (t .count) (λ i h. type-says i h (omega arith)) (headed (t .depth) (t .count)) (sym head-is)
 
-  do-turn : (n j : ℕ) → j < p .count → Says (instructionAt n j (programTo p j)) (doText (instructionRow p j)) (doFault n (instructionRow p j)) (programTo p (suc j))
+  do-turn : (n j : ℕ) → j < p .count → Says (instructionAt (p .edition) n j (programTo p j)) (doText (instructionRow p j)) (doFault (p .edition) n (instructionRow p j)) (programTo p (suc j))
   unfolding instructionAt
   do-turn n j h =
-      says-map (doLine n) _ (program-made p j)
-      (says-do n (instructionRow p j) (held .instruction j h))
+      says-map (doLine (p .edition) n) _ (program-made p j)
+      (says-do (p .edition) n (instructionRow p j) (held .instruction j h))
 
-  pub program-says : (n : ℕ) → Says (each (instructionAt n) (p .count) 0 (programOf (p .count))) (inTurn (λ j. doText (instructionRow p j)) (p .count)) (firstOf (λ j. doFault n (instructionRow p j)) (p .count)) (clearedProgram p)
+  pub program-says : (n : ℕ) → Says (each (instructionAt (p .edition) n) (p .count) 0 (programOf (p .edition) (p .count))) (inTurn (λ j. doText (instructionRow p j)) (p .count)) (firstOf (λ j. doFault (p .edition) n (instructionRow p j)) (p .count)) (clearedProgram p)
   unfolding clearedProgram
   program-says n =
-      says-all (instructionAt n) (λ j. doText (instructionRow p j)) (λ j. doFault n (instructionRow p j)) (programTo p) (p .count) (λ j h. do-turn n j h) (programOf (p .count)) (program-none p)
+      says-all (instructionAt (p .edition) n) (λ j. doText (instructionRow p j)) (λ j. doFault (p .edition) n (instructionRow p j)) (programTo p) (p .count) (λ j h. do-turn n j h) (programOf (p .edition) (p .count)) (program-none p)
 
   pub sheet-says : Ends sheet (sheetText t p) (sheetFault t p) (cleared t, clearedProgram p)
   unfolding sheet sheetText sheetFault
   sheet-says =
-      ends-then _ _ (countText (bytes "sheet=") 1) _ 0 _ tt _ (says-line _ (says-due (bytes "sheet=") 1 (omega arith))) λ _.
+      ends-then _ _ (countText (bytes "sheet=") (p .edition)) _ (editionFault (p .edition)) _ (p .edition) _ (says-line _ (says-edition (p .edition) (held .edition))) λ _.
       ends-then _ _ (countText (bytes "depth=") (t .depth)) _ (limitFault (depthOk (t .depth))) _ (t .depth) _ (says-line _ (says-count (bytes "depth=") depthOk (t .depth) (held .depth))) λ _.
       ends-then _ _ (countText (bytes "types=") (t .count)) _ (limitFault (typesOk (t .count))) _ (t .count) _ (says-line _ (says-count (bytes "types=") typesOk (t .count) (held .count))) λ a.
       ends-then _ _ (inTurn (typeText t) (t .count)) _ (firstOf (typeFault t) (t .count)) _ (cleared t) _

@@ -23,7 +23,7 @@ use Rattle.write_spec.specs.Texts.{stepRow, answerText, answerFault}
 use Rattle.write_spec.specs.Cleared.{column, spokenStep, clearedAnswer}
 use Rattle.write_spec.specs.Round.{anAnswer}
 use Rattle.write_spec.specs.Stops.{textOf, faultOf, rowsFrom, Stopped, dueRow, countRow, rowOfStep, answerRows, AnswersStopAtTheFirst}
-use Rattle.write_spec.proofs.Written.{says-step}
+use Rattle.write_spec.proofs.Verbs.{says-step}
 use Rattle.write_spec.proofs.Columns.{column-none, column-set, up-none, up-next}
 use Rattle.write_spec.proofs.Answer.{told-step, step-lawful}
 use Rattle.write_spec.proofs.Tells.{Tells, tells-due, tells-count, tells-map, tells-rows, stops-then, stops-last, stopped-all, text-all, fault-all}

@@ -16,25 +16,29 @@ use Rattle.model.specs.declared.Program.{Program}
 use Rattle.model.specs.View.{typeOf}
 use Rattle.read_spec.specs.Limits.{depthOk, typesOk, placesOk, transitionsOk, behaviorsOk, portsOk, programOk, maskOk, endOk, endsOk, initialOk, useOk, kindOk}
 use Rattle.read_spec.specs.Lines.{each}
-use Rattle.read_spec.specs.Kinds.{initialLine, tranLine, behaviorLine, portLine, doLine}
+use Rattle.read_spec.specs.Kinds.{editionLine, initialLine, tranLine, behaviorLine, portLine, doLine}
 use Rattle.read_spec.specs.Fill.{headed, programOf}
 use Rattle.read_spec.specs.Texts.{tranAt, behaviorAt, portAt, typeLines, instructionAt, sheet}
 use Rattle.rules_spec.specs.Refusal.{orNumber}
 use Rattle.report_spec.specs.Report.{countText}
-use Rattle.write_spec.specs.Kinds.{limitFault, initialText, initialFault, tranFault, behaviorFault, portFault}
+use Rattle.write_spec.specs.Kinds.{limitFault, editionFault, initialText, initialFault, tranFault, behaviorFault, portFault}
 use Rattle.write_spec.specs.Texts.{transitionRow, behaviorRow, portRow, instructionRow, typeText, typeFault, sheetText, sheetFault}
 use Rattle.write_spec.specs.Cleared.{spoken, cleared, clearedProgram}
 use Rattle.write_spec.specs.Round.{Digits, Mask, aSheet}
-use Rattle.write_spec.specs.Stops.{Row, textOf, faultOf, rowsFrom, Stopped, dueRow, countRow, rowOfInitial, rowOfTran, rowOfBehavior, rowOfPort, rowOfDo, typeRows, sheetRows, SheetsStopAtTheFirst}
+use Rattle.write_spec.specs.Stops.{Row, textOf, faultOf, rowsFrom, Stopped, editionRow, dueRow, countRow, rowOfInitial, rowOfTran, rowOfBehavior, rowOfPort, rowOfDo, typeRows, sheetRows, SheetsStopAtTheFirst}
 use Rattle.write_spec.proofs.Turns.{limit-met, clauses-met}
-use Rattle.write_spec.proofs.Written.{says-initial, says-tran, says-behavior, says-port, says-do}
+use Rattle.write_spec.proofs.Written.{says-edition, says-initial, says-tran, says-behavior, says-port}
+use Rattle.write_spec.proofs.Verbs.{says-do}
 use Rattle.write_spec.proofs.Columns.{upTo}
 use Rattle.write_spec.proofs.Tables.{transitionsOf, behaviorsOf, portsOf, tran-none, behavior-none, port-none, tran-made, behavior-made, port-made, trans, behaves, gates, saidTo, type-made, head-said, programTo, program-made, program-none}
-use Rattle.write_spec.proofs.Lawful.{told, masked}
-use Rattle.write_spec.proofs.Faultless.{port-met, do-lawful}
+use Rattle.write_spec.proofs.Lawful.{told, masked, edition-small}
+use Rattle.write_spec.proofs.Faultless.{port-met, do-lawful, edition-met}
 use Rattle.write_spec.proofs.Tells.{Tells, tells-line, tells-due, tells-count, tells-then, tells-map, tells-made, tells-rows, stops-then, stops-last, stopped-all, one-none, text-append, fault-append, text-turns, fault-turns, text-rows, fault-rows, text-all, fault-all}
 
 -- ---- a line without fault has few digits
+edition-few : (e : ℕ) → editionFault e ≡ 0 → Digits e
+edition-few e z = edition-small e (edition-met e z)
+
 initial-few : (n m : ℕ) → n ≤ 32 → initialFault n m ≡ 0 → Mask m
 unfolding initialFault
 initial-few n m l e = masked n m l (clauses-met (maskOk n m) (initialOk m) e .0)
@@ -142,13 +146,13 @@ module _ (t : Tables) where
   types-tell few = tells-rows typeLines (typeRows t) (saidTo t) 0 (t .count) (λ i l h. type-tells i (omega arith)) (t .count) (headed (t .depth) (t .count)) (sym (head-said t)) (zero-add (t .count))
 
 -- ---- the program
-program-tells : (p : Program) (n : ℕ) → n ≤ 16 → Tells (each (instructionAt n) (p .count) 0 (programOf (p .count))) (rowsFrom (λ j. rowOfDo n (instructionRow p j) ∷ []) (p .count) 0) (clearedProgram p)
+program-tells : (p : Program) (n : ℕ) → n ≤ 16 → Tells (each (instructionAt (p .edition) n) (p .count) 0 (programOf (p .edition) (p .count))) (rowsFrom (λ j. rowOfDo (p .edition) n (instructionRow p j) ∷ []) (p .count) 0) (clearedProgram p)
 unfolding clearedProgram instructionAt
 program-tells p n few =
-    tells-rows (instructionAt n) (λ j. rowOfDo n (instructionRow p j) ∷ []) (programTo p) 0 (p .count)
-    (λ j _ _. tells-map (doLine n) _ (rowOfDo n (instructionRow p j)) (spoken (instructionRow p j)) (program-made p j)
-    (λ e. told n (instructionRow p j) few (do-lawful n (instructionRow p j) e) .digits) (says-do n (instructionRow p j)))
-    (p .count) (programOf (p .count)) (program-none p) (zero-add (p .count))
+    tells-rows (instructionAt (p .edition) n) (λ j. rowOfDo (p .edition) n (instructionRow p j) ∷ []) (programTo p) 0 (p .count)
+    (λ j _ _. tells-map (doLine (p .edition) n) _ (rowOfDo (p .edition) n (instructionRow p j)) (spoken (instructionRow p j)) (program-made p j)
+    (λ e. told (p .edition) n (instructionRow p j) few (do-lawful (p .edition) n (instructionRow p j) e) .digits) (says-do (p .edition) n (instructionRow p j)))
+    (p .count) (programOf (p .edition) (p .count)) (program-none p) (zero-add (p .count))
 
 -- ---- the sheet
 module _ (t : Tables) (p : Program) where
@@ -156,12 +160,12 @@ module _ (t : Tables) (p : Program) where
   typesRows = rowsFrom (typeRows t) (t .count) 0
 
   abbrev programRows : List Row
-  programRows = rowsFrom (λ j. rowOfDo (t .count) (instructionRow p j) ∷ []) (p .count) 0
+  programRows = rowsFrom (λ j. rowOfDo (p .edition) (t .count) (instructionRow p j) ∷ []) (p .count) 0
 
   sheet-stops : Stopped sheet [] (sheetRows (t, p))
   unfolding sheet sheetRows
   sheet-stops =
-      stops-then _ _ (dueRow (bytes "sheet=") 1 ∷ []) _ tt (tells-due (bytes "sheet=") 1 (omega arith)) λ _.
+      stops-then _ _ (editionRow (p .edition) ∷ []) _ (p .edition) (tells-line editionLine (editionRow (p .edition)) (p .edition) (edition-few (p .edition)) (says-edition (p .edition))) λ _.
       stops-then _ _ (countRow (bytes "depth=") depthOk (t .depth) ∷ []) _ (t .depth) (tells-count (bytes "depth=") depthOk (t .depth) (λ e. omega (arith, leb-true (t .depth) 8 e))) λ _.
       stops-then _ _ (countRow (bytes "types=") typesOk (t .count) ∷ []) _ (t .count) (tells-count (bytes "types=") typesOk (t .count) (λ e. omega (arith, sixteen (t .count) e))) λ a.
       let few : t .count ≤ 16 = sixteen (t .count) (limit-met (typesOk (t .count)) (one-none (countRow (bytes "types=") typesOk (t .count)) a)) in
@@ -172,16 +176,16 @@ module _ (t : Tables) (p : Program) where
   sheet-text : textOf (sheetRows (t, p)) ≡ sheetText t p
   unfolding textOf sheetRows sheetText
   sheet-text =
-      ap (λ (l : List ℕ). countText (bytes "sheet=") 1 ++ (countText (bytes "depth=") (t .depth) ++ (countText (bytes "types=") (t .count) ++ l)))
+      ap (λ (l : List ℕ). countText (bytes "sheet=") (p .edition) ++ (countText (bytes "depth=") (t .depth) ++ (countText (bytes "types=") (t .count) ++ l)))
       (text-append typesRows _ ∙ ap₂ _++_ (text-turns (typeRows t) 0 (typeText t) (λ x. sym (type-text t x) ∙ ap (λ (j : ℕ). textOf (typeRows t j)) (sym (zero-add x))) (t .count))
-      (ap (λ (l : List ℕ). countText (bytes "program=") (p .count) ++ l) (text-all (λ j. rowOfDo (t .count) (instructionRow p j)) (p .count))))
+      (ap (λ (l : List ℕ). countText (bytes "program=") (p .count) ++ l) (text-all (λ j. rowOfDo (p .edition) (t .count) (instructionRow p j)) (p .count))))
 
   sheet-number : faultOf (sheetRows (t, p)) ≡ sheetFault t p
   unfolding faultOf sheetRows sheetFault
   sheet-number =
-      ap (λ (n : ℕ). orNumber (limitFault (depthOk (t .depth))) (orNumber (limitFault (typesOk (t .count))) n))
+      ap (λ (n : ℕ). orNumber (editionFault (p .edition)) (orNumber (limitFault (depthOk (t .depth))) (orNumber (limitFault (typesOk (t .count))) n)))
       (fault-append typesRows _ ∙ ap₂ (λ (a b : ℕ). orNumber a b) (fault-turns (typeRows t) 0 (typeFault t) (λ x. sym (type-number t x) ∙ ap (λ (j : ℕ). faultOf (typeRows t j)) (sym (zero-add x))) (t .count))
-      (ap (λ (n : ℕ). orNumber (limitFault (programOk (p .count))) n) (fault-all (λ j. rowOfDo (t .count) (instructionRow p j)) (p .count))))
+      (ap (λ (n : ℕ). orNumber (limitFault (programOk (p .count))) n) (fault-all (λ j. rowOfDo (p .edition) (t .count) (instructionRow p j)) (p .count))))
 
 pub sheets-stop-at-the-first : SheetsStopAtTheFirst
 unfolding SheetsStopAtTheFirst

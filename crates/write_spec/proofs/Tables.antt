@@ -13,7 +13,7 @@ use Rattle.model.specs.declared.Ports.{Ports}
 use Rattle.model.specs.declared.Tables.{Tables}
 use Rattle.model.specs.declared.Instruction.{Instruction}
 use Rattle.model.specs.declared.Program.{Program}
-use Rattle.model.specs.Empty.{noType, noTables, noProgram, noInstruction}
+use Rattle.model.specs.Empty.{noType, noTables, noneBegun, noProgram, noInstruction}
 use Rattle.model.specs.View.{typeOf}
 use Rattle.read_spec.specs.Fill.{headed, withType, withTransition, withPort, programOf, withInstruction}
 use Rattle.write_spec.specs.Texts.{transitionRow, behaviorRow, portRow, instructionRow}
@@ -101,12 +101,12 @@ module _ (t : Tables) where
 -- ---- the program of which the first j instructions are said
 module _ (p : Program) where
   abbrev pub programTo : ℕ → Program
-  programTo j = record { instructions = column 256 (λ r. ltb r j) noInstruction (λ r. spoken (instructionRow p r)); count = p .count }
+  programTo j = record { edition = p .edition; begun = noneBegun; instructions = column 256 (λ r. ltb r j) noInstruction (λ r. spoken (instructionRow p r)); count = p .count }
 
   pub program-made : (j : ℕ) → withInstruction (programTo j) j (spoken (instructionRow p j)) ≡ programTo (suc j)
   unfolding withInstruction
-  program-made j = ap (λ (xs : List Instruction). record { instructions = xs; count = p .count }) (column-set 256 noInstruction (λ r. spoken (instructionRow p r)) _ _ j (up-next j))
+  program-made j = ap (λ (xs : List Instruction). record { edition = p .edition; begun = noneBegun; instructions = xs; count = p .count }) (column-set 256 noInstruction (λ r. spoken (instructionRow p r)) _ _ j (up-next j))
 
-  pub program-none : programTo 0 ≡ programOf (p .count)
+  pub program-none : programTo 0 ≡ programOf (p .edition) (p .count)
   unfolding programOf noProgram
-  program-none = ap (λ (xs : List Instruction). record { instructions = xs; count = p .count }) (column-none 256 noInstruction (λ r. spoken (instructionRow p r)) (λ r. ltb r 0) up-none)
+  program-none = ap (λ (xs : List Instruction). record { edition = p .edition; begun = noneBegun; instructions = xs; count = p .count }) (column-none 256 noInstruction (λ r. spoken (instructionRow p r)) (λ r. ltb r 0) up-none)

@@ -9,18 +9,18 @@ use native.Mathlib.Nat.{zero-add}
 use lib.Dec.{eqb}
 use borrow.Author.Tests.{leb-true, eqb-true}
 use Rattle.item_spec.specs.Reader.{Reply, Reader, got, refused, readOn, bytes, give, check}
-use Rattle.item_spec.specs.Read.{key, upon, oneForm, twoForm, fourForm, Set, listForm, listsForm}
-use Rattle.item_spec.specs.Write.{inTurn, oneText, twoText, fourText}
+use Rattle.item_spec.specs.Read.{key, given, upon, oneForm, twoForm, threeForm, fourForm, Set, listForm, listsForm}
+use Rattle.item_spec.specs.Write.{inTurn, oneText, twoText, threeText, fourText}
 use Rattle.item_spec.proofs.Tests.{and-left, and-right}
 use Rattle.item_spec.proofs.Laws.{not-got, got-value, got-rest, bound-to}
-use Rattle.item_spec.proofs.Back.{key-back, one-back, two-back, four-back, set-back, sets-back}
+use Rattle.item_spec.proofs.Back.{key-back, one-back, two-back, three-back, four-back, set-back, sets-back}
 use Rattle.model.specs.declared.Instruction.{Instruction}
 use Rattle.model.specs.declared.Step.{Step}
-use Rattle.model.specs.Verb.{addVerb, delVerb, pushbVerb, conVerb, dconVerb, waitVerb, fireVerb, endVerb, enterVerb, finishVerb}
-use Rattle.read_spec.specs.Limits.{fiveDigits, listOk, endOk, endsOk, initialOk, useOk, idOk, placeOk, portOk, transitionOk, typeOk, behaviorOk}
+use Rattle.model.specs.Verb.{addVerb, delVerb, pushbVerb, conVerb, dconVerb, waitVerb, pushTicketVerb, waitTicketVerb, fireVerb, endVerb, enterVerb, finishVerb}
+use Rattle.read_spec.specs.Limits.{fiveDigits, listOk, endOk, endsOk, initialOk, useOk, idOk, placeOk, portOk, transitionOk, typeOk, behaviorOk, ticketOk, hasTickets, editionOk}
 use Rattle.read_spec.specs.Lines.{Run, on, stop, Lines, runOn, line, lineOf, each, atEnd}
 use Rattle.read_spec.specs.Lines.{handOn}
-use Rattle.read_spec.specs.Kinds.{dueLine, countLineIn, countLine, initialLine, tranLine, behaviorLine, group, portLine, anInstruction, doId, doNumber, doEnds, doLine, aStep, stepId, stepNumber, stepLine}
+use Rattle.read_spec.specs.Kinds.{editionLine, dueLine, countLineIn, countLine, initialLine, tranLine, behaviorLine, group, portLine, anInstruction, doId, doNumber, doEnds, doTicketed, doWait, doPushIn, doWaitIn, doLine, aStep, stepId, stepNumber, stepLine}
 use Rattle.read_spec.proofs.Slots.{Slots, Sound}
 use Rattle.report_spec.specs.Report.{countText}
 use Rattle.write_spec.specs.Kinds.{initialText, tranText, behaviorText, portLineText, doText, stepText, setText, setsText}
@@ -85,6 +85,13 @@ takes-due k n s q =
     let (same, rest) = checked (eqb a n) 2 v q in
     rw (key-back k s e, one-back fiveDigits (omega arith) t f .0, eqb-true a n same, rest) (sym (append-assoc k (oneText n) _))
 
+pub takes-edition : (s : List ℕ) {n : ℕ} {r : List ℕ} → editionLine s ≡ got n r → (s ≡ countText (bytes "sheet=") n ++ r) × (editionOk n ≡ true)
+unfolding editionLine countText
+takes-edition s q =
+    bound-to (key (bytes "sheet=") s) _ q λ _ t e q. bound-to (oneForm fiveDigits t) _ q λ a v f q. bound-to (check (editionOk a) 2 v) _ q λ _ w g q.
+    let (ok, rest) = checked (editionOk a) 2 v g in
+    rw (← got-value q, ← got-rest q) (rw (key-back (bytes "sheet=") s e, one-back fiveDigits (omega arith) t f .0, rest) (sym (append-assoc (bytes "sheet=") (oneText a) w)), ok)
+
 pub takes-count : (k : List ℕ) (limit : ℕ → Bool) (s : List ℕ) {n : ℕ} {r : List ℕ} → countLine k limit s ≡ got n r → (s ≡ countText k n ++ r) × (limit n ≡ true)
 unfolding countLineIn countText
 takes-count k limit s q =
@@ -113,6 +120,9 @@ one-taken s a r e = one-back fiveDigits (omega arith) s e .0
 two-taken : Takes (λ (a : ℕ × ℕ). twoText (a .0) (a .1)) (twoForm fiveDigits)
 two-taken s a r e = two-back fiveDigits (omega arith) s e .0
 
+three-taken : Takes (λ (a : ℕ × ℕ × ℕ). threeText (a .0) (a .1) (a .2)) (threeForm fiveDigits)
+three-taken s a r e = three-back fiveDigits (omega arith) s e .0
+
 four-taken : Takes (λ (a : ℕ × ℕ × ℕ × ℕ). fourText (a .0) (a .1) (a .2) (a .3)) (fourForm fiveDigits)
 four-taken s a r e = four-back fiveDigits (omega arith) s e .0
 
@@ -139,15 +149,43 @@ module _ (k : List ℕ) (v : ℕ) where
   unfolding stepNumber
   step-two limit = takes-shape (twoForm fiveDigits) (λ a. twoText (a .0) (a .1)) two-taken stepText k (λ a. idOk (a .0) && limit (a .1)) (λ a. aStep v (a .0) (a .1))
 
-pub takes-do : (n : ℕ) → Takes doText (doLine n)
+-- one of two, by a test
+takes-if : {A : Type 0} (text : A → List ℕ) (k : List ℕ) {m other : Reader A} (b : Bool) → After text k m → After text k other → After text k (λ s. elim b [ true ↦ m s | false ↦ other s ])
+takes-if text k true f g = f
+takes-if text k false f g = g
+
+do-push : (e : ℕ) → After doText (bytes "do=pushb,") (doPushIn e)
+unfolding doTicketed doText
+do-push e =
+    takes-if doText (bytes "do=pushb,") (hasTickets e)
+    (takes-shape (threeForm fiveDigits) (λ a. threeText (a .0) (a .1) (a .2)) three-taken doText (bytes "do=pushb,") (λ a. idOk (a .0) && (behaviorOk (a .1) && ticketOk (a .2)))
+    (λ a. anInstruction pushTicketVerb (a .0) (a .1) (a .2) 0) (λ a. refl))
+    (do-two (bytes "do=pushb,") pushbVerb behaviorOk (λ a. refl))
+
+do-wait : (e : ℕ) → After doText (bytes "do=wait,") (doWaitIn e)
+unfolding doWait doId doText
+do-wait e =
+    takes-if doText (bytes "do=wait,") (hasTickets e)
+    (λ s x r. go s x r (oneForm fiveDigits s) refl)
+    (do-id (bytes "do=wait,") waitVerb (λ a. refl))
+  where
+    alone : ℕ → Reader Instruction
+    alone a = λ s. readOn (check (idOk a) 3 s) (λ _. give (anInstruction waitVerb a 0 0 0))
+
+    go : (s : List ℕ) (x : Instruction) (r : List ℕ) (z : Reply ℕ) → oneForm fiveDigits s ≡ z
+        → elim z [ got a r ↦ alone a r | refused n ↦ doNumber waitTicketVerb ticketOk s ] ≡ got x r → bytes "do=wait," ++ s ≡ doText x ++ r
+    go s x r (got a t) f q = do-id (bytes "do=wait,") waitVerb (λ a. refl) s x r (ap (λ z. readOn z alone) f ∙ q)
+    go s x r (refused n) f q = do-two (bytes "do=wait,") waitTicketVerb ticketOk (λ a. refl) s x r q
+
+pub takes-do : (e n : ℕ) → Takes doText (doLine e n)
 unfolding doLine doText
-takes-do n =
+takes-do e n =
     takes-on doText (bytes "do=add,") (do-two (bytes "do=add,") addVerb (typeOk n) (λ a. refl))
     (takes-on doText (bytes "do=del,") (do-id (bytes "do=del,") delVerb (λ a. refl))
-    (takes-on doText (bytes "do=pushb,") (do-two (bytes "do=pushb,") pushbVerb behaviorOk (λ a. refl))
+    (takes-on doText (bytes "do=pushb,") (do-push e)
     (takes-on doText (bytes "do=con,") (do-four (bytes "do=con,") conVerb (λ a. refl))
     (takes-on doText (bytes "do=dcon,") (do-four (bytes "do=dcon,") dconVerb (λ a. refl))
-    (takes-on doText (bytes "do=wait,") (do-id (bytes "do=wait,") waitVerb (λ a. refl))
+    (takes-on doText (bytes "do=wait,") (do-wait e)
     (λ s x r q. absurd (not-got q)))))))
 
 pub takes-step : Takes stepText stepLine

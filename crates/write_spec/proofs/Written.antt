@@ -2,31 +2,27 @@
 -- Assumes nothing.
 use Prim.Native.Nat.{ℕ, _^_, _<_, _≤_}
 use mathlib.Core.List.{List, [], _∷_, _++_, append-assoc}
-use mathlib.Core.Bool.{Bool, true, false, not, _&&_, _||_, cond}
-use mathlib.Core.Path.{_≡_, refl, sym, ap, ap₂, subst, _∙_}
-use mathlib.Core.Logic.{_≢_, by-cases}
+use mathlib.Core.Bool.{Bool, true, false, not, _&&_}
+use mathlib.Core.Path.{_≡_, refl, sym, ap, _∙_}
+use mathlib.Core.Logic.{by-cases}
 use native.Mathlib.Omega.{arith}
 use native.Mathlib.Decide.{decLt, ℕ-discrete}
 use native.Mathlib.Nat.{le-refl, lt-of-lt-of-le}
 use lib.Pow.{pow-mono}
-use lib.Dec.{eqb, leb, ltb}
+use lib.Dec.{eqb}
 use borrow.Author.Tests.{eqb-true, eqb-false, le-leb, lt-leb, lt-ltb, le-ltb, ne-eqb, eq-eqb}
-use Rattle.item_spec.specs.Reader.{Reply, got, refused, Reader, readOn, byte, bytes, give, check}
-use Rattle.item_spec.specs.Read.{key, upon, oneForm, twoForm, fourForm, Set, listForm, listsForm}
-use Rattle.item_spec.specs.Write.{maskText, oneText, twoText, fourText}
+use Rattle.item_spec.specs.Reader.{got, refused, Reader, readOn, byte, bytes, give, check}
+use Rattle.item_spec.specs.Read.{key, given, upon, oneForm, twoForm, listForm}
+use Rattle.item_spec.specs.Write.{maskText, oneText, twoText}
 use Rattle.item_spec.proofs.Tests.{by-test}
-use Rattle.item_spec.proofs.Round.{key-round, one-round, two-round, four-round, set-round, sets-round, mask-round, lf, setOf, topOf, top-within, top-none}
+use Rattle.item_spec.proofs.Round.{key-round, one-round, two-round, set-round, sets-round, mask-round, lf, setOf, topOf, top-within, top-none}
 use Rattle.item_spec.proofs.Back.{list-back}
-use Rattle.read_spec.specs.Limits.{fiveDigits, listOk, maskOk, endOk, endsOk, initialOk, useOk, kindOk, idOk, placeOk, portOk, transitionOk, typeOk, behaviorOk}
-use Rattle.model.specs.declared.Instruction.{Instruction}
-use Rattle.model.specs.declared.Step.{Step}
-use Rattle.model.specs.Verb.{addVerb, delVerb, pushbVerb, conVerb, dconVerb, waitVerb, nextVerb, fireVerb, endVerb, enterVerb, finishVerb}
-use Rattle.read_spec.specs.Kinds.{dueLine, countLineIn, countLine, initialLine, tranLine, behaviorLine, group, portLine, anInstruction, doId, doNumber as doTwo, doEnds, doLine, aStep, stepId, stepNumber, stepLine}
+use Rattle.read_spec.specs.Limits.{fiveDigits, listOk, maskOk, endOk, endsOk, initialOk, useOk, editionOk}
+use Rattle.read_spec.specs.Kinds.{editionLine, dueLine, countLineIn, countLine, initialLine, tranLine, behaviorLine, group, portLine}
 use Rattle.rules_spec.specs.Refusal.{_⇒_∣_}
 use Rattle.report_spec.specs.Report.{countText}
-use Rattle.write_spec.specs.Kinds.{limitFault, initialText, initialFault, tranText, tranFault, behaviorText, behaviorFault, portLineText, portFault, doText, doFault, stepText, stepFault, setText, setsText}
-use Rattle.write_spec.specs.Cleared.{spoken, spokenStep}
-use Rattle.write_spec.specs.Round.{Digits, Mask, DigitsOf, DigitsOfStep}
+use Rattle.write_spec.specs.Kinds.{limitFault, editionFault, initialText, initialFault, tranText, tranFault, behaviorText, behaviorFault, portLineText, portFault, setText, setsText}
+use Rattle.write_spec.specs.Round.{Digits, Mask}
 use Rattle.write_spec.proofs.Says.{SaysLine}
 
 -- ---- a key, a shape, and what is asked of its value
@@ -38,7 +34,7 @@ module _ {B A : Type 0} (k : List ℕ) (shape : Reader B) (y : List ℕ) (v : B)
       first s = rw (append-assoc k y s, key-round k (y ++ s)) (ap (λ r. readOn r f) (h s))
 
 -- a row of limits, and of clauses of 4
-says-limit : {A : Type 0} (p : Bool) (a : A) → SaysLine (λ s. readOn (check p 3 s) (λ _. give a)) [] (limitFault p) a
+pub says-limit : {A : Type 0} (p : Bool) (a : A) → SaysLine (λ s. readOn (check p 3 s) (λ _. give a)) [] (limitFault p) a
 says-limit true a = record { reads = λ e s. refl; refuses = λ e s. absurd (e refl) }
 says-limit false a = record { reads = λ e s. absurd (omega arith); refuses = λ e s. refl }
 
@@ -48,15 +44,23 @@ says-clause true false a = record { reads = λ e s. absurd (omega arith); refuse
 says-clause false q a = record { reads = λ e s. absurd (omega arith); refuses = λ e s. refl }
 
 -- ---- the kinds of lines
-five : 1 ≤ fiveDigits
+pub five : 1 ≤ fiveDigits
 five = omega arith
 
-seven : fiveDigits ≤ 7
+pub seven : fiveDigits ≤ 7
 seven = omega arith
 
 pub says-due : (k : List ℕ) (n : ℕ) → Digits n → SaysLine (dueLine k n) (countText k n) 0 tt
 unfolding dueLine countText
 says-due k n h = says-form k (oneForm fiveDigits) (oneText n) n _ 0 tt (one-round fiveDigits five seven n h) (by-test (eqb n n) (λ e. rw e (record { reads = λ z s. refl; refuses = λ z s. absurd (z refl) })) (λ e. absurd (eqb-false n n e refl)))
+
+pub says-edition : (n : ℕ) → Digits n → SaysLine editionLine (countText (bytes "sheet=") n) (editionFault n) n
+unfolding editionLine countText editionFault
+says-edition n h = says-form (bytes "sheet=") (oneForm fiveDigits) (oneText n) n _ _ n (one-round fiveDigits five seven n h) (go (editionOk n))
+  where
+    go : (p : Bool) → SaysLine (λ s. readOn (check p 2 s) (λ _. give n)) [] (not p ⇒ 2 ∣ 0) n
+    go true = record { reads = λ e s. refl; refuses = λ e s. absurd (e refl) }
+    go false = record { reads = λ e s. absurd (omega arith); refuses = λ e s. refl }
 
 pub says-count : (k : List ℕ) (limit : ℕ → Bool) (n : ℕ) → Digits n → SaysLine (countLine k limit) (countText k n) (limitFault (limit n)) n
 unfolding countLineIn countText
@@ -110,19 +114,19 @@ module _ {A : Type 0} (n k a b : ℕ) (f : ℕ × ℕ → Reader A) (i : ℕ) (x
 
 -- a line that begins with the key of one of several; keys that stand before it do not begin it
 module _ {A : Type 0} (k : List ℕ) (m other : Reader A) (y : List ℕ) (n : ℕ) (a : A) where
-  says-on : SaysLine m y n a → SaysLine (upon k m other) (k ++ y) n a
+  pub says-on : SaysLine m y n a → SaysLine (upon k m other) (k ++ y) n a
   says-on h = record { reads = λ e s. first s ∙ h .reads e s; refuses = λ e s. first s ∙ h .refuses e s }
     where
       first : (s : List ℕ) → upon k m other ((k ++ y) ++ s) ≡ m (y ++ s)
-      first s = ap (upon k m other) (append-assoc k y s) ∙ rw (key-round k (y ++ s), upon)
+      first s = ap (upon k m other) (append-assoc k y s) ∙ rw (key-round k (y ++ s), given)
 
-  says-other : ((s : List ℕ) → key k (y ++ s) ≡ refused 2) → SaysLine other y n a → SaysLine (upon k m other) y n a
-  says-other f h = record { reads = λ e s. rw (f s, upon) (h .reads e s); refuses = λ e s. rw (f s, upon) (h .refuses e s) }
+  pub says-other : ((s : List ℕ) → key k (y ++ s) ≡ refused 2) → SaysLine other y n a → SaysLine (upon k m other) y n a
+  says-other f h = record { reads = λ e s. rw (f s, given) (h .reads e s); refuses = λ e s. rw (f s, given) (h .refuses e s) }
 
-says-none : {A : Type 0} (y : List ℕ) (a : A) → SaysLine (λ s. refused 2) y 2 a
+pub says-none : {A : Type 0} (y : List ℕ) (a : A) → SaysLine (λ s. refused 2) y 2 a
 says-none y a = record { reads = λ e s. absurd (omega arith); refuses = λ e s. refl }
 
-says-give : {A : Type 0} (a : A) → SaysLine (give a) [] 0 a
+pub says-give : {A : Type 0} (a : A) → SaysLine (give a) [] 0 a
 says-give a = record { reads = λ e s. refl; refuses = λ e s. absurd (e refl) }
 
 says-four : {A : Type 0} (p : Bool) (a : A) → SaysLine (λ s. readOn (check p 4 s) (λ _. give a)) [] (not p ⇒ 4 ∣ 0) a
@@ -141,146 +145,3 @@ says-port n k m y ln lk ha hb =
     (says-on (bytes "port=provide,") _ _ (setsText (y .1) (y .2)) _ _ (says-group n k (y .1) (y .2) _ _ _ ln lk ha hb (says-give _)))))
     (λ z. rw (e, z, lt-leb (y .0) 1 (omega (arith, eqb-false (y .0) 1 e, eqb-false (y .0) 0 z)))
     (says-other (bytes "port=use,") _ _ (bytes "port=\n") _ _ (λ s. refl) (says-other (bytes "port=provide,") _ _ (bytes "port=\n") _ _ (λ s. refl) (says-none (bytes "port=\n") _)))))
-
--- what follows a verb
-module _ {B A : Type 0} (shape : Reader B) (y : List ℕ) (v : B) (f : B → Reader A) (n : ℕ) (a : A) where
-  says-shape : ((s : List ℕ) → shape (y ++ s) ≡ got v s) → SaysLine (f v) [] n a → SaysLine (λ s. readOn (shape s) f) y n a
-  says-shape h g = record { reads = λ e s. ap (λ r. readOn r f) (h s) ∙ g .reads e s; refuses = λ e s. ap (λ r. readOn r f) (h s) ∙ g .refuses e s }
-
-says-id : (v a : ℕ) → Digits a → SaysLine (doId v) (oneText a) (limitFault (idOk a)) (anInstruction v a 0 0 0)
-unfolding doId
-says-id v a h = says-shape (oneForm fiveDigits) (oneText a) a _ _ _ (one-round fiveDigits five seven a h) (says-limit (idOk a) _)
-
-says-id-number : (v : ℕ) (limit : ℕ → Bool) (a b : ℕ) → Digits a → Digits b → SaysLine (doTwo v limit) (twoText a b) (limitFault (idOk a && limit b)) (anInstruction v a b 0 0)
-unfolding doTwo
-says-id-number v limit a b h g = says-shape (twoForm fiveDigits) (twoText a b) (a, b) _ _ _ (two-round fiveDigits five seven a b h g) (says-limit (idOk a && limit b) _)
-
-says-ends : (v a b c d : ℕ) → Digits a → Digits b → Digits c → Digits d
-    → SaysLine (doEnds v) (fourText a b c d) (limitFault (idOk a && (portOk b && (idOk c && portOk d)))) (anInstruction v a b c d)
-unfolding doEnds
-says-ends v a b c d h g i j =
-    says-shape (fourForm fiveDigits) (fourText a b c d) (a, b, c, d) _ _ _ (four-round fiveDigits five seven a b c d h g i j) (says-limit (idOk a && (portOk b && (idOk c && portOk d))) _)
-
-abbrev pub SaysDo : ℕ → Instruction → Type 0
-SaysDo n x = DigitsOf (spoken x) → SaysLine (doLine n) (doText x) (doFault n x) (spoken x)
-
-module _ (n : ℕ) (x : Instruction) where
-  -- the verb written out
-  as-verb : (v : ℕ) → eqb (x .verb) v ≡ true → SaysDo n (anInstruction v (x .id) (x .number) (x .provider) (x .provideport)) → SaysDo n x
-  as-verb v e h = subst (λ (u : ℕ). SaysDo n (anInstruction u (x .id) (x .number) (x .provider) (x .provideport))) (sym (eqb-true (x .verb) v e)) h
-
-  says-add : SaysDo n (anInstruction addVerb (x .id) (x .number) (x .provider) (x .provideport))
-  unfolding doLine doText doFault spoken key
-  says-add (hi, hn, hp, hq) = says-on (bytes "do=add,") _ _ (twoText (x .id) (x .number)) _ _ (says-id-number addVerb (typeOk n) (x .id) (x .number) hi hn)
-
-  says-del : SaysDo n (anInstruction delVerb (x .id) (x .number) (x .provider) (x .provideport))
-  unfolding doLine doText doFault spoken key
-  says-del (hi, hn, hp, hq) = says-other (bytes "do=add,") _ _ (bytes "do=del," ++ oneText (x .id)) _ _ (λ s. refl)
-      (says-on (bytes "do=del,") _ _ (oneText (x .id)) _ _ (says-id delVerb (x .id) hi))
-
-  says-pushb : SaysDo n (anInstruction pushbVerb (x .id) (x .number) (x .provider) (x .provideport))
-  unfolding doLine doText doFault spoken key
-  says-pushb (hi, hn, hp, hq) = says-other (bytes "do=add,") _ _ (bytes "do=pushb," ++ twoText (x .id) (x .number)) _ _ (λ s. refl)
-      (says-other (bytes "do=del,") _ _ (bytes "do=pushb," ++ twoText (x .id) (x .number)) _ _ (λ s. refl)
-      (says-on (bytes "do=pushb,") _ _ (twoText (x .id) (x .number)) _ _ (says-id-number pushbVerb (behaviorOk) (x .id) (x .number) hi hn)))
-
-  says-con : SaysDo n (anInstruction conVerb (x .id) (x .number) (x .provider) (x .provideport))
-  unfolding doLine doText doFault spoken key
-  says-con (hi, hn, hp, hq) = says-other (bytes "do=add,") _ _ (bytes "do=con," ++ fourText (x .id) (x .number) (x .provider) (x .provideport)) _ _ (λ s. refl)
-      (says-other (bytes "do=del,") _ _ (bytes "do=con," ++ fourText (x .id) (x .number) (x .provider) (x .provideport)) _ _ (λ s. refl)
-      (says-other (bytes "do=pushb,") _ _ (bytes "do=con," ++ fourText (x .id) (x .number) (x .provider) (x .provideport)) _ _ (λ s. refl)
-      (says-on (bytes "do=con,") _ _ (fourText (x .id) (x .number) (x .provider) (x .provideport)) _ _ (says-ends conVerb (x .id) (x .number) (x .provider) (x .provideport) hi hn hp hq))))
-
-  says-dcon : SaysDo n (anInstruction dconVerb (x .id) (x .number) (x .provider) (x .provideport))
-  unfolding doLine doText doFault spoken key
-  says-dcon (hi, hn, hp, hq) = says-other (bytes "do=add,") _ _ (bytes "do=dcon," ++ fourText (x .id) (x .number) (x .provider) (x .provideport)) _ _ (λ s. refl)
-      (says-other (bytes "do=del,") _ _ (bytes "do=dcon," ++ fourText (x .id) (x .number) (x .provider) (x .provideport)) _ _ (λ s. refl)
-      (says-other (bytes "do=pushb,") _ _ (bytes "do=dcon," ++ fourText (x .id) (x .number) (x .provider) (x .provideport)) _ _ (λ s. refl)
-      (says-other (bytes "do=con,") _ _ (bytes "do=dcon," ++ fourText (x .id) (x .number) (x .provider) (x .provideport)) _ _ (λ s. refl)
-      (says-on (bytes "do=dcon,") _ _ (fourText (x .id) (x .number) (x .provider) (x .provideport)) _ _ (says-ends dconVerb (x .id) (x .number) (x .provider) (x .provideport) hi hn hp hq)))))
-
-  says-wait : SaysDo n (anInstruction waitVerb (x .id) (x .number) (x .provider) (x .provideport))
-  unfolding doLine doText doFault spoken key
-  says-wait (hi, hn, hp, hq) = says-other (bytes "do=add,") _ _ (bytes "do=wait," ++ oneText (x .id)) _ _ (λ s. refl)
-      (says-other (bytes "do=del,") _ _ (bytes "do=wait," ++ oneText (x .id)) _ _ (λ s. refl)
-      (says-other (bytes "do=pushb,") _ _ (bytes "do=wait," ++ oneText (x .id)) _ _ (λ s. refl)
-      (says-other (bytes "do=con,") _ _ (bytes "do=wait," ++ oneText (x .id)) _ _ (λ s. refl)
-      (says-other (bytes "do=dcon,") _ _ (bytes "do=wait," ++ oneText (x .id)) _ _ (λ s. refl)
-      (says-on (bytes "do=wait,") _ _ (oneText (x .id)) _ _ (says-id waitVerb (x .id) hi))))))
-
-  says-unknown : eqb (x .verb) addVerb ≡ false → eqb (x .verb) delVerb ≡ false → eqb (x .verb) pushbVerb ≡ false → eqb (x .verb) conVerb ≡ false
-      → eqb (x .verb) dconVerb ≡ false → eqb (x .verb) waitVerb ≡ false → SaysDo n x
-  unfolding doLine doText doFault spoken key
-  says-unknown a b c d e f _ = rw (a, b, c, d, e, f) (says-other (bytes "do=add,") _ _ (bytes "do=\n") _ _ (λ s. refl) (says-other (bytes "do=del,") _ _ (bytes "do=\n") _ _ (λ s. refl) (says-other (bytes "do=pushb,") _ _ (bytes "do=\n") _ _ (λ s. refl) (says-other (bytes "do=con,") _ _ (bytes "do=\n") _ _ (λ s. refl) (says-other (bytes "do=dcon,") _ _ (bytes "do=\n") _ _ (λ s. refl) (says-other (bytes "do=wait,") _ _ (bytes "do=\n") _ _ (λ s. refl) (says-none (bytes "do=\n") _)))))))
-
-  pub says-do : SaysDo n x
-  says-do =
-      by-test (eqb (x .verb) addVerb) (λ e. as-verb addVerb e says-add) (λ a.
-      by-test (eqb (x .verb) delVerb) (λ e. as-verb delVerb e says-del) (λ b.
-      by-test (eqb (x .verb) pushbVerb) (λ e. as-verb pushbVerb e says-pushb) (λ c.
-      by-test (eqb (x .verb) conVerb) (λ e. as-verb conVerb e says-con) (λ d.
-      by-test (eqb (x .verb) dconVerb) (λ e. as-verb dconVerb e says-dcon) (λ e.
-      by-test (eqb (x .verb) waitVerb) (λ e. as-verb waitVerb e says-wait) (says-unknown a b c d e))))))
-
--- ---- a step
-says-step-id : (v a : ℕ) → Digits a → SaysLine (stepId v) (oneText a) (limitFault (idOk a)) (aStep v a 0)
-unfolding stepId
-says-step-id v a h = says-shape (oneForm fiveDigits) (oneText a) a _ _ _ (one-round fiveDigits five seven a h) (says-limit (idOk a) _)
-
-says-step-number : (v : ℕ) (limit : ℕ → Bool) (a b : ℕ) → Digits a → Digits b → SaysLine (stepNumber v limit) (twoText a b) (limitFault (idOk a && limit b)) (aStep v a b)
-unfolding stepNumber
-says-step-number v limit a b h g = says-shape (twoForm fiveDigits) (twoText a b) (a, b) _ _ _ (two-round fiveDigits five seven a b h g) (says-limit (idOk a && limit b) _)
-
-abbrev SaysStep : Step → Type 0
-SaysStep x = DigitsOfStep (spokenStep x) → SaysLine stepLine (stepText x) (stepFault x) (spokenStep x)
-
-module _ (x : Step) where
-  as-step : (v : ℕ) → eqb (x .verb) v ≡ true → SaysStep (aStep v (x .id) (x .number)) → SaysStep x
-  as-step v e h = subst (λ (u : ℕ). SaysStep (aStep u (x .id) (x .number))) (sym (eqb-true (x .verb) v e)) h
-
-  says-next : SaysStep (aStep nextVerb (x .id) (x .number))
-  unfolding stepLine stepText stepFault spokenStep key
-  says-next h = says-on (bytes "step=next\n") _ _ [] _ _ (says-give _)
-
-  says-fire : SaysStep (aStep fireVerb (x .id) (x .number))
-  unfolding stepLine stepText stepFault spokenStep key
-  says-fire (hi, hn) = says-other (bytes "step=next\n") _ _ (bytes "step=fire," ++ twoText (x .id) (x .number)) _ _ (λ s. refl)
-      (says-on (bytes "step=fire,") _ _ (twoText (x .id) (x .number)) _ _ (says-step-number fireVerb placeOk (x .id) (x .number) hi hn))
-
-  says-end : SaysStep (aStep endVerb (x .id) (x .number))
-  unfolding stepLine stepText stepFault spokenStep key
-  says-end (hi, hn) = says-other (bytes "step=next\n") _ _ (bytes "step=end," ++ twoText (x .id) (x .number)) _ _ (λ s. refl)
-      (says-other (bytes "step=fire,") _ _ (bytes "step=end," ++ twoText (x .id) (x .number)) _ _ (λ s. refl)
-      (says-on (bytes "step=end,") _ _ (twoText (x .id) (x .number)) _ _ (says-step-number endVerb transitionOk (x .id) (x .number) hi hn)))
-
-  says-enter : SaysStep (aStep enterVerb (x .id) (x .number))
-  unfolding stepLine stepText stepFault spokenStep key
-  says-enter (hi, hn) = says-other (bytes "step=next\n") _ _ (bytes "step=enter," ++ twoText (x .id) (x .number)) _ _ (λ s. refl)
-      (says-other (bytes "step=fire,") _ _ (bytes "step=enter," ++ twoText (x .id) (x .number)) _ _ (λ s. refl)
-      (says-other (bytes "step=end,") _ _ (bytes "step=enter," ++ twoText (x .id) (x .number)) _ _ (λ s. refl)
-      (says-on (bytes "step=enter,") _ _ (twoText (x .id) (x .number)) _ _ (says-step-number enterVerb placeOk (x .id) (x .number) hi hn))))
-
-  says-finish : SaysStep (aStep finishVerb (x .id) (x .number))
-  unfolding stepLine stepText stepFault spokenStep key
-  says-finish (hi, hn) = says-other (bytes "step=next\n") _ _ (bytes "step=finish," ++ oneText (x .id)) _ _ (λ s. refl)
-      (says-other (bytes "step=fire,") _ _ (bytes "step=finish," ++ oneText (x .id)) _ _ (λ s. refl)
-      (says-other (bytes "step=end,") _ _ (bytes "step=finish," ++ oneText (x .id)) _ _ (λ s. refl)
-      (says-other (bytes "step=enter,") _ _ (bytes "step=finish," ++ oneText (x .id)) _ _ (λ s. refl)
-      (says-on (bytes "step=finish,") _ _ (oneText (x .id)) _ _ (says-step-id finishVerb (x .id) hi)))))
-
-  says-no-step : eqb (x .verb) nextVerb ≡ false → eqb (x .verb) fireVerb ≡ false → eqb (x .verb) endVerb ≡ false → eqb (x .verb) enterVerb ≡ false
-      → eqb (x .verb) finishVerb ≡ false → SaysStep x
-  unfolding stepLine stepText stepFault spokenStep key
-  says-no-step a b c d e h =
-      rw (a, b, c, d, e)
-      (says-other (bytes "step=next\n") _ _ (bytes "step=\n") _ _ (λ s. refl)
-      (says-other (bytes "step=fire,") _ _ (bytes "step=\n") _ _ (λ s. refl)
-      (says-other (bytes "step=end,") _ _ (bytes "step=\n") _ _ (λ s. refl)
-      (says-other (bytes "step=enter,") _ _ (bytes "step=\n") _ _ (λ s. refl)
-      (says-other (bytes "step=finish,") _ _ (bytes "step=\n") _ _ (λ s. refl) (says-none (bytes "step=\n") _))))))
-
-  pub says-step : SaysStep x
-  says-step =
-      by-test (eqb (x .verb) nextVerb) (λ e. as-step nextVerb e says-next) λ a. by-test (eqb (x .verb) fireVerb) (λ e. as-step fireVerb e says-fire) λ b.
-      by-test (eqb (x .verb) endVerb) (λ e. as-step endVerb e says-end) λ c. by-test (eqb (x .verb) enterVerb) (λ e. as-step enterVerb e says-enter) λ d.
-      by-test (eqb (x .verb) finishVerb) (λ e. as-step finishVerb e says-finish) (says-no-step a b c d)

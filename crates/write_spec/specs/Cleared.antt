@@ -11,8 +11,8 @@ use Rattle.model.specs.declared.Instruction.{Instruction}
 use Rattle.model.specs.declared.Program.{Program}
 use Rattle.model.specs.declared.Step.{Step}
 use Rattle.model.specs.declared.Answer.{Answer}
-use Rattle.model.specs.Empty.{noType, noInstruction, noStep}
-use Rattle.model.specs.Verb.{addVerb, pushbVerb, conVerb, dconVerb, nextVerb, finishVerb}
+use Rattle.model.specs.Empty.{noType, noneBegun, noInstruction, noStep}
+use Rattle.model.specs.Verb.{addVerb, pushbVerb, conVerb, dconVerb, pushTicketVerb, waitTicketVerb, nextVerb, finishVerb}
 use Rattle.model.specs.View.{typeOf, listOf}
 use Rattle.write_spec.specs.Texts.{instructionRow, stepRow}
 
@@ -44,11 +44,13 @@ cleared t = record {
 -- an instruction with the numbers that its line has
 unfoldable pub spoken : Instruction → Instruction
 spoken x =
-    cond (eqb (x .verb) addVerb || eqb (x .verb) pushbVerb) (record { verb = x .verb; id = x .id; number = x .number; provider = 0; provideport = 0 })
-    (cond (eqb (x .verb) conVerb || eqb (x .verb) dconVerb) x (record { verb = x .verb; id = x .id; number = 0; provider = 0; provideport = 0 }))
+    cond (eqb (x .verb) addVerb || (eqb (x .verb) pushbVerb || eqb (x .verb) waitTicketVerb)) (record { verb = x .verb; id = x .id; number = x .number; provider = 0; provideport = 0 })
+    (cond (eqb (x .verb) conVerb || eqb (x .verb) dconVerb) x
+    (cond (eqb (x .verb) pushTicketVerb) (record { verb = x .verb; id = x .id; number = x .number; provider = x .provider; provideport = 0 })
+    (record { verb = x .verb; id = x .id; number = 0; provider = 0; provideport = 0 })))
 
 unfoldable pub clearedProgram : Program → Program
-clearedProgram p = record { instructions = column 256 (λ r. ltb r (p .count)) noInstruction (λ r. spoken (instructionRow p r)); count = p .count }
+clearedProgram p = record { edition = p .edition; begun = noneBegun; instructions = column 256 (λ r. ltb r (p .count)) noInstruction (λ r. spoken (instructionRow p r)); count = p .count }
 
 -- a step with the numbers that its line has
 unfoldable pub spokenStep : Step → Step

@@ -4,11 +4,11 @@ use mathlib.Core.List.{List, _++_}
 use mathlib.Core.Bool.{Bool, not, _&&_, _||_, cond}
 use lib.Dec.{eqb}
 use Rattle.item_spec.specs.Reader.{bytes}
-use Rattle.item_spec.specs.Write.{maskText, oneText, twoText, fourText}
+use Rattle.item_spec.specs.Write.{maskText, oneText, twoText, threeText, fourText}
 use Rattle.model.specs.declared.Instruction.{Instruction}
 use Rattle.model.specs.declared.Step.{Step}
-use Rattle.model.specs.Verb.{addVerb, delVerb, pushbVerb, conVerb, dconVerb, waitVerb, nextVerb, fireVerb, endVerb, enterVerb, finishVerb}
-use Rattle.read_spec.specs.Limits.{maskOk, endOk, idOk, placeOk, portOk, transitionOk, behaviorOk, kindOk, typeOk, initialOk, endsOk, useOk}
+use Rattle.model.specs.Verb.{addVerb, delVerb, pushbVerb, conVerb, dconVerb, waitVerb, pushTicketVerb, waitTicketVerb, nextVerb, fireVerb, endVerb, enterVerb, finishVerb}
+use Rattle.read_spec.specs.Limits.{maskOk, endOk, idOk, placeOk, portOk, transitionOk, behaviorOk, ticketOk, hasTickets, editionOk, kindOk, typeOk, initialOk, endsOk, useOk}
 use Rattle.rules_spec.specs.Refusal.{_⇒_∣_}
 
 -- a list to the line's end, and two of them
@@ -21,6 +21,10 @@ setsText m n = maskText m ++ bytes "," ++ maskText n ++ bytes "\n"
 -- "a number beyond its limit"
 abbrev pub limitFault : Bool → ℕ
 limitFault ok = not ok ⇒ 3 ∣ 0
+
+-- `sheet=`: another number than 1 and 2 is a form fault
+unfoldable pub editionFault : ℕ → ℕ
+editionFault e = not (editionOk e) ⇒ 2 ∣ 0
 
 -- `initial=` list, in a type of n places
 unfoldable pub initialText : ℕ → List ℕ
@@ -54,7 +58,7 @@ unfoldable pub portFault : ℕ → ℕ → ℕ → ℕ × ℕ × ℕ → ℕ
 portFault n k m y =
     not (kindOk (y .0)) ⇒ 2 ∣ not (maskOk n (y .1) && maskOk k (y .2)) ⇒ 3 ∣ eqb (y .0) 1 && not (useOk m (y .1)) ⇒ 4 ∣ 0
 
--- `do=`, in a sheet of n types
+-- `do=`, in a sheet of n types that opens with e; a line of the other sheets has not the form due
 unfoldable pub doText : Instruction → List ℕ
 doText x =
     cond (eqb (x .verb) addVerb) (bytes "do=add," ++ twoText (x .id) (x .number))
@@ -63,16 +67,20 @@ doText x =
     (cond (eqb (x .verb) conVerb) (bytes "do=con," ++ fourText (x .id) (x .number) (x .provider) (x .provideport))
     (cond (eqb (x .verb) dconVerb) (bytes "do=dcon," ++ fourText (x .id) (x .number) (x .provider) (x .provideport))
     (cond (eqb (x .verb) waitVerb) (bytes "do=wait," ++ oneText (x .id))
-    (bytes "do=\n"))))))
+    (cond (eqb (x .verb) pushTicketVerb) (bytes "do=pushb," ++ threeText (x .id) (x .number) (x .provider))
+    (cond (eqb (x .verb) waitTicketVerb) (bytes "do=wait," ++ twoText (x .id) (x .number))
+    (bytes "do=\n"))))))))
 
-unfoldable pub doFault : ℕ → Instruction → ℕ
-doFault n x =
+unfoldable pub doFault : ℕ → ℕ → Instruction → ℕ
+doFault e n x =
     cond (eqb (x .verb) addVerb) (limitFault (idOk (x .id) && typeOk n (x .number)))
     (cond (eqb (x .verb) delVerb) (limitFault (idOk (x .id)))
-    (cond (eqb (x .verb) pushbVerb) (limitFault (idOk (x .id) && behaviorOk (x .number)))
+    (cond (eqb (x .verb) pushbVerb) (cond (hasTickets e) 2 (limitFault (idOk (x .id) && behaviorOk (x .number))))
     (cond (eqb (x .verb) conVerb || eqb (x .verb) dconVerb) (limitFault (idOk (x .id) && (portOk (x .number) && (idOk (x .provider) && portOk (x .provideport)))))
     (cond (eqb (x .verb) waitVerb) (limitFault (idOk (x .id)))
-    2))))
+    (cond (eqb (x .verb) pushTicketVerb) (cond (hasTickets e) (limitFault (idOk (x .id) && (behaviorOk (x .number) && ticketOk (x .provider)))) 2)
+    (cond (eqb (x .verb) waitTicketVerb) (cond (hasTickets e) (limitFault (idOk (x .id) && ticketOk (x .number))) 2)
+    2))))))
 
 -- `step=`
 unfoldable pub stepText : Step → List ℕ

@@ -33,6 +33,7 @@ abbrev pub DigitsOfStep : Step → Type 0
 DigitsOfStep x = Digits (x .id) × Digits (x .number)
 
 pub record Held (t : Tables) (p : Program) : Type 0 where
+  pub edition : Digits (p .edition)
   pub depth : Digits (t .depth)
   pub count : Digits (t .count)
   pub places : (i : ℕ) → i < t .count → Digits (typeOf t i .places)

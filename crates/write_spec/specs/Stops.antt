@@ -16,7 +16,7 @@ use Rattle.read_spec.specs.Limits.{depthOk, typesOk, placesOk, transitionsOk, b
 use Rattle.read_spec.specs.Lines.{Lines, stop}
 use Rattle.rules_spec.specs.Refusal.{orNumber}
 use Rattle.report_spec.specs.Report.{countText}
-use Rattle.write_spec.specs.Kinds.{limitFault, initialText, initialFault, tranText, tranFault, behaviorText, behaviorFault, portLineText, portFault, doText, doFault, stepText, stepFault}
+use Rattle.write_spec.specs.Kinds.{limitFault, editionFault, initialText, initialFault, tranText, tranFault, behaviorText, behaviorFault, portLineText, portFault, doText, doFault, stepText, stepFault}
 use Rattle.write_spec.specs.Texts.{transitionRow, behaviorRow, portRow, instructionRow, stepRow}
 use Rattle.write_spec.specs.Cleared.{spoken, spokenStep}
 use Rattle.write_spec.specs.Round.{Digits, Mask, DigitsOf, DigitsOfStep, Scribed, aSheet, anAnswer}
@@ -58,6 +58,9 @@ HeadHeld [] = Unit {0}
 HeadHeld (x ∷ xs) = x .Held
 
 -- each kind of line
+abbrev pub editionRow : ℕ → Row
+editionRow e = record { text = countText (bytes "sheet=") e; fault = editionFault e; Held = Digits e }
+
 abbrev pub dueRow : List ℕ → ℕ → Row
 dueRow k n = record { text = countText k n; fault = 0; Held = Digits n }
 
@@ -79,8 +82,8 @@ rowOfBehavior k m = record { text = behaviorText m; fault = behaviorFault k m; H
 abbrev pub rowOfPort : ℕ → ℕ → ℕ → ℕ × ℕ × ℕ → Row
 rowOfPort n k m y = record { text = portLineText y; fault = portFault n k m y; Held = Mask (y .1) × Mask (y .2) }
 
-abbrev pub rowOfDo : ℕ → Instruction → Row
-rowOfDo n x = record { text = doText x; fault = doFault n x; Held = DigitsOf (spoken x) }
+abbrev pub rowOfDo : ℕ → ℕ → Instruction → Row
+rowOfDo e n x = record { text = doText x; fault = doFault e n x; Held = DigitsOf (spoken x) }
 
 -- the lines of type i, of a sheet, of an answer
 unfoldable pub typeRows : Tables → ℕ → List Row
@@ -93,8 +96,8 @@ typeRows t i =
 
 unfoldable pub sheetRows : Tables × Program → List Row
 sheetRows (t, p) =
-    dueRow (bytes "sheet=") 1 ∷ (countRow (bytes "depth=") depthOk (t .depth) ∷ (countRow (bytes "types=") typesOk (t .count)
-    ∷ (rowsFrom (typeRows t) (t .count) 0 ++ (countRow (bytes "program=") programOk (p .count) ∷ rowsFrom (λ j. rowOfDo (t .count) (instructionRow p j) ∷ []) (p .count) 0))))
+    editionRow (p .edition) ∷ (countRow (bytes "depth=") depthOk (t .depth) ∷ (countRow (bytes "types=") typesOk (t .count)
+    ∷ (rowsFrom (typeRows t) (t .count) 0 ++ (countRow (bytes "program=") programOk (p .count) ∷ rowsFrom (λ j. rowOfDo (p .edition) (t .count) (instructionRow p j) ∷ []) (p .count) 0))))
 
 unfoldable pub answerRows : Answer → List Row
 answerRows a = dueRow (bytes "answer=") 1 ∷ (countRow (bytes "steps=") stepsOk (a .count) ∷ rowsFrom (λ j. rowOfStep (stepRow a j) ∷ []) (a .count) 0)

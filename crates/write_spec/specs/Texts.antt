@@ -14,7 +14,7 @@ use Rattle.model.specs.View.{typeOf}
 use Rattle.read_spec.specs.Limits.{depthOk, typesOk, placesOk, transitionsOk, behaviorsOk, portsOk, programOk, stepsOk}
 use Rattle.rules_spec.specs.Refusal.{orNumber}
 use Rattle.report_spec.specs.Report.{countText}
-use Rattle.write_spec.specs.Kinds.{limitFault, initialText, initialFault, tranText, tranFault, behaviorText, behaviorFault, portLineText, portFault, doText, doFault, stepText, stepFault}
+use Rattle.write_spec.specs.Kinds.{limitFault, editionFault, initialText, initialFault, tranText, tranFault, behaviorText, behaviorFault, portLineText, portFault, doText, doFault, stepText, stepFault}
 
 -- of f 0, f 1, .. n of them, the first that is no 0
 unfoldable pub firstOf : (ℕ → ℕ) → ℕ → ℕ
@@ -55,13 +55,13 @@ typeFault t i =
 
 unfoldable pub sheetText : Tables → Program → List ℕ
 sheetText t p =
-    countText (bytes "sheet=") 1 ++ (countText (bytes "depth=") (t .depth) ++ (countText (bytes "types=") (t .count)
+    countText (bytes "sheet=") (p .edition) ++ (countText (bytes "depth=") (t .depth) ++ (countText (bytes "types=") (t .count)
     ++ (inTurn (typeText t) (t .count) ++ (countText (bytes "program=") (p .count) ++ inTurn (λ j. doText (instructionRow p j)) (p .count)))))
 
 unfoldable pub sheetFault : Tables → Program → ℕ
 sheetFault t p =
-    orNumber (limitFault (depthOk (t .depth))) (orNumber (limitFault (typesOk (t .count))) (orNumber (firstOf (typeFault t) (t .count))
-    (orNumber (limitFault (programOk (p .count))) (firstOf (λ j. doFault (t .count) (instructionRow p j)) (p .count)))))
+    orNumber (editionFault (p .edition)) (orNumber (limitFault (depthOk (t .depth))) (orNumber (limitFault (typesOk (t .count))) (orNumber (firstOf (typeFault t) (t .count))
+    (orNumber (limitFault (programOk (p .count))) (firstOf (λ j. doFault (p .edition) (t .count) (instructionRow p j)) (p .count))))))
 
 unfoldable pub answerText : Answer → List ℕ
 answerText a = countText (bytes "answer=") 1 ++ (countText (bytes "steps=") (a .count) ++ inTurn (λ j. stepText (stepRow a j)) (a .count))
