@@ -12,7 +12,7 @@ use read_lines::Went;
 ghost use mathlib.Core.Path.{_≡_};
 ghost use Prim.Native.Nat.{min};
 ghost use lib.ListN.{length, drop};
-ghost use Rattle.read_spec.specs.Kinds.{dueLine, countLine};
+ghost use Rattle.read_spec.specs.Kinds.{editionLine, dueLine, countLine};
 ghost use Rattle.read_spec.specs.Lines.{line, atEnd};
 ghost use Rattle.read_lines.specs.Counts.{limitOk, greatest, inRange};
 ghost use Rattle.read_lines.specs.Runs.{RunsTo, refusalOf};
@@ -106,6 +106,19 @@ pub fn then_due(text: &[u8], read: LinesRead, key: &[u8], number: u32) -> LinesR
         return read;
     };
     due_run(text, read.at, key, number)
+}
+
+// The first line of a sheet.
+pub fn then_edition(text: &[u8], read: LinesRead) -> NumberRead
+    ensures reads { λ r. ⌜ After (now (text .entry)) read (line editionLine) (r .read) (r .number) ⌝ }
+    ensures held { λ r. ⌜ Held 2 r ⌝ }
+{
+    let went = read.went;
+    let Went::On = went else {
+        return NumberRead { read, number: 0 };
+    };
+    let line = read_lines::edition_at(text, read.at);
+    number_run(text, read.at, line)
 }
 
 // The line of a key and a number within its limit.

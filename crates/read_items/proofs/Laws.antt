@@ -12,7 +12,7 @@ use lib.ListN.{length, drop, getD, drop-of-length-le}
 use lib.Seq.{drop-cons}
 use borrow.Author.Tests.{eq-eqb, ne-eqb}
 use Rattle.item_spec.specs.Reader.{Reply, Reader, got, refused, byte, give, _>>_}
-use Rattle.item_spec.specs.Read.{key, upon, digit, numberFrom, follows, membersFrom, list, Set}
+use Rattle.item_spec.specs.Read.{given, key, upon, digit, numberFrom, follows, membersFrom, list, Set}
 use Rattle.item_spec.proofs.Tests.{by-test}
 use Rattle.item_spec.proofs.Laws.{Digit, digit-true, follows-true, digits-lt}
 use Rattle.read_items.specs.Turn.{Small}
@@ -90,10 +90,10 @@ list-over d e m t k v i s h = rw (drop-of-length-le s h)
 -- ---- one way or another, by a key
 module _ {A : Type 0} (k s : List ℕ) (m other : Reader A) where
   pub on-here : (r : List ℕ) → key k s ≡ got tt r → upon k m other s ≡ m r
-  on-here r e = rw (e, upon)
+  on-here r e = rw (e, given)
 
   pub on-other : (n : ℕ) → key k s ≡ refused n → upon k m other s ≡ other s
-  on-other n e = rw (e, upon)
+  on-other n e = rw (e, given)
 
 -- a list by its first byte: `-` and the byte e, or members
 abbrev empty : ℕ → Reader Set

@@ -5,4 +5,3 @@ pub mod Shapes
 pub mod Limits
 pub mod Within
 pub mod Once
-pub mod Queues

@@ -5,7 +5,7 @@ use mathlib.Core.List.{List}
 use mathlib.Core.Path.{_≡_, sym, ap, _∙_}
 use lib.ListN.{drop}
 use Rattle.item_spec.specs.Reader.{Reply, Reader, got, refused, readOn}
-use Rattle.item_spec.specs.Read.{key, upon}
+use Rattle.item_spec.specs.Read.{given, key, upon}
 use Rattle.read_items.specs.Reads.{Outcome, past, fault, Reads}
 use Rattle.read_items.specs.Keyed.{keyed}
 use Rattle.read_items.proofs.Shapes.{bind-bind}
@@ -33,7 +33,7 @@ whole-line k m f {s} h = rw (bind-bind (key k s) (λ _. m) f) at h
 -- a line by its verb: m where the key k stands, else x
 module _ {A : Type 0} (k : List ℕ) (m : Reader A) (x : Reply A) {s : List ℕ} {o : Outcome A} where
   pub verb-here : {i : ℕ} → Reads s (past tt i) (key k s) → Reads s o (m (drop i s)) → Reads s o (upon k m (λ _. x) s)
-  verb-here h l = rw (sym (h .same), upon) l
+  verb-here h l = rw (sym (h .same), given) l
 
   pub verb-other : {n : ℕ} → Reads s (fault n) (key k s) → Reads s o x → Reads s o (upon k m (λ _. x) s)
-  verb-other h l = rw (sym (h .same), upon) l
+  verb-other h l = rw (sym (h .same), given) l

@@ -4,15 +4,11 @@ use Prim.Native.Nat.{ℕ, _≤_}
 use mathlib.Core.List.{List}
 use mathlib.Core.Path.{_≡_, refl, sym, ap, _∙_}
 use native.Mathlib.Omega.{arith}
-use lib.ListN.{length, drop, getD, length-drop}
-use lib.Seq.{ext-getD}
+use lib.ListN.{length, drop, length-drop}
 use Rattle.item_spec.specs.Reader.{Reply, refused}
 use Rattle.item_spec.proofs.Laws.{not-got, got-value, got-rest}
 use Rattle.read_items.specs.Reads.{Outcome, past, fault, Reads, NoOther}
 use Rattle.read_items.specs.Within.{numbersSays}
-use Rattle.read_items.specs.Items.{itemSays, ItemsRead, none, some, NoOtherItems}
-use Rattle.read_items.specs.declared.items.Item.the-variants as item
-use Rattle.read_items.specs.declared.items.Items.the-variants as items
 use Rattle.read_items.specs.declared.numbers.Numbers.the-variants as numbers
 use Rattle.read_items.specs.Says.{dueSays, numberSays, listSays, listsSays}
 use Rattle.read_items.specs.declared.Due.the-variants as due
@@ -63,20 +59,3 @@ lists-once =
 
 pub numbers-once : NoOther numbersSays
 numbers-once = no-other numbersSays (elim [ past a n ↦ numbers.Got a n | fault k ↦ numbers.Refused k ]) (elim [ numbers.Got a n ↦ refl | numbers.Refused k ↦ refl ])
-
-pub item-once : NoOther itemSays
-item-once = no-other itemSays (elim [ past a n ↦ item.Got (a .0) (a .1) n | fault k ↦ item.Fault ]) (elim [ item.Got a b n ↦ refl | item.Fault ↦ refl ])
-
-pub items-once : NoOtherItems
-unfolding NoOtherItems
-items-once s x y m _ _ a b (none e z) (none f w) = (refl, z ∙ sym w)
-items-once s x y m _ _ a b (none e z) (some l w f c h) = absurd (not-got (sym e ∙ f))
-items-once s x y m _ _ a b (some l w e c h) (none f z) = absurd (not-got (sym f ∙ e))
-items-once s x y m _ _ a b (some {n} {at} l w e c h) (some {n = k} {at = to} o v f d g) =
-    let q = sym e ∙ f in
-    let same = got-value q in
-    let count : n ≡ k = c ∙ ap length same ∙ sym d in
-    let place = place-once s at to w v (got-rest q) in (
-      (λ i. items.Got (count i) (place i)),
-      ext-getD 0 x y (a ∙ sym b) (λ r z. h r (omega (arith, a, z)) ∙ ap (λ (u : List ℕ). getD u r 0) same ∙ sym (g r (omega (arith, a, z)))),
-    )

@@ -5,4 +5,3 @@ pub mod Says
 pub mod Keyed
 pub mod Within
 pub mod Turn
-pub mod Items

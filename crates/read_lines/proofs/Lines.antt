@@ -2,14 +2,17 @@
 -- Assumes nothing.
 use Prim.Native.Nat.{ℕ, _+_, _-_, _<_, _≤_, zero-le, min}
 use mathlib.Core.List.{List}
-use mathlib.Core.Bool.{Bool}
+use mathlib.Core.Bool.{Bool, true, false}
+use mathlib.Core.Logic.{by-cases}
 use mathlib.Core.Path.{_≡_, refl, ap, fun-ext, _∙_}
 use native.Mathlib.Omega.{arith}
+use native.Mathlib.Decide.{ℕ-discrete}
+use borrow.Author.Tests.{eq-eqb, ne-eqb}
 use lib.Dec.{leb, leb·zero}
 use lib.ListN.{length, take, drop, length-drop, drop-of-length-le}
 use lib.Seq.{take-all, drop-drop, drop-cons}
 use Rattle.item_spec.specs.Reader.{Reply, Reader}
-use Rattle.read_spec.specs.Limits.{fiveDigits}
+use Rattle.read_spec.specs.Limits.{fiveDigits, editionOk}
 use Rattle.read_spec.specs.Kinds.{countLineIn, countLine}
 use Rattle.read_spec.specs.Lines.{on, stop, atEnd}
 use Rattle.read_items.specs.Reads.{Outcome, past, fault, Reads}
@@ -81,3 +84,10 @@ module _ (s : List ℕ) (at : ℕ) where
 
   pub end-here : length s ≤ at → atEnd (drop at s) ≡ on tt (drop at s)
   end-here h = rw (drop-of-length-le s h)
+
+-- the numbers that a sheet opens with
+pub edition-in : (a : ℕ) → 1 ≤ a → a ≤ 2 → editionOk a ≡ true
+edition-in a l g = by-cases (ℕ-discrete a 1) (λ e. rw (eq-eqb a 1 e)) (λ e. rw (ne-eqb a 1 e, eq-eqb a 2 (omega arith)))
+
+pub edition-out : (a : ℕ) → (1 ≤ a → a ≤ 2 → ⊥) → editionOk a ≡ false
+edition-out a f = rw (ne-eqb a 1 (λ e. f (omega arith) (omega arith)), ne-eqb a 2 (λ e. f (omega arith) (omega arith)))

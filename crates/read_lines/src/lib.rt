@@ -10,7 +10,7 @@ ghost use mathlib.Core.Path.{_≡_};
 ghost use lib.ListN.{length, drop};
 ghost use Rattle.read_items.specs.Reads.{Reads, refusal};
 ghost use Rattle.read_items.specs.Says.{most, dueSays};
-ghost use Rattle.read_spec.specs.Kinds.{dueLine, countLineIn, countLine};
+ghost use Rattle.read_spec.specs.Kinds.{editionLine, dueLine, countLineIn, countLine};
 ghost use Rattle.read_spec.specs.Lines.{atEnd};
 ghost use Rattle.read_spec.specs.Place.{upToLf, lineNumber, lineStart};
 ghost use Rattle.read_lines.specs.Counts.{lineSays, limitOk, rangeOf, inRange, CountsIn, Counts};
@@ -59,6 +59,22 @@ fn due_line(s: &[u8], key: &[u8], number: u32) -> Due
     Due::Past(used)
 }
 
+// `sheet=1` or `sheet=2`.
+fn edition_line(s: &[u8]) -> Line
+    ensures { λ r. ⌜ CountsIn (now (s .entry)) 1 2 r (editionLine (now (s .entry))) ⌝ }
+{
+    let Number::Got(a, used) = read_items::number_line(s, b"sheet=", Digits::Five) else {
+        return Line::Refused(BAD_FORM);
+    };
+    if a < 1 {
+        return Line::Refused(BAD_FORM);
+    }
+    if 2 < a {
+        return Line::Refused(BAD_FORM);
+    }
+    Line::Got(a, used)
+}
+
 // The numbers that a limit lies between.
 fn range_of(limit: Limit) -> Range
     ensures { λ r. ⌜ r ≡ rangeOf limit ⌝ }
@@ -101,6 +117,18 @@ pub fn due_at(text: &[u8], at: usize, key: &[u8], number: u32) -> Due
     };
     let next = start + used;
     Due::Past(next)
+}
+
+pub fn edition_at(text: &[u8], at: usize) -> Line
+    ensures { λ r. ⌜ CountsIn (now (text .entry)) 1 2 r (editionLine (drop at (now (text .entry)))) ⌝ }
+{
+    let start = read_items::place_in(text, at);
+    let line = edition_line(&text[start..]);
+    let Line::Got(a, used) = line else {
+        return line;
+    };
+    let next = start + used;
+    Line::Got(a, next)
 }
 
 pub fn within_at(

@@ -17,20 +17,22 @@ use Rattle.model.specs.declared.Tables.{Tables}
 use Rattle.model.specs.declared.Program.{Program}
 use Rattle.read_spec.specs.Limits.{depthOk, typesOk, placesOk, transitionsOk, behaviorsOk, portsOk, programOk}
 use Rattle.read_spec.specs.Lines.{Run, on, stop, Lines, runOn, handOn, line, each, atEnd, _>>=_, _>>_}
-use Rattle.read_spec.specs.Kinds.{countLine, initialLine}
+use Rattle.read_spec.specs.Kinds.{editionLine, countLine, initialLine}
 use Rattle.read_spec.specs.Fill.{headed, programOf}
 use Rattle.read_spec.specs.Texts.{instructionAt}
+use Rattle.read_lines.specs.declared.Went.{Went}
 use Rattle.read_lines.specs.declared.Went.the-variants.{On, Stop}
 use Rattle.read_lines.specs.Counts.{inRange}
-use Rattle.read_lines.specs.Runs.{RunsTo}
+use Rattle.read_lines.specs.Runs.{RunsTo, run}
 use Rattle.read_lines.proofs.Runs.{stopped, went-on, next-same}
 use Rattle.read_lines.proofs.Lines.{same-rest}
+use Rattle.read_chain.specs.declared.LinesRead.{LinesRead}
 use Rattle.read_chain.specs.declared.NumberRead.{NumberRead}
-use Rattle.read_chain.specs.Chain.{short, shortly}
+use Rattle.read_chain.specs.Chain.{After, nothing, short, shortly}
 use Rattle.words.specs.Parts.{withKind, typeOfWords}
 use Rattle.read_sheet_lines.specs.declared.Rows.the-variants as rows
 use Rattle.read_sheet.specs.Rows.{row}
-use Rattle.read_sheet.specs.Form.{begins, linesWith, counted, knownAs, typeForm, form}
+use Rattle.read_sheet.specs.Form.{begins, linesWith, counted, knownAs, typeForm, editionForm, form}
 use Rattle.read_sheet.specs.Counted.{countedRun}
 
 -- ---- a key at a line's start
@@ -133,22 +135,44 @@ type-counted i t s =
 
 unfoldable pub formCounted : Lines (Tables × Program)
 formCounted = do
+  e ← editionForm
   d ← line (countLine (bytes "depth=") depthOk)
   n ← counted true (bytes "type=") (inRange 1 16)
   t ← each typeForm n 0 (headed d n)
   k ← counted false (bytes "do=") (inRange 0 256)
-  p ← each (instructionAt n) k 0 (programOf k)
+  p ← each (instructionAt e n) k 0 (programOf e k)
   atEnd
   handOn (t, p)
 
 pub form-counted : (s : List ℕ) → formCounted s ≡ form s
 unfolding formCounted form
 form-counted s =
+    next-same (editionForm s) _ _ (λ e s.
     next-same (line (countLine (bytes "depth=") depthOk) s) _ _ (λ d s.
     counted-then true (bytes "type=") (inRange 1 16) typesOk (λ n. refl) s _ _ (λ n s.
     next-same (each typeForm n 0 (headed d n) s) _ _ (λ t s.
-    counted-then false (bytes "do=") (inRange 0 256) programOk (from-none 256) s _ _ (λ k s. refl))))
+    counted-then false (bytes "do=") (inRange 0 256) programOk (from-none 256) s _ _ (λ k s. refl)))))
 
 pub form-shortly : (s : List ℕ) → shortly formCounted s ≡ shortly form s
 unfolding shortly
 form-shortly s = next-same (short s) _ _ (λ _ t. form-counted t)
+
+-- ---- the number that a form opens with
+not-on : {A : Type 0} {n : ℕ} {a : A} {s r : List ℕ} → stop n s ≡ on a r → ⊥
+not-on {n = n} {a = a} {s = s} {r = r} e = let z : _≡_ {A = ℕ} 0 1 = cc in omega arith
+
+on-rest : {A : Type 0} {a b : A} {s r : List ℕ} → on a s ≡ on b r → s ≡ r
+on-rest {a = a} {b = b} {s = s} {r = r} e = cc
+
+unsaid : (w : Went) (x y : List ℕ) → run {A = Unit {0}} w tt x ≡ on tt y → run {A = ℕ} w 1 x ≡ on 1 y
+unsaid On x y e = ap (on 1) (on-rest e)
+unsaid (Stop k) x y e = absurd (not-on e)
+
+module _ {s : List ℕ} {a r : LinesRead} where
+  pub edition-said : {n : ℕ} → begins (bytes "sheet=") (drop (a .at) s) ≡ true → After s a (line editionLine) r n → After s a editionForm r n
+  unfolding editionForm
+  edition-said b h = record { went = λ e. rw b (h .went e); stopped = h .stopped }
+
+  pub edition-unsaid : begins (bytes "sheet=") (drop (a .at) s) ≡ false → After s a nothing r tt → After s a editionForm r 1
+  unfolding editionForm
+  edition-unsaid b h = record { went = λ e. rw b (record { within = h .went e .within; same = unsaid (r .went) _ _ (h .went e .same) }); stopped = h .stopped }

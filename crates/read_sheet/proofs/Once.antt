@@ -30,7 +30,7 @@ none-left m s r ws ps a e n =
     ap (λ (x : Whole (Tables × Program)). x .value) e
     ∙ nothing-beside (noTables, noProgram) m s (λ z. n (ap (λ (x : Whole (Tables × Program)). x .refused) e ∙ z)) in (
       tables-words ws _ (a .0) (length-replicate {A = ℕ} 2002 0) (ap (λ (x : Tables × Program). x .0) none ∙ sym no-tables),
-      program-words ps _ (a .1) (length-replicate {A = ℕ} 1281 0) (ap (λ (x : Tables × Program). x .1) none ∙ sym no-program),
+      program-words ps _ (a .1) (length-replicate {A = ℕ} 1282 0) (ap (λ (x : Tables × Program). x .1) none ∙ sym no-program),
     )
 
 pub sheet-once : NoOtherSheet

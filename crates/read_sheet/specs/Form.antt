@@ -11,7 +11,7 @@ use Rattle.model.specs.declared.Program.{Program}
 use Rattle.model.specs.Empty.{noTables, noProgram}
 use Rattle.read_spec.specs.Limits.{depthOk, typesOk, placesOk, transitionsOk, behaviorsOk, portsOk, programOk}
 use Rattle.read_spec.specs.Lines.{Lines, on, stop, _>>=_, _>>_, handOn, line, each, atEnd}
-use Rattle.read_spec.specs.Kinds.{countLine, initialLine}
+use Rattle.read_spec.specs.Kinds.{editionLine, countLine, initialLine}
 use Rattle.read_spec.specs.Fill.{headed, programOf}
 use Rattle.read_spec.specs.Texts.{typeLines, instructionAt}
 use Rattle.read_chain.specs.Whole.{Whole, whole}
@@ -58,13 +58,18 @@ abbrev pub typeBy : Bool → ℕ → Tables → Lines Tables
 typeBy true = typeForm
 typeBy false = typeLines
 
+-- a form for a sheet with tickets opens with its number; no row stands for 1
+unfoldable pub editionForm : Lines ℕ
+editionForm s = cond (begins (bytes "sheet=") s) (line editionLine s) (on 1 s)
+
 unfoldable pub form : Lines (Tables × Program)
 form = do
+  e ← editionForm
   d ← line (countLine (bytes "depth=") depthOk)
   n ← counted true (bytes "type=") typesOk
   t ← each typeForm n 0 (headed d n)
   k ← counted false (bytes "do=") programOk
-  p ← each (instructionAt n) k 0 (programOf k)
+  p ← each (instructionAt e n) k 0 (programOf e k)
   atEnd
   handOn (t, p)
 

@@ -28,7 +28,7 @@ ReadsBy m s r ws ps = beside r (tablesIn ws, programIn ps) ≡ whole (noTables, 
 
 -- as many words as tables and program have
 abbrev pub Full : List ℕ → List ℕ → Type 0
-Full ws ps = (length ws ≡ 2002) × (length ps ≡ 1281)
+Full ws ps = (length ws ≡ 2002) × (length ps ≡ 1282)
 
 -- no other outcome and no other words fit the promise
 abbrev pub NoOther : Lines (Tables × Program) → Type 0
@@ -40,7 +40,7 @@ NoOtherSheet = NoOther sheet
 -- beside a refusal all words are 0
 abbrev pub NoneLeft : Lines (Tables × Program) → Type 0
 NoneLeft m = (s : List ℕ) (r : Place) (ws ps : List ℕ) → Full ws ps → ReadsBy m s r ws ps → (r .refused ≡ 0 → ⊥)
-    → (ws ≡ replicate 2002 0) × (ps ≡ replicate 1281 0)
+    → (ws ≡ replicate 2002 0) × (ps ≡ replicate 1282 0)
 
 unfoldable pub NoWordsLeft : Type 0
 NoWordsLeft = NoneLeft sheet

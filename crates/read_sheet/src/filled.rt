@@ -22,7 +22,7 @@ ghost use Rattle.read_lines.specs.Runs.{RunsTo};
 ghost use Rattle.read_lines.specs.Counts.{inRange};
 ghost use Rattle.read_chain.specs.Chain.{After, shortly};
 ghost use Rattle.words.specs.Words.{tablesIn, programIn};
-ghost use Rattle.read_sheet.specs.Form.{begins, linesWith, counted, typeForm, typeBy, form};
+ghost use Rattle.read_sheet.specs.Form.{begins, linesWith, counted, typeForm, typeBy, editionForm, form};
 ghost use Rattle.read_sheet.specs.Counted.{countedRun};
 
 fn begins(text: &[u8], at: usize, key: &[u8]) -> bool
@@ -170,6 +170,17 @@ pub(crate) fn then_types(
     read
 }
 
+// The number that a form opens with: 1 where no row says it.
+fn form_edition(text: &[u8], read: LinesRead) -> NumberRead
+    ensures { λ r. ⌜ After (now (text .entry)) read editionForm (r .read) (r .number) ⌝ }
+{
+    if begins(text, read.at, b"sheet=") {
+        return read_chain::then_edition(text, read);
+    }
+    let read = read_chain::then_nothing(text, read);
+    NumberRead { read, number: 1 }
+}
+
 // The rows of a form, up to the text's end.
 pub(crate) fn read_rows(
     text: &[u8],
@@ -180,12 +191,13 @@ pub(crate) fn read_rows(
         (shortly form (now (text .entry))) ⌝ }
 {
     let length = read_chain::length_run(text);
-    let depth = read_chain::then_number(text, length, b"depth=", Limit::Depth);
+    let first = form_edition(text, length);
+    let depth = read_chain::then_number(text, first.read, b"depth=", Limit::Depth);
     let types = then_counted(text, depth.read, b"type=", true, 1, 16);
     words::tables::start_tables(tables, depth.number, types.number);
     let filled = then_types(text, types, true, tables);
     let count = then_counted(text, filled, b"do=", false, 0, 256);
-    words::program::start_program(program, count.number);
-    let instructions = then_instructions(text, count, types.number, program);
+    words::program::start_program(program, first.number, count.number);
+    let instructions = then_instructions(text, count, first.number, types.number, program);
     read_chain::then_end(text, instructions)
 }

@@ -32,14 +32,15 @@ fn read_lines(text: &[u8], tables: &mut TableWords, program: &mut ProgramWords) 
         (shortly sheet (now (text .entry))) ⌝ }
 {
     let length = read_chain::length_run(text);
-    let first = read_chain::then_due(text, length, b"sheet=", 1);
-    let depth = read_chain::then_number(text, first, b"depth=", Limit::Depth);
+    let first = read_chain::then_edition(text, length);
+    let depth = read_chain::then_number(text, first.read, b"depth=", Limit::Depth);
     let types = read_chain::then_number(text, depth.read, b"types=", Limit::Types);
     words::tables::put_head(tables, depth.number, types.number);
     let filled = then_types(text, types, false, tables);
     let count = read_chain::then_number(text, filled, b"program=", Limit::Program);
     words::program::put_instructions(program, count.number);
-    let instructions = then_instructions(text, count, types.number, program);
+    words::program::put_edition(program, first.number);
+    let instructions = then_instructions(text, count, first.number, types.number, program);
     read_chain::then_end(text, instructions)
 }
 

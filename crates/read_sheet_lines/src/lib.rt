@@ -15,7 +15,7 @@ ghost use mathlib.Core.Path.{_≡_};
 ghost use lib.ListN.{drop};
 ghost use Rattle.read_items.specs.Reads.{Reads, refusal};
 ghost use Rattle.read_lines.specs.Counts.{lineSays};
-ghost use Rattle.read_spec.specs.Kinds.{initialLine, doLine};
+ghost use Rattle.read_spec.specs.Kinds.{initialLine, doPushIn, doWaitIn, doLine};
 ghost use Rattle.read_sheet_lines.specs.declared.Rows.the-variants.{Transitions, Behaviors, Ports};
 ghost use Rattle.read_sheet_lines.specs.Says.{rowSays, instructionSays, doNumbers};
 ghost use Rattle.read_sheet_lines.specs.Rows.{portAfter, rowLine};
@@ -175,9 +175,30 @@ fn do_numbers(s: &[u8], at: usize, verb: u32, limits: Limits) -> Do
     Do::Got(verb, n.first, n.second, n.third, n.fourth, used)
 }
 
-// `do=`, in a sheet of so many types.
-pub fn do_line(s: &[u8], types: u32) -> Do
-    ensures { λ r. ⌜ Reads (now (s .entry)) (instructionSays r) (doLine types (now (s .entry))) ⌝ }
+// What follows `pushb,` in a sheet that opens with this number: in one with tickets each push has one.
+fn push_after(s: &[u8], at: usize, edition: u32) -> Do
+    ensures { λ r. ⌜ Reads (now (s .entry)) (instructionSays r) (doPushIn edition (drop at (now (s .entry)))) ⌝ }
+{
+    if edition == 2 {
+        return do_numbers(s, at, 6, Limits::Three(32, 8, 256));
+    }
+    do_numbers(s, at, 2, Limits::Two(32, 8))
+}
+
+// What follows `wait,`: where a ticket may stand, an id alone, or an id and a ticket.
+fn wait_after(s: &[u8], at: usize, edition: u32) -> Do
+    ensures { λ r. ⌜ Reads (now (s .entry)) (instructionSays r) (doWaitIn edition (drop at (now (s .entry)))) ⌝ }
+{
+    let alone = do_numbers(s, at, 5, Limits::One(32));
+    if (edition == 2) & (do_refusal(alone) == BAD_FORM) {
+        return do_numbers(s, at, 7, Limits::Two(32, 256));
+    }
+    alone
+}
+
+// `do=`, in a sheet of so many types that opens with this number.
+pub fn do_line(s: &[u8], edition: u32, types: u32) -> Do
+    ensures { λ r. ⌜ Reads (now (s .entry)) (instructionSays r) (doLine edition types (now (s .entry))) ⌝ }
 {
     if let Due::Past(i) = read_items::past_key(s, 0, b"do=add,") {
         return do_numbers(s, i, 0, Limits::Two(32, types));
@@ -186,7 +207,7 @@ pub fn do_line(s: &[u8], types: u32) -> Do
         return do_numbers(s, i, 1, Limits::One(32));
     }
     if let Due::Past(i) = read_items::past_key(s, 0, b"do=pushb,") {
-        return do_numbers(s, i, 2, Limits::Two(32, 8));
+        return push_after(s, i, edition);
     }
     if let Due::Past(i) = read_items::past_key(s, 0, b"do=con,") {
         return do_numbers(s, i, 3, Limits::Four(32, 16, 32, 16));
@@ -195,7 +216,7 @@ pub fn do_line(s: &[u8], types: u32) -> Do
         return do_numbers(s, i, 4, Limits::Four(32, 16, 32, 16));
     }
     if let Due::Past(i) = read_items::past_key(s, 0, b"do=wait,") {
-        return do_numbers(s, i, 5, Limits::One(32));
+        return wait_after(s, i, edition);
     }
     Do::Refused(BAD_FORM)
 }

@@ -114,11 +114,11 @@ join-made c d n small e = e ∙ rw (lt-ltb (portNumber (n .third) (n .fourth)) 4
 
 module _ (t : Tables) (m : ℕ) (c : Configuration) (s : List ℕ) (start at : ℕ) (e : at ≡ min start (length s)) {r : Numbers}
     (o : Reads (part s at) (joinSays r) (connectionLine t c m (part s at))) where
-  pub join-put : {n : Four} {used : ℕ} → r ≡ numbers.Got n used → (j : ℕ)
-      → RunsTo s On (at + used) (connected c (joinIn n), suc (portNumber (n .first) (n .second))) (connectionAt t j (c, m) (drop start s))
+  pub join-put : {n : Four} {used : ℕ} → r ≡ numbers.Got n used → (j : ℕ) (l : List ℕ)
+      → RunsTo s On (at + used) (connected c (joinIn n), suc (portNumber (n .first) (n .second)), l) (connectionAt t j (c, m, l) (drop start s))
   unfolding connectionAt
-  join-put {n} {used} q j = put-line joinSays (connectionLine t c m) (λ k. (connected c k, suc (portNumber (k .user) (k .useport)))) s start at e (numbers.Got n used) o q refl
+  join-put {n} {used} q j l = put-line joinSays (connectionLine t c m) (λ k. (connected c k, suc (portNumber (k .user) (k .useport)), l)) s start at e (numbers.Got n used) o q refl
 
-  pub join-stop : {k y : ℕ} {b : SoFar} → r ≡ numbers.Refused k → y ≡ refusal (joinSays r) → (j : ℕ) → RunsTo s (Stop y) at b (connectionAt t j (c, m) (drop start s))
+  pub join-stop : {k y : ℕ} {b : SoFar} → r ≡ numbers.Refused k → y ≡ refusal (joinSays r) → (j : ℕ) (l : List ℕ) → RunsTo s (Stop y) at b (connectionAt t j (c, m, l) (drop start s))
   unfolding connectionAt
-  join-stop {k} {y} {b} q p j = put-refused joinSays (connectionLine t c m) (λ x. (connected c x, suc (portNumber (x .user) (x .useport)))) s start at e (numbers.Refused k) o q refl p
+  join-stop {k} {y} {b} q p j l = put-refused joinSays (connectionLine t c m) (λ x. (connected c x, suc (portNumber (x .user) (x .useport)), l)) s start at e (numbers.Refused k) o q refl p

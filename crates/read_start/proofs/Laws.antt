@@ -13,21 +13,23 @@ use lib.ListN.{length, getD, take, drop, length-take, drop-of-length-le}
 use borrow.Author.Tests.{le-leb, lt-leb, lt-ltb, ltb-true}
 use Rattle.item_spec.proofs.Tests.{and-left, and-right}
 use Rattle.model.specs.declared.Tables.{Tables}
-use Rattle.model.specs.View.{behaviorOf}
+use Rattle.model.specs.View.{behaviorIn, behaviorOf}
 use Rattle.rules_spec.specs.PushB.{depthOf}
 use Rattle.read_lines.specs.declared.Went.the-variants.{On, Stop}
 use Rattle.read_lines.specs.Runs.{RunsTo}
 use Rattle.read_lines.proofs.Runs.{stopped, went-on}
-use Rattle.start_spec.specs.Row.{headOf, behaviorsBelow}
+use Rattle.start_spec.specs.Row.{headOf}
+use Rattle.model.specs.declared.Begun.{Begun}
 use Rattle.model.specs.declared.Configuration.{Configuration}
-use Rattle.model.specs.Empty.{start}
+use Rattle.model.specs.Empty.{start, noneBegun}
+use Rattle.start_spec.specs.Text.{Outset}
 use Rattle.start_spec.specs.Served.{someUnserved}
 use Rattle.read_lines.specs.declared.Went.{Went}
 use Rattle.read_lines.specs.Runs.{refusalOf}
 use Rattle.read_lines.specs.Counts.{inRange}
 use Rattle.read_lines.proofs.Runs.{place-is}
 use Rattle.read_chain.specs.Chain.{goesOn}
-use Rattle.read_start.specs.Start.{queueRoom, shortStart, startRun, startRead, cameTo}
+use Rattle.read_start.specs.Start.{queueRoom, shortStart, shown, startRun, startRead, cameTo}
 use Rattle.read_chain.specs.Whole.{Whole}
 
 pub room-few : (default : ℕ) (t : Tables) → queueRoom default t ≤ 8
@@ -46,16 +48,12 @@ pub start-fits : (s : List ℕ) → length s ≤ 8192 → RunsTo s On 0 tt (shor
 unfolding shortStart
 start-fits s l = went-on zero-le (rw (le-leb (length s) 8192 l, shortStart))
 
-pub head-slot : (t : Tables) (k n : ℕ) (slots : List ℕ) → n ≢ 0 → length slots ≢ 0 → behaviorOf t k (getD slots 0 0) ≡ headOf t k (take n slots)
+pub head-slot : (t : Tables) (k n : ℕ) (slots : List ℕ) → n ≢ 0 → length slots ≢ 0 → behaviorOf t k (behaviorIn (getD slots 0 0)) ≡ headOf t k (take n slots)
 head-slot t k n [] z e = absurd (e refl)
 head-slot t k zero (a ∷ l) z e = absurd (z refl)
 head-slot t k (suc n) (a ∷ l) z e = refl
 
 -- ---- the queue in its slots
--- those from r on, of the first n
-pub below-rest : (b n r : ℕ) (slots : List ℕ) → Bool
-below-rest b n r slots = behaviorsBelow b (drop r (take n slots))
-
 pub drop-get : (l : List ℕ) (r : ℕ) → r < length l → drop r l ≡ getD l r 0 ∷ drop (suc r) l
 drop-get [] r h = absurd (omega arith)
 drop-get (a ∷ l) zero h = refl
@@ -74,21 +72,6 @@ no-slots t k zero [] e = refl
 no-slots t k (suc n) [] e = refl
 no-slots t k n (a ∷ l) e = absurd (omega arith)
 
-module _ (b n : ℕ) (slots : List ℕ) where
-  pub rest-start : below-rest b n 0 slots ≡ behaviorsBelow b (take n slots)
-  unfolding below-rest
-  rest-start = refl
-
-  pub rest-turn : (r : ℕ) → r < length slots → r < n → below-rest b n r slots ≡ (ltb (getD slots r 0) b && below-rest b n (r + 1) slots)
-  unfolding below-rest behaviorsBelow
-  rest-turn r h l = rw (drop-get (take n slots) r (omega (arith, length-take n slots)), get-take slots n r l, add-one r)
-
-  pub rest-over : (r : ℕ) → (ltb r (length slots) && ltb r n) ≡ false → below-rest b n r slots ≡ true
-  unfolding below-rest behaviorsBelow
-  rest-over r h =
-      rw (drop-of-length-le (take n slots) {i = r}
-      (by-cases (decLt r (length slots)) (λ a. by-cases (decLt r n) (λ b. absurd (true≢false (rw (lt-ltb r (length slots) a, lt-ltb r n b) at h))) (λ b. omega (arith, length-take n slots))) (λ a. omega (arith, length-take n slots))))
-
 -- what a turn's test says
 pub both-below : (r m n : ℕ) → (ltb r m && ltb r n) ≡ true → (r < m) × (r < n)
 both-below r m n e = (ltb-true r m (and-left (ltb r m) (ltb r n) e), ltb-true r n (and-right (ltb r m) (ltb r n) e))
@@ -98,26 +81,26 @@ pub none-least : (b : ℕ) → inRange 0 b ≡ (λ a. leb a b)
 none-least b = fun-ext (λ a. rw (leb·zero a))
 
 -- ---- what the lines came to
-module _ (d : ℕ) (t : Tables) (s : List ℕ) where
-  abbrev fifty : Bool → Configuration → List ℕ → Whole Configuration
-  fifty b c r =
-      elim b [ true ↦ record { refused = 50; place = 0; value = start } | false ↦ record { refused = 0; place = length s - length r; value = c } ]
+module _ (e d : ℕ) (t : Tables) (s : List ℕ) where
+  abbrev fifty : Bool → Outset → List ℕ → Whole (Configuration × Begun)
+  fifty b x r =
+      elim b [ true ↦ record { refused = 50; place = 0; value = (start, noneBegun) } | false ↦ record { refused = 0; place = length s - length r; value = shown x } ]
 
-  pub start-stopped : (w : Went) {at : ℕ} {c : Configuration} → RunsTo s w at c (startRun d t s) → goesOn w ≡ false
-      → record { refused = refusalOf w; place = at; value = start } ≡ startRead d t s
+  pub start-stopped : (w : Went) {at : ℕ} {x : Outset} → RunsTo s w at x (startRun e d t s) → goesOn w ≡ false
+      → record { refused = refusalOf w; place = at; value = (start, noneBegun) } ≡ startRead e d t s
   unfolding startRead
-  start-stopped On h e = absurd (true≢false e)
-  start-stopped (Stop k) {at} h e = rw (sym (h .same), place-is s at (h .within))
+  start-stopped On h g = absurd (true≢false g)
+  start-stopped (Stop k) {at} h g = rw (sym (h .same), place-is s at (h .within))
 
-  pub start-fifty : (w : Went) {at : ℕ} {c : Configuration} → RunsTo s w at c (startRun d t s) → goesOn w ≡ true → someUnserved t c ≡ true
-      → record { refused = 50; place = 0; value = start } ≡ startRead d t s
+  pub start-fifty : (w : Went) {at : ℕ} {x : Outset} → RunsTo s w at x (startRun e d t s) → goesOn w ≡ true → someUnserved t (x .0) ≡ true
+      → record { refused = 50; place = 0; value = (start, noneBegun) } ≡ startRead e d t s
   unfolding startRead
-  start-fifty On {at} {c} h e u = sym (ap (λ (b : Bool). fifty b c (drop at s)) u) ∙ ap (cameTo t s) (h .same)
-  start-fifty (Stop k) h e u = absurd (true≢false (sym e))
+  start-fifty On {at} {x} h g u = sym (ap (λ (b : Bool). fifty b x (drop at s)) u) ∙ ap (cameTo t s) (h .same)
+  start-fifty (Stop k) h g u = absurd (true≢false (sym g))
 
-  pub start-served : (w : Went) {at : ℕ} {c : Configuration} → RunsTo s w at c (startRun d t s) → goesOn w ≡ true → someUnserved t c ≡ false
-      → record { refused = refusalOf w; place = at; value = c } ≡ startRead d t s
+  pub start-served : (w : Went) {at : ℕ} {x : Outset} → RunsTo s w at x (startRun e d t s) → goesOn w ≡ true → someUnserved t (x .0) ≡ false
+      → record { refused = refusalOf w; place = at; value = shown x } ≡ startRead e d t s
   unfolding startRead
-  start-served On {at} {c} h e u =
-      ap (λ (n : ℕ). record { refused = 0; place = n; value = c }) (sym (place-is s at (h .within))) ∙ sym (ap (λ (b : Bool). fifty b c (drop at s)) u) ∙ ap (cameTo t s) (h .same)
-  start-served (Stop k) h e u = absurd (true≢false (sym e))
+  start-served On {at} {x} h g u =
+      ap (λ (n : ℕ). record { refused = 0; place = n; value = shown x }) (sym (place-is s at (h .within))) ∙ sym (ap (λ (b : Bool). fifty b x (drop at s)) u) ∙ ap (cameTo t s) (h .same)
+  start-served (Stop k) h g u = absurd (true≢false (sym g))

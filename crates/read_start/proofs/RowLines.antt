@@ -15,17 +15,18 @@ use borrow.Author.Tests.{lt-ltb, leb-true}
 use Rattle.item_spec.specs.Refusal.{beyondLimit, badClause}
 use Rattle.item_spec.specs.Reader.{Reply, Reader, got, refused, readOn, bytes, byte, _>>=_, _>>_, give, check}
 use Rattle.item_spec.specs.Read.{key, number, list}
-use Rattle.item_spec.specs.Items.{items}
 use Rattle.item_spec.proofs.Tests.{and-left, and-right}
 use Rattle.model.specs.declared.Tables.{Tables}
 use Rattle.model.specs.declared.Instance.{Instance}
 use Rattle.model.specs.declared.Configuration.{Configuration}
 use Rattle.model.specs.Empty.{absent}
-use Rattle.model.specs.View.{typeOf, instance, put, withQueue}
-use Rattle.read_spec.specs.Limits.{fiveDigits, listOk, idOk, typeOk}
+use Rattle.model.specs.View.{typeOf, pairOf, listOf, instance, put, withQueue}
+use Rattle.model.proofs.View.{list-at, length-list}
+use Rattle.read_spec.specs.Limits.{fiveDigits, hasTickets, listOk, idOk, typeOk}
 use Rattle.read_items.specs.Reads.{past, fault, refusal, Reads}
-use Rattle.read_items.specs.Items.{ItemsRead, none, some}
-use Rattle.read_items.specs.declared.items.Items.the-variants as queue
+use Rattle.read_start.specs.Items.{queueBy, pairsIn, queueIn, noItem, Slotted, PairedUp, QueueRead, unread, read}
+use Rattle.read_start.specs.declared.items.Queue.the-variants as queue
+use Rattle.words.specs.Parts.{inWord}
 use Rattle.read_items.proofs.Limits.{form-fault, form-then}
 use Rattle.read_items.proofs.Within.{in-turn}
 use Rattle.rules_spec.specs.Add.{fresh, added}
@@ -38,12 +39,12 @@ use Rattle.read_lines.proofs.Lines.{part, rest-is}
 use Rattle.read_chain.proofs.Laws.{put-line, put-refused}
 use Rattle.start_spec.specs.Text.{SoFar, instanceAt}
 use Rattle.start_spec.specs.Row as starts
-use Rattle.start_spec.specs.Row.{behaviorsBelow, rowOk, heldOk, instanceLine, pushedAll, withRow}
+use Rattle.start_spec.specs.Row.{slotsOf, stampOk, itemsOk, ticketsOk, rowOk, heldOk, instanceLine, pushedAll, withRow}
 use Rattle.read_start.specs.declared.rows.Lists.{Lists}
 use Rattle.read_start.specs.declared.rows.Row.{Row}
 use Rattle.read_start.specs.declared.rows.RowLine.{RowLine}
 use Rattle.read_start.specs.declared.rows.RowLine.the-variants as line
-use Rattle.read_start.specs.Says.{listed, threeForm, rowForm, queueIn, rowPasses, rowIn, rowSays, rowNumber}
+use Rattle.read_start.specs.Says.{listed, threeForm, rowForm, rowPasses, rowIn, rowSays, rowNumber}
 use Rattle.read_start.proofs.Laws.{drop-get, get-take}
 
 -- ---- the line in three parts
@@ -54,21 +55,31 @@ rests a b x = do
   check b badClause
   give x
 
--- what follows the form w, by its queue q
-abbrev rowWith : Row → List ℕ → starts.Row
-rowWith w q =
-    record { id = w .id; kind = w .kind; marked = w .lists .marked .mask; running = w .lists .running .mask; ended = w .lists .ended .mask; queue = q }
+-- what follows the form w, by its queue q and its last ticket l
+abbrev rowWith : Row → List (ℕ × ℕ) → ℕ → starts.Row
+rowWith w q l = record {
+  id = w .id;
+  kind = w .kind;
+  marked = w .lists .marked .mask;
+  running = w .lists .running .mask;
+  ended = w .lists .ended .mask;
+  queue = slotsOf q;
+  last = l;
+}
 
-abbrev okWith : ℕ → Tables → Row → List ℕ → Bool
-okWith d t w q = rowOk d t (w .id) (w .kind) (w .lists .marked .top) (w .lists .running .top) (w .lists .ended .top) q
+abbrev okWith : ℕ → Tables → Row → List (ℕ × ℕ) → ℕ → Bool
+okWith d t w q l = rowOk d t (w .id) (w .kind) (w .lists .marked .top) (w .lists .running .top) (w .lists .ended .top) q l
 
-abbrev heldWith : Tables → ℕ → Row → List ℕ → Bool
-heldWith t m w q = heldOk t m (w .id) (w .kind) (w .lists .running .mask) (w .lists .ended .mask) q
+abbrev heldWith : ℕ → Tables → ℕ → Row → List ℕ → ℕ → Bool
+heldWith e t m w q l = heldOk t m (w .id) (w .kind) (w .lists .running .mask) (w .lists .ended .mask) q && ticketsOk e q l
 
-abbrev rowRest : ℕ → Tables → ℕ → Row → Reader starts.Row
-rowRest d t m w = do
-  q ← items (number fiveDigits) (byte "\n")
-  rests (okWith d t w q) (heldWith t m w q) (rowWith w q)
+abbrev restWith : ℕ → ℕ → Tables → ℕ → Row → List (ℕ × ℕ) × ℕ → Reader starts.Row
+restWith e d t m w x = rests (okWith d t w (x .0) (x .1)) (heldWith e t m w (slotsOf (x .0)) (x .1)) (rowWith w (x .0) (x .1))
+
+abbrev rowRest : ℕ → ℕ → Tables → ℕ → Row → Reader starts.Row
+rowRest e d t m w = do
+  x ← queueBy (hasTickets e)
+  restWith e d t m w x
 
 three-in : {B : Type 0} (g : Lists → Reader B) (s : List ℕ)
     → readOn (list fiveDigits (byte ",") s) (λ a r. readOn (list fiveDigits (byte ",") r) (λ x q. readOn (list fiveDigits (byte ",") q)
@@ -77,93 +88,144 @@ unfolding threeForm
 three-in g s =
     in-turn (list fiveDigits (byte ",") s) _ _ _ (λ a r. in-turn (list fiveDigits (byte ",") r) _ _ _ (λ x q. in-turn (list fiveDigits (byte ",") q) _ _ _ (λ y p. refl)))
 
-instance-is : (d : ℕ) (t : Tables) (m : ℕ) (s : List ℕ) → instanceLine d t m s ≡ readOn (rowForm s) (rowRest d t m)
+instance-is : (e d : ℕ) (t : Tables) (m : ℕ) (s : List ℕ) → instanceLine e d t m s ≡ readOn (rowForm s) (rowRest e d t m)
 unfolding instanceLine rowForm
-instance-is d t m s =
+instance-is e d t m s =
     in-turn (key (bytes "instance=") s) _ _ _ (λ u r.
     in-turn (number fiveDigits (byte ",") r) _ _ _ (λ i q.
     in-turn (number fiveDigits (byte ",") q) _ _ _ (λ k p.
-    three-in (λ l. rowRest d t m (record { id = i; kind = k; lists = l })) p ∙ in-turn (threeForm p) _ _ _ (λ l o. refl))))
+    three-in (λ l. rowRest e d t m (record { id = i; kind = k; lists = l })) p ∙ in-turn (threeForm p) _ _ _ (λ l o. refl))))
 
 -- ---- the tests
-order-tests : (a b c x y f g h : Bool) → (f ≡ true → g ≡ h) → ((a && b) && ((c && (x && y)) && (f && g))) ≡ (a && (b && (c && (x && (y && (h && f))))))
-order-tests false b c x y f g h e = refl
-order-tests true false c x y f g h e = refl
-order-tests true true false x y f g h e = refl
-order-tests true true true false y f g h e = refl
-order-tests true true true true false f g h e = refl
-order-tests true true true true true true g true e = e refl
-order-tests true true true true true true g false e = e refl
-order-tests true true true true true false g true e = refl
-order-tests true true true true true false g false e = refl
+order-tests : (a b c x y f g h k : Bool) → (f ≡ true → g ≡ h) → ((a && b) && ((c && (x && y)) && (f && (g && k)))) ≡ (a && (b && (c && (x && (y && (h && (k && f)))))))
+order-tests false b c x y f g h k e = refl
+order-tests true false c x y f g h k e = refl
+order-tests true true false x y f g h k e = refl
+order-tests true true true false y f g h k e = refl
+order-tests true true true true false f g h k e = refl
+order-tests true true true true true true g true true e = ap (λ (b : Bool). b && true) (e refl)
+order-tests true true true true true true g true false e = ap (λ (b : Bool). b && false) (e refl)
+order-tests true true true true true true g false k e = ap (λ (b : Bool). b && k) (e refl)
+order-tests true true true true true false g true true e = refl
+order-tests true true true true true false g true false e = refl
+order-tests true true true true true false g false k e = refl
 
-module _ (slots l : List ℕ) (n : ℕ) (eight : length slots ≡ 8) (count : n ≡ length l) (same : (r : ℕ) → r < 8 → getD slots r 0 ≡ getD l r 0) where
-  take-is : n ≤ 8 → take n slots ≡ l
-  take-is h =
-      ext-getD 0 (take n slots) l (omega (arith, length-take n slots, eight, count))
-      (λ r k. get-take slots n r (omega (arith, length-take n slots, k)) ∙ same r (omega (arith, length-take n slots, k, h)))
+slots-length : (l : List (ℕ × ℕ)) → length (slotsOf l) ≡ length l
+unfolding slotsOf
+slots-length [] = refl
+slots-length (x ∷ l) = ap suc (slots-length l)
 
-  passes-same : (d : ℕ) (t : Tables) (w : Row) → d ≤ 8 → rowPasses d t w slots n ≡ okWith d t w l
+slots-at : (l : List (ℕ × ℕ)) (r : ℕ) → r < length l → getD (slotsOf l) r 0 ≡ pairOf (getD l r noItem .0) (getD l r noItem .1)
+unfolding slotsOf
+slots-at [] r h = absurd (omega arith)
+slots-at (x ∷ l) zero h = refl
+slots-at (x ∷ l) (suc r) h = slots-at l r (omega arith)
+
+stamps-few : (n : ℕ) (l : List (ℕ × ℕ)) → itemsOk n l ≡ true → (r : ℕ) → r < length l → getD l r noItem .1 ≤ 256
+unfolding itemsOk
+stamps-few n [] e r h = absurd (omega arith)
+stamps-few n (x ∷ l) e zero h = leb-true (x .1) 256 (and-right (ltb (x .0) n) _ (and-left (ltb (x .0) n && stampOk (x .1)) _ e))
+stamps-few n (x ∷ l) e (suc r) h = stamps-few n l (and-right (ltb (x .0) n && stampOk (x .1)) _ e) r (omega arith)
+
+module _ (slots : List ℕ) (l : List (ℕ × ℕ)) (n : ℕ) (count : n ≡ length l) (in-slots : Slotted slots l) where
+  pairs-are : n ≤ 8 → pairsIn slots (min n 8) ≡ l
+  pairs-are h =
+      let few : min n 8 ≡ n = omega arith in
+      let f : ℕ → ℕ × ℕ = λ x. (getD slots x 0, getD slots (8 + x) 0) in
+      let long : length (listOf n f) ≡ n = length-list n f in
+      rw few (ext-getD noItem (listOf n f) l (long ∙ count) (λ r k. list-at n f noItem r (omega (arith, long, k)) ∙ pair r (omega (arith, long, k, h))))
+    where
+      pair : (r : ℕ) → r < 8 → (getD slots r 0, getD slots (8 + r) 0) ≡ getD l r noItem
+      pair r k i = (in-slots .behaviors r k i, in-slots .stamps r k i)
+
+  passes-same : (d : ℕ) (t : Tables) (w : Row) (last : ℕ) → d ≤ 8 → rowPasses d t w slots n last ≡ okWith d t w l last
   unfolding rowPasses
-  passes-same d t w deep =
+  passes-same d t w last deep =
       order-tests (idOk (w .id)) (typeOk (t .count) (w .kind)) (listOk (typeOf t (w .kind) .places) (w .lists .marked .top))
       (listOk (typeOf t (w .kind) .transitions) (w .lists .running .top)) (listOk (typeOf t (w .kind) .transitions) (w .lists .ended .top))
-      (leb n d) (behaviorsBelow (typeOf t (w .kind) .behaviors) (take n slots)) (behaviorsBelow (typeOf t (w .kind) .behaviors) l)
-      (λ e. ap (behaviorsBelow (typeOf t (w .kind) .behaviors)) (take-is (omega (arith, leb-true n d e, deep))))
+      (leb n d) (itemsOk (typeOf t (w .kind) .behaviors) (pairsIn slots (min n 8))) (itemsOk (typeOf t (w .kind) .behaviors) l) (stampOk last)
+      (λ e. ap (itemsOk (typeOf t (w .kind) .behaviors)) (pairs-are (omega (arith, leb-true n d e, deep))))
       ∙ ap (λ (k : ℕ). idOk (w .id) && (typeOk (t .count) (w .kind) && (listOk (typeOf t (w .kind) .places) (w .lists .marked .top)
       && (listOk (typeOf t (w .kind) .transitions) (w .lists .running .top) && (listOk (typeOf t (w .kind) .transitions) (w .lists .ended .top)
-      && (behaviorsBelow (typeOf t (w .kind) .behaviors) l && leb k d)))))) count
+      && (itemsOk (typeOf t (w .kind) .behaviors) l && (stampOk last && leb k d))))))) count
 
-pub row-short : (d : ℕ) (t : Tables) (w : Row) (slots : List ℕ) (n : ℕ) → rowPasses d t w slots n ≡ true → n ≤ d
+  -- what stands in the slots after they are paired is the queue
+  queue-is : (new : List ℕ) → PairedUp slots new → n ≤ 8 → (b : ℕ) → itemsOk b l ≡ true → queueIn new n ≡ slotsOf l
+  queue-is new up h b ok =
+      ext-getD 0 (take n new) (slotsOf l) (omega (arith, length-take n new, up .width, in-slots .width, slots-length l, count))
+      (λ r k. let few : r < n = omega (arith, length-take n new, k) in get-take new n r few ∙ up .words r (omega arith) ∙ word r few ∙ sym (slots-at l r (omega (arith, count))))
+    where
+      word : (r : ℕ) → r < n → inWord (pairOf (getD slots r 0) (getD slots (8 + r) 0)) ≡ pairOf (getD l r noItem .0) (getD l r noItem .1)
+      word r k =
+          rw (
+            in-slots .behaviors r (omega arith),
+            in-slots .stamps r (omega arith),
+            lt-ltb (pairOf (getD l r noItem .0) (getD l r noItem .1)) 4294967296 (omega (arith, in-slots .small r, stamps-few b l ok r (omega (arith, count)))),
+          ) refl
+
+pub row-short : (d : ℕ) (t : Tables) (w : Row) (slots : List ℕ) (n last : ℕ) → rowPasses d t w slots n last ≡ true → n ≤ d
 unfolding rowPasses
-row-short d t w slots n e = leb-true n d (and-left (leb n d) _ (and-right (listOk (typeOf t (w .kind) .places) (w .lists .marked .top)
+row-short d t w slots n last e = leb-true n d (and-left (leb n d) _ (and-right (listOk (typeOf t (w .kind) .places) (w .lists .marked .top)
     && (listOk (typeOf t (w .kind) .transitions) (w .lists .running .top) && listOk (typeOf t (w .kind) .transitions) (w .lists .ended .top))) _ (and-right (idOk (w .id) && typeOk (t .count) (w .kind)) _ e)))
 
+-- its items are those that its type has
+ok-items : (d : ℕ) (t : Tables) (w : Row) (q : List (ℕ × ℕ)) (l : ℕ) → okWith d t w q l ≡ true → itemsOk (typeOf t (w .kind) .behaviors) q ≡ true
+ok-items d t w q l e =
+    and-left (itemsOk (typeOf t (w .kind) .behaviors) q) _ (and-right (listOk (typeOf t (w .kind) .transitions) (w .lists .ended .top)) _
+    (and-right (listOk (typeOf t (w .kind) .transitions) (w .lists .running .top)) _ (and-right (listOk (typeOf t (w .kind) .places) (w .lists .marked .top)) _
+    (and-right (typeOk (t .count) (w .kind)) _ (and-right (idOk (w .id)) _ e)))))
+
 -- ---- the line
-pub form-faulty : (d : ℕ) (t : Tables) (m : ℕ) (s : List ℕ) → Reads s (fault 2) (rowForm s) → Reads s (fault 2) (instanceLine d t m s)
-form-faulty d t m s h = rw (instance-is d t m s) (form-fault _ (rowRest d t m) h)
+pub form-faulty : (e d : ℕ) (t : Tables) (m : ℕ) (s : List ℕ) → Reads s (fault 2) (rowForm s) → Reads s (fault 2) (instanceLine e d t m s)
+form-faulty e d t m s h = rw (instance-is e d t m s) (form-fault _ (rowRest e d t m) h)
 
-pub next-within : (s slots : List ℕ) {m : Reply (List ℕ)} {n at : ℕ} → ItemsRead s slots m (queue.Got n at) → at ≤ length s
-next-within s slots (some l w e c f) = w
+pub next-within : (s slots : List ℕ) {m : Reply (List (ℕ × ℕ) × ℕ)} {n last at : ℕ} → QueueRead s slots m (queue.Got n last at) → at ≤ length s
+next-within s slots (read l w e c f) = w
 
-module _ (d : ℕ) (t : Tables) (m : ℕ) (s : List ℕ) (w : Row) (i : ℕ) (h : Reads s (past w i) (rowForm s)) where
-  pub queue-faulty : {slots : List ℕ} → ItemsRead s slots (items (number fiveDigits) (byte "\n") (drop i s)) queue.Fault → Reads s (fault 2) (instanceLine d t m s)
-  queue-faulty (none e z) =
-      rw (instance-is d t m s) (form-then _ (rowRest d t m) h (record { within = zero-le; same = sym (ap (λ (x : Reply (List ℕ)). readOn x (λ q. rests (okWith d t w q) (heldWith t m w q) (rowWith w q))) e) }))
+pub slots-wide : (s slots : List ℕ) {m : Reply (List (ℕ × ℕ) × ℕ)} {n last at : ℕ} → QueueRead s slots m (queue.Got n last at) → length slots ≡ 16
+slots-wide s slots (read l w e c f) = f .width
 
-  module _ (slots : List ℕ) (n at : ℕ) (deep : d ≤ 8) (eight : length slots ≡ 8) where
-    pub row-beyond : ItemsRead s slots (items (number fiveDigits) (byte "\n") (drop i s)) (queue.Got n at) → rowPasses d t w slots n ≡ false → Reads s (fault 3) (instanceLine d t m s)
-    row-beyond (some l k e c f) p =
-        rw (instance-is d t m s) (form-then _ (rowRest d t m) h (record {
+module _ (ed d : ℕ) (t : Tables) (m : ℕ) (s : List ℕ) (w : Row) (i : ℕ) (h : Reads s (past w i) (rowForm s)) where
+  pub queue-faulty : {slots : List ℕ} → QueueRead s slots (queueBy (hasTickets ed) (drop i s)) queue.Fault → Reads s (fault 2) (instanceLine ed d t m s)
+  queue-faulty (unread e) =
+      rw (instance-is ed d t m s) (form-then _ (rowRest ed d t m) h (record { within = zero-le; same = sym (ap (λ (x : Reply (List (ℕ × ℕ) × ℕ)). readOn x (restWith ed d t m w)) e) }))
+
+  module _ (slots : List ℕ) (n last at : ℕ) (deep : d ≤ 8) where
+    pub row-beyond : QueueRead s slots (queueBy (hasTickets ed) (drop i s)) (queue.Got n last at) → rowPasses d t w slots n last ≡ false → Reads s (fault 3) (instanceLine ed d t m s)
+    row-beyond (read l k e c f) p =
+        rw (instance-is ed d t m s) (form-then _ (rowRest ed d t m) h (record {
           within = zero-le;
-          same = sym (ap (λ (x : Reply (List ℕ)). readOn x (λ q. rests (okWith d t w q) (heldWith t m w q) (rowWith w q))) e
-              ∙ ap (λ (b : Bool). rests b (heldWith t m w l) (rowWith w l) (drop at s)) (sym (passes-same slots l n eight c f d t w deep) ∙ p));
+          same = sym (ap (λ (x : Reply (List (ℕ × ℕ) × ℕ)). readOn x (restWith ed d t m w)) e
+              ∙ ap (λ (b : Bool). rests b (heldWith ed t m w (slotsOf l) last) (rowWith w l last) (drop at s)) (sym (passes-same slots l n c f d t w last deep) ∙ p));
         }))
 
-    pub row-clause : ItemsRead s slots (items (number fiveDigits) (byte "\n") (drop i s)) (queue.Got n at) → rowPasses d t w slots n ≡ true → heldWith t m w (queueIn slots n) ≡ false
-        → Reads s (fault 4) (instanceLine d t m s)
-    row-clause (some l k e c f) p z =
-        let short = row-short d t w slots n p in
-        let here = take-is slots l n eight c f (omega (arith, short, deep)) in
-        rw (instance-is d t m s) (form-then _ (rowRest d t m) h (record {
-          within = zero-le;
-          same = sym (ap (λ (x : Reply (List ℕ)). readOn x (λ q. rests (okWith d t w q) (heldWith t m w q) (rowWith w q))) e
-              ∙ ap (λ (b : Bool). rests b (heldWith t m w l) (rowWith w l) (drop at s)) (sym (passes-same slots l n eight c f d t w deep) ∙ p)
-              ∙ ap (λ (b : Bool). rests true b (rowWith w l) (drop at s)) (sym (ap (heldWith t m w) here) ∙ z));
-        }))
+    module _ (new : List ℕ) (up : PairedUp slots new) where
+      pub row-clause : QueueRead s slots (queueBy (hasTickets ed) (drop i s)) (queue.Got n last at) → rowPasses d t w slots n last ≡ true → heldWith ed t m w (queueIn new n) last ≡ false
+          → Reads s (fault 4) (instanceLine ed d t m s)
+      row-clause (read l k e c f) p z =
+          let short = row-short d t w slots n last p in
+          let ok = sym (passes-same slots l n c f d t w last deep) ∙ p in
+          let here = queue-is slots l n c f new up (omega (arith, short, deep)) _ (ok-items d t w l last ok) in
+          rw (instance-is ed d t m s) (form-then _ (rowRest ed d t m) h (record {
+            within = zero-le;
+            same = sym (ap (λ (x : Reply (List (ℕ × ℕ) × ℕ)). readOn x (restWith ed d t m w)) e
+                ∙ ap (λ (b : Bool). rests b (heldWith ed t m w (slotsOf l) last) (rowWith w l last) (drop at s)) ok
+                ∙ ap (λ (b : Bool). rests true b (rowWith w l last) (drop at s)) (sym (ap (λ (q : List ℕ). heldWith ed t m w q last) here) ∙ z));
+          }))
 
-    pub row-got : ItemsRead s slots (items (number fiveDigits) (byte "\n") (drop i s)) (queue.Got n at) → rowPasses d t w slots n ≡ true → heldWith t m w (queueIn slots n) ≡ true
-        → Reads s (past (rowIn w slots n) at) (instanceLine d t m s)
-    row-got (some l k e c f) p z =
-        let short = row-short d t w slots n p in
-        let here = take-is slots l n eight c f (omega (arith, short, deep)) in
-        rw (instance-is d t m s) (form-then _ (rowRest d t m) h (record {
-          within = k;
-          same = sym (ap (λ (x : Reply (List ℕ)). readOn x (λ q. rests (okWith d t w q) (heldWith t m w q) (rowWith w q))) e
-              ∙ ap (λ (b : Bool). rests b (heldWith t m w l) (rowWith w l) (drop at s)) (sym (passes-same slots l n eight c f d t w deep) ∙ p)
-              ∙ ap (λ (b : Bool). rests true b (rowWith w l) (drop at s)) (sym (ap (heldWith t m w) here) ∙ z)
-              ∙ ap (λ (q : List ℕ). got (rowWith w q) (drop at s)) (sym here));
-        }))
+      pub row-got : QueueRead s slots (queueBy (hasTickets ed) (drop i s)) (queue.Got n last at) → rowPasses d t w slots n last ≡ true → heldWith ed t m w (queueIn new n) last ≡ true
+          → Reads s (past (rowIn w new n last) at) (instanceLine ed d t m s)
+      row-got (read l k e c f) p z =
+          let short = row-short d t w slots n last p in
+          let ok = sym (passes-same slots l n c f d t w last deep) ∙ p in
+          let here = queue-is slots l n c f new up (omega (arith, short, deep)) _ (ok-items d t w l last ok) in
+          rw (instance-is ed d t m s) (form-then _ (rowRest ed d t m) h (record {
+            within = k;
+            same = sym (ap (λ (x : Reply (List (ℕ × ℕ) × ℕ)). readOn x (restWith ed d t m w)) e
+                ∙ ap (λ (b : Bool). rests b (heldWith ed t m w (slotsOf l) last) (rowWith w l last) (drop at s)) ok
+                ∙ ap (λ (b : Bool). rests true b (rowWith w l last) (drop at s)) (sym (ap (λ (q : List ℕ). heldWith ed t m w q last) here) ∙ z)
+                ∙ ap (λ (q : List ℕ). got (record { id = w .id; kind = w .kind; marked = w .lists .marked .mask; running = w .lists .running .mask; ended = w .lists .ended .mask; queue = q; last = last }) (drop at s)) (sym here));
+          }))
 
 -- ---- a queue pushed slot by slot
 queued-put : (c : Configuration) (i : ℕ) (v : Instance) → instance (put c i v) i .queued ≤ v .queued
@@ -204,18 +266,21 @@ pushed-more c i b r h =
 -- ---- the line read at a part of the text, and its row put
 number-is : (r : RowLine) (slots : List ℕ) → rowNumber r ≡ refusal (rowSays r slots)
 unfolding rowSays
-number-is (line.Got w n at) slots = refl
+number-is (line.Got w n last at) slots = refl
 number-is (line.Refused k) slots = refl
 
-module _ (d : ℕ) (t : Tables) (m : ℕ) (c : Configuration) (s : List ℕ) (start at : ℕ) (e : at ≡ min start (length s)) (slots : List ℕ) {r : RowLine}
-    (o : Reads (part s at) (rowSays r slots) (instanceLine d t m (part s at))) where
-  pub row-put : {w : Row} {n used : ℕ} → r ≡ line.Got w n used → (j : ℕ) → RunsTo s On (at + used) (withRow t c (rowIn w slots n), suc (w .id)) (instanceAt d t j (c, m) (drop start s))
+module _ (ed d : ℕ) (t : Tables) (m : ℕ) (c : Configuration) (lasts : List ℕ) (s : List ℕ) (start at : ℕ) (e : at ≡ min start (length s)) (slots : List ℕ) {r : RowLine}
+    (o : Reads (part s at) (rowSays r slots) (instanceLine ed d t m (part s at))) where
+  pub row-put : {w : Row} {n last used : ℕ} → r ≡ line.Got w n last used → (j : ℕ)
+      → RunsTo s On (at + used) (withRow t c (rowIn w slots n last), suc (w .id), set lasts (w .id) last) (instanceAt ed d t j (c, m, lasts) (drop start s))
   unfolding instanceAt rowSays
-  row-put {w} {n} {used} q j = put-line (λ x. rowSays x slots) (instanceLine d t m) (λ x. (withRow t c x, suc (x .id))) s start at e (line.Got w n used) o q refl
+  row-put {w} {n} {last} {used} q j =
+      put-line (λ x. rowSays x slots) (instanceLine ed d t m) (λ x. (withRow t c x, suc (x .id), set lasts (x .id) (x .last))) s start at e (line.Got w n last used) o q refl
 
-  pub row-stop : {k y : ℕ} {b : SoFar} → r ≡ line.Refused k → y ≡ rowNumber r → (j : ℕ) → RunsTo s (Stop y) at b (instanceAt d t j (c, m) (drop start s))
+  pub row-stop : {k y : ℕ} {b : SoFar} → r ≡ line.Refused k → y ≡ rowNumber r → (j : ℕ) → RunsTo s (Stop y) at b (instanceAt ed d t j (c, m, lasts) (drop start s))
   unfolding instanceAt rowSays
-  row-stop {k} {y} {b} q p j = put-refused (λ x. rowSays x slots) (instanceLine d t m) (λ x. (withRow t c x, suc (x .id))) s start at e (line.Refused k) o q refl (p ∙ number-is r slots)
+  row-stop {k} {y} {b} q p j =
+      put-refused (λ x. rowSays x slots) (instanceLine ed d t m) (λ x. (withRow t c x, suc (x .id), set lasts (x .id) (x .last))) s start at e (line.Refused k) o q refl (p ∙ number-is r slots)
 
 pub next-fits : (s : List ℕ) (start at : ℕ) → at ≡ min start (length s) → {used : ℕ} → used ≤ length (part s at) → at + used ≤ length s
 next-fits s start at e {used} h = omega (arith, e, rw (rest-is at s, length-drop at s) at h)

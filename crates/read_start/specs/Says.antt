@@ -1,10 +1,10 @@
 -- What the cases of a start's lines say: the row or the connection and the bytes used, or 01's number.
-use Prim.Native.Nat.{ℕ, _<_, _≤_}
+use Prim.Native.Nat.{ℕ, _<_, _≤_, min}
 use mathlib.Core.List.{List}
 use mathlib.Core.Path.{_≡_}
 use mathlib.Core.Bool.{Bool, not, cond, _&&_, _||_}
 use lib.Dec.{leb, ltb}
-use lib.ListN.{take, length}
+use lib.ListN.{length}
 use Rattle.item_spec.specs.Refusal.{badForm, beyondLimit, badClause}
 use Rattle.item_spec.specs.Reader.{Reader, bytes, byte, _>>=_, _>>_, give}
 use Rattle.item_spec.specs.Read.{key, number, list, Set}
@@ -14,12 +14,13 @@ use Rattle.model.specs.declared.Configuration.{Configuration}
 use Rattle.model.specs.View.{typeOf, instance}
 use Rattle.read_spec.specs.Limits.{fiveDigits, listOk, idOk, typeOk}
 use Rattle.start_spec.specs.Row as starts
-use Rattle.start_spec.specs.Row.{behaviorsBelow, joinsOk}
+use Rattle.start_spec.specs.Row.{itemsOk, stampOk, joinsOk}
 use Rattle.rules_spec.specs.Instance.{portsOf}
 use Rattle.read_items.specs.Reads.{Outcome, past, fault}
 use Rattle.read_items.specs.declared.numbers.Four.{Four}
 use Rattle.read_items.specs.declared.numbers.Numbers.{Numbers}
 use Rattle.read_items.specs.declared.numbers.Numbers.the-variants as numbers
+use Rattle.read_start.specs.Items.{pairsIn, queueIn}
 use Rattle.read_start.specs.declared.rows.Lists.{Lists}
 use Rattle.read_start.specs.declared.rows.Row.{Row}
 use Rattle.read_start.specs.declared.rows.Listed.{Listed}
@@ -58,34 +59,37 @@ abbrev pub formSays : RowForm → Outcome Row
 formSays (form.Got w n) = past w n
 formSays form.Fault = fault badForm
 
--- the behaviors of a queue of at most eight
-abbrev pub queueIn : List ℕ → ℕ → List ℕ
-queueIn slots n = take n slots
-
 -- 3, of a queue of any length
-unfoldable pub rowPasses : ℕ → Tables → Row → List ℕ → ℕ → Bool
-rowPasses d t w slots n =
+unfoldable pub rowPasses : ℕ → Tables → Row → List ℕ → ℕ → ℕ → Bool
+rowPasses d t w slots n last =
     (idOk (w .id) && typeOk (t .count) (w .kind))
     && ((listOk (typeOf t (w .kind) .places) (w .lists .marked .top)
     && (listOk (typeOf t (w .kind) .transitions) (w .lists .running .top) && listOk (typeOf t (w .kind) .transitions) (w .lists .ended .top)))
-    && (leb n d && behaviorsBelow (typeOf t (w .kind) .behaviors) (queueIn slots n)))
+    && (leb n d && (itemsOk (typeOf t (w .kind) .behaviors) (pairsIn slots (min n 8)) && stampOk last)))
 
-abbrev pub rowIn : Row → List ℕ → ℕ → starts.Row
-rowIn w slots n =
-    record { id = w .id; kind = w .kind; marked = w .lists .marked .mask; running = w .lists .running .mask; ended = w .lists .ended .mask; queue = queueIn slots n }
+abbrev pub rowIn : Row → List ℕ → ℕ → ℕ → starts.Row
+rowIn w slots n last = record {
+  id = w .id;
+  kind = w .kind;
+  marked = w .lists .marked .mask;
+  running = w .lists .running .mask;
+  ended = w .lists .ended .mask;
+  queue = queueIn slots n;
+  last = last;
+}
 
 unfoldable pub rowSays : RowLine → List ℕ → Outcome starts.Row
-rowSays (line.Got w n at) slots = past (rowIn w slots n) at
+rowSays (line.Got w n last at) slots = past (rowIn w slots n last) at
 rowSays (line.Refused k) slots = fault k
 
 -- the number of a line's refusal, 0 where it was read
 abbrev pub rowNumber : RowLine → ℕ
-rowNumber (line.Got w n at) = 0
+rowNumber (line.Got w n last at) = 0
 rowNumber (line.Refused k) = k
 
--- a row of the text s has a queue within the depth, in eight slots
+-- a row of the text s has a queue within the depth, in its slots
 abbrev pub SmallRow : ℕ → List ℕ → List ℕ → RowLine → Type 0
-SmallRow d s slots (line.Got w n at) = (n ≤ d) × ((at ≤ length s) × (length slots ≡ 8))
+SmallRow d s slots (line.Got w n last at) = (n ≤ d) × ((at ≤ length s) × (length slots ≡ 16))
 SmallRow d s slots (line.Refused k) = Unit {0}
 
 abbrev pub joinIn : Four → Connection

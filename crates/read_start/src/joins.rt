@@ -19,6 +19,7 @@ use words::state::kind;
 use words::state::present;
 use words::tables::ports_of;
 ghost use mathlib.Core.Path.{_≡_};
+ghost use mathlib.Core.List.{List};
 ghost use Prim.Native.Nat.{ℕ};
 ghost use lib.ListN.{drop};
 ghost use Rattle.start_spec.specs.Row.{connectionLine};
@@ -105,8 +106,9 @@ pub(crate) fn read_connection(
     tables: &TableWords,
     state: &mut StateWords,
 ) -> Stood
-    ensures { λ r. ⌜ ((j : ℕ) → RunsTo (now (text .entry)) (r .read .went) (r .read .at) (stateIn (now (state .exit)), r .least)
-        (connectionAt (tablesIn (now (tables .entry))) j (stateIn (now (state .entry)), stood .least) (drop (stood .read .at) (now (text .entry))))) ⌝ }
+    ensures { λ r. ⌜ ((j : ℕ) (lasts : List ℕ) → RunsTo (now (text .entry)) (r .read .went) (r .read .at) (stateIn (now (state .exit)), r .least, lasts)
+        (connectionAt (tablesIn (now (tables .entry))) j (stateIn (now (state .entry)), stood .least, lasts)
+        (drop (stood .read .at) (now (text .entry))))) ⌝ }
 {
     let at = read_items::place_in(text, stood.read.at);
     let line = join_line(tables, state, stood.least, &text[at..]);

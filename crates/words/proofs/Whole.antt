@@ -82,11 +82,16 @@ module _ (ws vs : List ℕ) where
       counted stepIn noStep 1024 3 (omega arith) a b (ap (λ (x : Answer). x .steps) e) (ap (λ (x : Answer). x .count) e)
       (λ (x : Step). x .verb ∷ x .id ∷ x .number ∷ []) (λ k. refl) (λ k. refl)
 
-  pub program-words : length ws ≡ 1281 → length vs ≡ 1281 → programIn ws ≡ programIn vs → ws ≡ vs
+  pub program-words : length ws ≡ 1282 → length vs ≡ 1282 → programIn ws ≡ programIn vs → ws ≡ vs
   unfolding programIn listOf
   program-words a b e =
-      counted instructionIn noInstruction 256 5 (omega arith) a b (ap (λ (x : Program). x .instructions) e) (ap (λ (x : Program). x .count) e)
-      (λ (x : Instruction). x .verb ∷ x .id ∷ x .number ∷ x .provider ∷ x .provideport ∷ []) (λ k. refl) (λ k. refl)
+      whole 1282 a b
+      (λ m h. by-cases (decLt m 1280)
+      (λ l. in-records instructionIn instructionIn noInstruction 0 256 5 (ap (λ (x : Program). x .instructions) e) (omega arith)
+      (λ (x : Instruction). x .verb ∷ x .id ∷ x .number ∷ x .provider ∷ x .provideport ∷ []) (λ k. refl) (λ k. refl) m (omega arith) (omega arith))
+      (λ l. by-cases (decLt m 1281)
+      (λ k. subst Same (let s : 1280 ≡ m = omega arith in s) (ap (λ (x : Program). x .count) e))
+      (λ k. subst Same (let s : 1281 ≡ m = omega arith in s) (ap (λ (x : Program). x .edition) e))))
 
   module _ (a : length ws ≡ 2002) (b : length vs ≡ 2002) (e : tablesIn ws ≡ tablesIn vs) where
     ends : (f : ℕ) → f < 2 → column ws 0 512 2 f ≡ column vs 0 512 2 f

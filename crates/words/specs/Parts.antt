@@ -10,6 +10,7 @@ use Rattle.model.specs.declared.Transitions.{Transitions}
 use Rattle.model.specs.declared.Ports.{Ports}
 use Rattle.model.specs.declared.Tables.{Tables}
 use Rattle.model.specs.declared.Instruction.{Instruction}
+use Rattle.model.specs.declared.Begun.{Begun}
 use Rattle.model.specs.declared.Program.{Program}
 use Rattle.model.specs.declared.Step.{Step}
 use Rattle.model.specs.declared.Answer.{Answer}
@@ -20,6 +21,11 @@ use Rattle.model.specs.Empty.{noServer}
 use Rattle.model.specs.View.{portNumber, server, withQueue, withServers}
 use Rattle.read_spec.specs.Fill.{withTransition, withPort}
 use Rattle.words.specs.declared.program.InstructionWords.{InstructionWords}
+use Rattle.words.specs.declared.answer.StepWords.{StepWords}
+
+-- a word as it is, and 0 for what no word holds
+abbrev pub inWord : ℕ → ℕ
+inWord n = cond (ltb n 4294967296) n 0
 
 abbrev tables : ℕ → ℕ → List ComponentType → Transitions → List ℕ → Ports → Tables
 tables d n ks xs bs qs = record { depth = d; count = n; types = ks; transitions = xs; behaviors = bs; ports = qs }
@@ -29,7 +35,18 @@ abbrev pub withHead : Tables → ℕ → ℕ → Tables
 withHead t d n = tables d n (t .types) (t .transitions) (t .behaviors) (t .ports)
 
 abbrev pub withInstructions : Program → ℕ → Program
-withInstructions p n = record { instructions = p .instructions; count = n }
+withInstructions p n = record { edition = p .edition; begun = p .begun; instructions = p .instructions; count = n }
+
+-- the number that the sheet opens with
+abbrev pub withEdition : Program → ℕ → Program
+withEdition p e = record { edition = e; begun = p .begun; instructions = p .instructions; count = p .count }
+
+-- with another queue slot, or another last ticket of instance i
+abbrev pub withBegunSlot : Begun → ℕ → ℕ → Begun
+withBegunSlot b n x = record { queue = set (b .queue) n x; last = b .last }
+
+abbrev pub withLast : Begun → ℕ → ℕ → Begun
+withLast b i x = record { queue = b .queue; last = set (b .last) i x }
 
 abbrev pub withSteps : Answer → ℕ → Answer
 withSteps a n = record { steps = a .steps; count = n }
@@ -58,6 +75,10 @@ instructionOf a b c d e = record { verb = a; id = b; number = c; provider = d; p
 -- the instruction that these words say
 abbrev pub said : InstructionWords → Instruction
 said k = instructionOf (k .verb) (k .id) (k .number) (k .provider) (k .provideport)
+
+-- the step that these words say
+abbrev pub saidStep : StepWords → Step
+saidStep k = record { verb = k .verb; id = k .id; number = k .number }
 
 abbrev pub stepOf : ℕ → ℕ → ℕ → Step
 stepOf a b c = record { verb = a; id = b; number = c }

@@ -8,7 +8,25 @@ ghost use lib.ListN.{getD};
 ghost use Rattle.model.specs.Empty.{noStep, noAnswer};
 ghost use Rattle.read_spec.specs.Fill.{withStep};
 ghost use Rattle.words.specs.Words.{answerIn};
-ghost use Rattle.words.specs.Parts.{stepOf, withSteps};
+ghost use Rattle.words.specs.Parts.{saidStep, stepOf, withSteps};
+
+// A step by its words.
+pub struct StepWords {
+    pub verb: u32,
+    pub id: u32,
+    pub number: u32,
+}
+
+pub fn step_at(answer: &AnswerWords, n: u32) -> StepWords
+    ensures { λ r. ⌜ saidStep r ≡ getD (answerIn (now (answer .entry)) .steps) n noStep ⌝ }
+{
+    let row = n as usize;
+    StepWords {
+        verb: cell(answer, 0, 1024, 3, row, 0),
+        id: cell(answer, 0, 1024, 3, row, 1),
+        number: cell(answer, 0, 1024, 3, row, 2),
+    }
+}
 
 pub fn step_verb(answer: &AnswerWords, n: u32) -> u32
     ensures { λ r. ⌜ r ≡ getD (answerIn (now (answer .entry)) .steps) n noStep .verb ⌝ }

@@ -1,6 +1,7 @@
 // Tables, program, answer and configuration as words of lent arrays, one array for each: read and written by the names of their fields.
 // Promised: each reader answers the field of what the words say by specs/Words, and each writer changes that field alone.
 pub mod answer;
+pub mod begun;
 pub mod program;
 pub mod state;
 pub mod tables;
@@ -13,7 +14,9 @@ ghost use Rattle.words.specs.Rows.{word, rowAt, putsIn, puts, Laid, Stan
 
 pub type TableWords = [u32; 2002];
 
-pub type ProgramWords = [u32; 1281];
+pub type ProgramWords = [u32; 1282];
+
+pub type BegunWords = [u32; 288];
 
 pub type AnswerWords = [u32; 3073];
 

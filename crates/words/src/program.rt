@@ -8,7 +8,7 @@ ghost use lib.ListN.{getD};
 ghost use Rattle.model.specs.Empty.{noInstruction, noProgram};
 ghost use Rattle.read_spec.specs.Fill.{programOf, withInstruction};
 ghost use Rattle.words.specs.Words.{programIn};
-ghost use Rattle.words.specs.Parts.{instructionOf, said, withInstructions};
+ghost use Rattle.words.specs.Parts.{instructionOf, said, withInstructions, withEdition};
 
 // An instruction by its words.
 pub struct InstructionWords {
@@ -36,6 +36,13 @@ pub fn instructions(program: &ProgramWords) -> u32
     ensures { λ r. ⌜ r ≡ programIn (now (program .entry)) .count ⌝ }
 {
     program[1280]
+}
+
+// The number that the sheet opens with.
+pub fn edition(program: &ProgramWords) -> u32
+    ensures { λ r. ⌜ r ≡ programIn (now (program .entry)) .edition ⌝ }
+{
+    program[1281]
 }
 
 // Instruction n; past the last nothing changes.
@@ -66,7 +73,7 @@ pub fn put_instruction(
 pub fn clear_program(program: &mut ProgramWords)
     ensures { λ r. ⌜ programIn (now (program .exit)) ≡ noProgram ⌝ }
 {
-    *program = [0u32; 1281];
+    *program = [0u32; 1282];
 }
 
 // How many instructions there are.
@@ -76,10 +83,17 @@ pub fn put_instructions(program: &mut ProgramWords, count: u32)
     put_word(program, 1280, count);
 }
 
+pub fn put_edition(program: &mut ProgramWords, edition: u32)
+    ensures { λ r. ⌜ programIn (now (program .exit)) ≡ withEdition (programIn (now (program .entry))) edition ⌝ }
+{
+    put_word(program, 1281, edition);
+}
+
 // No instructions yet, whatever the words held before.
-pub fn start_program(program: &mut ProgramWords, count: u32)
-    ensures { λ r. ⌜ programIn (now (program .exit)) ≡ programOf count ⌝ }
+pub fn start_program(program: &mut ProgramWords, edition: u32, count: u32)
+    ensures { λ r. ⌜ programIn (now (program .exit)) ≡ programOf edition count ⌝ }
 {
     clear_program(program);
     put_instructions(program, count);
+    put_edition(program, edition);
 }

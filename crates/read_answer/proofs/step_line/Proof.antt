@@ -1,7 +1,7 @@
 use Prim.Native.Nat.{zero-le}
 use mathlib.Core.Path.{_≡_, sym}
 use Rattle.item_spec.specs.Reader.{refused, bytes}
-use Rattle.item_spec.specs.Read.{key, upon}
+use Rattle.item_spec.specs.Read.{given, key, upon}
 use Rattle.read_items.specs.Says.{dueSays}
 use Rattle.read_items.proofs.Laws.{told}
 use Rattle.read_spec.specs.Kinds.{stepLine}
@@ -29,35 +29,35 @@ returns : tie.Need-returns
 unfolding stepLine
 returns c =
     let h = told dueSays _ (c .before .before .before .past-key .ensures) (c .before .used .given .1) in
-    record { within = h .within; same = sym (rw (sym (h .same), upon)) }
+    record { within = h .within; same = sym (rw (sym (h .same), given)) }
 
 returns-2 : tie.Need-returns-2
 unfolding stepLine
 returns-2 c =
     let h = told dueSays _ (c .before .before .before .before .past-key2 .ensures) (c .before .before .i .given .1) in
-    rw (no-next (c .before .before .before .before .before .before), sym (h .same), upon) (rw (number-is _ _ 15) at (c .step-numbers .ensures))
+    rw (no-next (c .before .before .before .before .before .before), sym (h .same), given) (rw (number-is _ _ 15) at (c .step-numbers .ensures))
 
 returns-3 : tie.Need-returns-3
 unfolding stepLine
 returns-3 c =
     let h = told dueSays _ (c .before .before .before .before .past-key3 .ensures) (c .before .before .i2 .given .1) in
-    rw (no-next (c .before .before .before .before .before .before .before .before .before .before), no-fire (c .before .before .before .before .before .before), sym (h .same), upon) (rw (number-is _ _ 31) at (c .step-numbers2 .ensures))
+    rw (no-next (c .before .before .before .before .before .before .before .before .before .before), no-fire (c .before .before .before .before .before .before), sym (h .same), given) (rw (number-is _ _ 31) at (c .step-numbers2 .ensures))
 
 returns-4 : tie.Need-returns-4
 unfolding stepLine
 returns-4 c =
     let h = told dueSays _ (c .before .before .before .before .past-key4 .ensures) (c .before .before .i3 .given .1) in
-    rw (no-next (c .before .before .before .before .before .before .before .before .before .before .before .before .before .before), no-fire (c .before .before .before .before .before .before .before .before .before .before), no-end (c .before .before .before .before .before .before), sym (h .same), upon) (rw (number-is _ _ 15) at (c .step-numbers3 .ensures))
+    rw (no-next (c .before .before .before .before .before .before .before .before .before .before .before .before .before .before), no-fire (c .before .before .before .before .before .before .before .before .before .before), no-end (c .before .before .before .before .before .before), sym (h .same), given) (rw (number-is _ _ 15) at (c .step-numbers3 .ensures))
 
 returns-5 : tie.Need-returns-5
 unfolding stepLine
 returns-5 c =
     let h = told dueSays _ (c .before .before .before .before .past-key5 .ensures) (c .before .before .i4 .given .1) in
-    rw (no-next (c .before .before .before .before .before .before .before .before .before .before .before .before .before .before .before .before .before .before), no-fire (c .before .before .before .before .before .before .before .before .before .before .before .before .before .before), no-end (c .before .before .before .before .before .before .before .before .before .before), no-enter (c .before .before .before .before .before .before), sym (h .same), upon) (rw id-is at (c .step-numbers4 .ensures))
+    rw (no-next (c .before .before .before .before .before .before .before .before .before .before .before .before .before .before .before .before .before .before), no-fire (c .before .before .before .before .before .before .before .before .before .before .before .before .before .before), no-end (c .before .before .before .before .before .before .before .before .before .before), no-enter (c .before .before .before .before .before .before), sym (h .same), given) (rw id-is at (c .step-numbers4 .ensures))
 
 returns-6 : tie.Need-returns-6
 unfolding stepLine
-returns-6 c = record { within = zero-le; same = sym (rw (no-next (c .before .before .before .before .before .before .before .before .before .before .before .before .before .before .before .before), no-fire (c .before .before .before .before .before .before .before .before .before .before .before .before), no-end (c .before .before .before .before .before .before .before .before), no-enter (c .before .before .before .before), no-finish c, upon)) }
+returns-6 c = record { within = zero-le; same = sym (rw (no-next (c .before .before .before .before .before .before .before .before .before .before .before .before .before .before .before .before), no-fire (c .before .before .before .before .before .before .before .before .before .before .before .before), no-end (c .before .before .before .before .before .before .before .before), no-enter (c .before .before .before .before), no-finish c, given)) }
 
 pub step-line-spec : {M : Type 1} → statement M
 step-line-spec =

@@ -13,16 +13,24 @@ then-types-requires c κs = c .before .before .before .then-number2 .ensures .1 
 returns : tie.Need-returns
 unfolding shortly sheet headed programOf noTables noProgram
 returns c =
-    run-after _ _ (c .before .before .before .before .before .before .before .before .before .before .before .before .before .before .before .before .before .length-run .ensures)
-    (after-then _ _ (c .before .before .before .before .before .before .before .before .before .before .before .before .before .before .before .then-due .ensures)
-    (after-then _ _ (c .before .before .before .before .before .before .before .before .before .before .before .before .before .then-number .ensures .0)
-    (after-then _ _ (c .before .before .before .before .before .before .before .before .before .before .before .then-number2 .ensures .0)
-    (after-then _ _ (rw (c .before .before .before .before .before .before .before .before .before .put-head .ensures, c .before .before .before .before .before .before .before .before .before .before .before .before .before .before .before .before .before .before .before .pre .0) at (c .before .before .before .before .before .before .before .then-types .ensures))
-    (after-then _ _ (c .before .before .before .before .before .then-number3 .ensures .0)
-    (after-then _ _ (rw (c .before .before .before .put-instructions .ensures, c .before .before .before .before .before .before .before .before .before .before .before .before .before .before .before .before .before .before .before .pre .1) at (c .before .then-instructions .ensures))
+    let i = c .before in
+    let e = i .before .before in
+    let k = e .before .before .before .before in
+    let t = k .before .before in
+    let n = t .before .before .before .before in
+    let d = n .before .before in
+    let f = d .before .before in
+    let start = f .before .before .before in
+    run-after _ _ (f .before .length-run .ensures)
+    (after-then _ _ (f .then-edition .ensures .0)
+    (after-then _ _ (d .then-number .ensures .0)
+    (after-then _ _ (n .then-number2 .ensures .0)
+    (after-then _ _ (rw (t .before .before .put-head .ensures, start .pre .0) at (t .then-types .ensures))
+    (after-then _ _ (k .then-number3 .ensures .0)
+    (after-then _ _ (rw (e .put-edition .ensures, e .before .before .put-instructions .ensures, start .pre .1) at (i .then-instructions .ensures))
     (after-give _ _ (c .then-end .ensures))))))))
 
 pub read-lines-spec : {M : Type 1} → statement M
 read-lines-spec =
     tie.close
-    (tie.spec (λ c κs. search needs) (λ c. search needs) (λ c κs. search needs) (λ c. search needs) (λ c κs. search needs) (λ c. search needs) (λ c κs. search needs) (λ c κs. search needs) then-types-requires (λ c. search needs) (λ c κs. search needs) (λ c κs. search needs) (λ c κs. search needs) (λ c κs. search needs) returns)
+    (tie.spec (λ c κs. search needs) (λ c κs. search needs) (λ c. search needs) (λ c κs. search needs) (λ c. search needs) (λ c κs. search needs) (λ c κs. search needs) then-types-requires (λ c. search needs) (λ c κs. search needs) (λ c κs. search needs) (λ c κs. search needs) (λ c κs. search needs) (λ c κs. search needs) returns)

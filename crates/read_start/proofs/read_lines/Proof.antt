@@ -10,12 +10,17 @@ use Rattle.read_start.proofs.read_lines.Tie as tie
 returns : tie.Need-returns
 unfolding startRun startLines
 returns c =
-    run-after _ _ (c .before .before .before .before .before .before .before .before .before .before .before .length-run .ensures)
-    (after-then _ _ (c .before .before .before .before .before .before .before .before .before .then-due .ensures)
-    (after-then _ _ (rw (none-least 32) at (c .before .before .before .before .before .before .before .then-within .ensures .0))
-    (after-then _ _ (rw (c .before .before .before .before .before .before .before .before .before .before .before .before .before .pre) at (c .before .before .before .before .before .then-instances .ensures))
+    let n = c .before .before .before .before .before in
+    let w = n .before .before .before in
+    let d = w .before .before in
+    let l = d .before .before in
+    let pre = l .before .before .pre in
+    run-after _ _ (l .length-run .ensures)
+    (after-then _ _ (d .then-due .ensures)
+    (after-then _ _ (rw (none-least 32) at (w .then-within .ensures .0))
+    (after-then _ _ (rw (pre .0, pre .1) at (n .then-instances .ensures))
     (after-then _ _ (rw (none-least 64) at (c .before .before .before .then-within2 .ensures .0))
-    (after-then _ _ (c .before .then-connections .ensures)
+    (after-then _ _ (c .before .then-connections .ensures _)
     (after-give _ _ (c .then-end .ensures)))))))
 
 pub read-lines-spec : {M : Type 1} → statement M

@@ -12,19 +12,27 @@ then-types-requires c κs = c .before .before .before .then-counted .ensures .1
 returns : tie.Need-returns
 unfolding shortly formCounted
 returns c =
-    rw (sym (form-shortly (c .before .before .before .before .before .before .before .before .before .before .before .before .before .before .before .before .before .args .text .now)))
-    (run-after _ _ (c .before .before .before .before .before .before .before .before .before .before .before .before .before .before .before .length-run .ensures)
-    (after-then _ _ (c .before .before .before .before .before .before .before .before .before .before .before .before .before .then-number .ensures .0)
-    (after-then _ _ (c .before .before .before .before .before .before .before .before .before .before .before .then-counted .ensures .0)
-    (after-then _ _ (rw (c .before .before .before .before .before .before .before .before .before .start-tables .ensures) at (c .before .before .before .before .before .before .before .then-types .ensures))
-    (after-then _ _ (c .before .before .before .before .before .then-counted2 .ensures .0)
-    (after-then _ _ (rw (c .before .before .before .start-program .ensures) at (c .before .then-instructions .ensures))
-    (after-give _ _ (c .then-end .ensures))))))))
+    let i = c .before in
+    let p = i .before .before in
+    let k = p .before .before in
+    let t = k .before .before in
+    let n = t .before .before .before .before in
+    let d = n .before .before in
+    let f = d .before .before in
+    rw (sym (form-shortly (f .before .before .before .args .text .now)))
+    (run-after _ _ (f .before .length-run .ensures)
+    (after-then _ _ (f .form-edition .ensures)
+    (after-then _ _ (d .then-number .ensures .0)
+    (after-then _ _ (n .then-counted .ensures .0)
+    (after-then _ _ (rw (t .before .before .start-tables .ensures) at (t .then-types .ensures))
+    (after-then _ _ (k .then-counted2 .ensures .0)
+    (after-then _ _ (rw (p .start-program .ensures) at (i .then-instructions .ensures))
+    (after-give _ _ (c .then-end .ensures)))))))))
 
 pub read-rows-spec : {M : Type 1} → statement M
 read-rows-spec =
     tie.close
     (tie.spec
-    (λ c κs. search needs) (λ c. search needs) (λ c κs. search needs) (λ c. search needs) (λ c κs. search needs) (λ c κs. search needs)
+    (λ c κs. search needs) (λ c κs. search needs) (λ c. search needs) (λ c κs. search needs) (λ c. search needs) (λ c κs. search needs) (λ c κs. search needs)
     then-types-requires (λ c. search needs) (λ c κs. search needs) (λ c κs. search needs) (λ c κs. search needs) (λ c κs. search needs)
     returns)

@@ -10,7 +10,7 @@ unfolding rowPasses
 returns c =
     let a = c .before .before .before .before .before .before .before .before .before .before .before .args in
     rw (
-      c .behaviors-below .ensures,
+      c .items-ok .ensures,
       c .before .behaviors-of .ensures,
       c .before .before .queue-room .ensures,
       c .before .before .before .before .before .before .places-of .ensures,

@@ -8,7 +8,11 @@ use Rattle.read_start.proofs.rows.with_row.Tie as tie
 
 returns : tie.Need-returns
 unfolding withRow placed
-returns c = λ few. c .put-sets .ensures ∙ rw (c .before .before .before .push-all .ensures few (rw (c .before .before .before .before .before .add-to .ensures) (added-empty _ _ _ _)), c .before .before .before .before .before .add-to .ensures)
+returns c =
+    let p = c .before .before in
+    let q = p .before .before .before in
+    let a = q .before .before in
+    (λ few. p .put-sets .ensures ∙ rw (q .push-all .ensures few (rw (a .add-to .ensures) (added-empty _ _ _ _)), a .add-to .ensures), c .put-begun-last .ensures)
 
 pub with-row-spec : {M : Type 1} → statement M
-with-row-spec = tie.close (tie.spec (λ c κs. search needs) (λ c κs. search needs) (λ c κs. search needs) returns)
+with-row-spec = tie.close (tie.spec (λ c κs. search needs) (λ c κs. search needs) (λ c κs. search needs) (λ c κs. search needs) returns)

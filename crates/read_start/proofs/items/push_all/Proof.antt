@@ -6,12 +6,12 @@ use borrow.Author.Tests.{lt-ltb}
 use Rattle.model.specs.View.{instance}
 use Rattle.start_spec.specs.Row.{pushedAll}
 use Rattle.words.specs.Words.{stateIn}
-use Rattle.read_start.specs.Says.{queueIn}
+use Rattle.read_start.specs.Items.{queueIn}
 use Rattle.read_start.proofs.Laws.{both-below}
 use Rattle.read_start.proofs.RowLines.{push-rest, push-start, push-turn, push-over, pushed-more}
 use borrow.Author.Needs.{needs}
-use Rattle.read_start.proofs.rows.push_all.Statement.{statement}
-use Rattle.read_start.proofs.rows.push_all.Tie as tie
+use Rattle.read_start.proofs.items.push_all.Statement.{statement}
+use Rattle.read_start.proofs.items.push_all.Tie as tie
 
 abbrev Inv-loop : tie.InvT-loop
 Inv-loop state₀ i slots count r₀ state r =
