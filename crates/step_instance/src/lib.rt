@@ -88,7 +88,7 @@ pub fn behavior(tables: &TableWords, state: &StateWords, i: u32) -> u32
     if queued(state, i) == 0 {
         return 0;
     }
-    behavior_of(tables, kind(state, i), slot(state, i, 0))
+    behavior_of(tables, kind(state, i), slot(state, i, 0) % 8)
 }
 
 // The marked place p may be left: some transition leaves it. Where not any such place counts, none of these is held, and firing it would

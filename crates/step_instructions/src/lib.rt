@@ -1,8 +1,11 @@
-// The six instructions on words: add, del, pushb, con, dcon and wait, each a check and a change made in place.
+// The instructions on words: add, del, pushb, con, dcon and wait, the last also for one push, each a check and a change made in place.
 // Promised: for every tables, state and number, each check answers the number of rules_spec/specs, and each change is that of rules_spec/specs.
+pub mod tickets;
+
 use rules_spec::ALREADY_CONNECTED;
 use rules_spec::ID_ABSENT;
 use rules_spec::ID_PRESENT;
+use rules_spec::NEVER_PUSHED;
 use rules_spec::NO_MORE_CONNECTIONS;
 use rules_spec::NO_SUCH;
 use rules_spec::NO_SUCH_CONNECTION;
@@ -10,6 +13,8 @@ use rules_spec::ONE_INSTANCE;
 use rules_spec::QUEUE_FULL;
 use rules_spec::QUEUE_NOT_EMPTY;
 use rules_spec::STILL_CONNECTED;
+use rules_spec::STILL_QUEUED;
+use rules_spec::TICKET_NOT_ABOVE;
 use rules_spec::USE_PORT_ACTIVE;
 use rules_spec::refuse_if;
 use step_connections::has_server;
@@ -25,6 +30,7 @@ use words::state::put_bare;
 use words::state::put_queued;
 use words::state::put_slot;
 use words::state::queued;
+use words::state::slot;
 use words::tables::behaviors_of;
 use words::tables::depth;
 use words::tables::initial_of;
@@ -32,17 +38,17 @@ use words::tables::is_use;
 use words::tables::ports_of;
 ghost use mathlib.Core.Path.{_≡_};
 ghost use mathlib.Core.Bool.{cond};
-ghost use Prim.Native.Nat.{suc, _*_, _<_};
+ghost use Prim.Native.Nat.{ℕ, suc, _*_, _<_};
 ghost use lib.Dec.{ltb};
 ghost use Rattle.model.specs.View.{instance, withQueue};
 ghost use Rattle.rules_spec.specs.Closing.{zeroed, renewed};
 ghost use Rattle.rules_spec.specs.Standing.{standing};
 ghost use Rattle.rules_spec.specs.Add.{addCheck, added};
 ghost use Rattle.rules_spec.specs.Del.{delCheck, deleted};
-ghost use Rattle.rules_spec.specs.PushB.{depthOf, pushbCheck, pushed};
+ghost use Rattle.rules_spec.specs.PushB.{depthOf, pushWith, pushbCheck, pushed};
 ghost use Rattle.rules_spec.specs.Con.{isUsePort, isProvidePort, conCheck};
 ghost use Rattle.rules_spec.specs.DCon.{dconCheck};
-ghost use Rattle.rules_spec.specs.Wait.{waitCheck};
+ghost use Rattle.rules_spec.specs.Wait.{whole, one, isQueued, waitCheck};
 ghost use Rattle.words.specs.Words.{tablesIn, stateIn};
 ghost use Rattle.words.specs.Parts.{bare, connectionOfWords};
 
@@ -103,15 +109,24 @@ pub fn depth_of(default: u32, tables: &TableWords) -> u32
 }
 
 // Where it is allowed there is room for one more.
-pub fn pushb_check(default: u32, tables: &TableWords, state: &StateWords, i: u32, b: u32) -> u32
-    ensures value { λ r. ⌜ r ≡ pushbCheck default (tablesIn (now (tables .entry))) (stateIn (now (state .entry))) i b ⌝ }
+// Late: it has a ticket that is not above the last.
+pub fn pushb_check(
+    default: u32,
+    tables: &TableWords,
+    state: &StateWords,
+    i: u32,
+    b: u32,
+    late: bool,
+) -> u32
+    ensures value { λ r. ⌜ r ≡ pushbCheck default (tablesIn (now (tables .entry))) (stateIn (now (state .entry))) i (pushWith b late) ⌝ }
     ensures room { λ r. ⌜ (r ≡ 0 → instance (stateIn (now (state .entry))) i .queued < 4294967295) ⌝ }
 {
     let here = present(state, i);
-    let exists = b < behaviors_of(tables, kind(state, i));
+    let exists = b % 8 < behaviors_of(tables, kind(state, i));
     let room = queued(state, i) < depth_of(default, tables);
-    let late = refuse_if(!room, QUEUE_FULL, 0);
-    refuse_if(!here, ID_ABSENT, refuse_if(!exists, NO_SUCH, late))
+    let full = refuse_if(!room, QUEUE_FULL, 0);
+    let above = refuse_if(late, TICKET_NOT_ABOVE, full);
+    refuse_if(!here, ID_ABSENT, refuse_if(!exists, NO_SUCH, above))
 }
 
 // One more, and past the last word the same.
@@ -177,9 +192,33 @@ pub fn dcon_check(tables: &TableWords, state: &StateWords, u: u32, uq: u32, v: u
 }
 
 pub fn wait_check(state: &StateWords, i: u32) -> u32
-    ensures { λ r. ⌜ r ≡ waitCheck (stateIn (now (state .entry))) i ⌝ }
+    ensures { λ r. ⌜ r ≡ waitCheck (stateIn (now (state .entry))) (whole i) ⌝ }
 {
     let here = present(state, i);
     let late = refuse_if(queued(state, i) != 0, QUEUE_NOT_EMPTY, 0);
     refuse_if(!here, ID_ABSENT, late)
+}
+
+// A push of this stamp is queued.
+fn is_queued(state: &StateWords, i: u32, stamp: usize) -> bool
+    ensures { λ r. ⌜ r ≡ isQueued (stateIn (now (state .entry))) i stamp ⌝ }
+{
+    let n = queued(state, i);
+    let mut found = false;
+    let mut r: u32 = 0;
+    while r < n {
+        found = found | ((slot(state, i, r) / 8) as usize == stamp);
+        r += 1;
+    }
+    found
+}
+
+// A wait for the push of this ticket, which was made or not.
+pub fn wait_one_check(state: &StateWords, i: u32, ticket: u32, made: bool) -> u32
+    ensures { λ r. ⌜ r ≡ waitCheck (stateIn (now (state .entry))) (one i ticket made) ⌝ }
+{
+    let here = present(state, i);
+    let waits = is_queued(state, i, (ticket as usize) + 1);
+    let never = refuse_if(!made, NEVER_PUSHED, 0);
+    refuse_if(!here, ID_ABSENT, refuse_if(waits, STILL_QUEUED, never))
 }

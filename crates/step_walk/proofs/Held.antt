@@ -25,7 +25,7 @@ unfolding held effect
 held-fits t c (Action.con k) h = rw (lt-ltb _ _ h) refl
 held-fits t c (Action.add i k) h = refl
 held-fits t c (Action.del i) h = refl
-held-fits t c (Action.pushb i b) h = refl
+held-fits t c (Action.pushb i b) h = rw (lt-ltb _ _ h) refl
 held-fits t c (Action.dcon k) h = refl
 held-fits t c (Action.wait i) h = refl
 held-fits t c (Action.fire i p) h = refl

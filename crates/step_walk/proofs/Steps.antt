@@ -15,7 +15,7 @@ use Rattle.model.specs.declared.Configuration.{Configuration}
 use Rattle.model.specs.declared.Concerned.{Concerned}
 use Rattle.model.specs.declared.Concerned.the-variants.{NoPort}
 use Rattle.model.specs.Empty.{noInstruction}
-use Rattle.model.specs.Verb.{addVerb, delVerb, pushbVerb, conVerb, dconVerb}
+use Rattle.model.specs.Verb.{addVerb, delVerb, pushbVerb, conVerb, dconVerb, pushTicketVerb, waitTicketVerb}
 use Rattle.model.specs.View.{withDone}
 use Rattle.item_spec.proofs.Tests.{by-test}
 use Rattle.rules_spec.specs.Standing.{Standing, standing}
@@ -35,7 +35,9 @@ unasked t x c p k n =
     (λ a. by-test (eqb v delVerb) (λ b. rw (a, b))
     (λ b. by-test (eqb v pushbVerb) (λ d. rw (a, b, d))
     (λ d. by-test (eqb v conVerb) (λ f. rw (a, b, d, f))
-    (λ f. by-test (eqb v dconVerb) (λ g. rw (a, b, d, f, g)) (λ g. rw (a, b, d, f, g))))))
+    (λ f. by-test (eqb v dconVerb) (λ g. rw (a, b, d, f, g))
+    (λ g. by-test (eqb v pushTicketVerb) (λ h. rw (a, b, d, f, g, h))
+    (λ h. by-test (eqb v waitTicketVerb) (λ w. rw (a, b, d, f, g, h, w)) (λ w. rw (a, b, d, f, g, h, w))))))))
 
 abbrev settled : ℕ → Concerned → Configuration → Stepped
 settled n q c = record { refused = n; port = q; configuration = c }

@@ -1,4 +1,4 @@
--- Which programs the words of the state can hold: those whose `con` lines name servers whose number is a word.
+-- Which programs the words of the state can hold: those whose `con` lines name servers whose number is a word, and whose pushes are words.
 use mathlib.Core.Bool.{true}
 use mathlib.Core.Path.{_≡_}
 use Prim.Native.Nat.{ℕ, _<_}
@@ -12,7 +12,7 @@ abbrev pub PortFits : Action → Type 0
 PortFits (Action.con k) = portNumber (k .provider) (k .provideport) < 4294967295
 PortFits (Action.add i k) = Unit {0}
 PortFits (Action.del i) = Unit {0}
-PortFits (Action.pushb i b) = Unit {0}
+PortFits (Action.pushb i b) = b .slot < 4294967296
 PortFits (Action.dcon k) = Unit {0}
 PortFits (Action.wait i) = Unit {0}
 PortFits (Action.fire i p) = Unit {0}

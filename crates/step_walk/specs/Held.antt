@@ -1,4 +1,4 @@
--- What a step and a walk leave in words, of any program: the rules' own, but where a `con` names a server whose number no word holds.
+-- What a step and a walk leave in words, of any program: the rules' own, but where a `con` names a server whose number no word holds, or a push is none.
 -- No text says such a program, and the hall refuses it with 7 (Fits).
 use mathlib.Core.Bool.{cond}
 use mathlib.Core.List.{List}
@@ -17,11 +17,13 @@ use Rattle.model.specs.View.{portNumber, withDone, stepsOf}
 use Rattle.read_spec.specs.Lawful.{programLawful}
 use Rattle.rules_spec.specs.Refusal.{settle}
 use Rattle.rules_spec.specs.Standing.{standing}
+use Rattle.rules_spec.specs.PushB.{pushed}
 use Rattle.rules_spec.specs.Con.{connected}
 use Rattle.rules_spec.specs.DCon.{disconnected}
 use Rattle.rules_spec.specs.Action.{Action, effect, concern}
 use Rattle.rules_spec.specs.Step.{isNext, actionAt, action, stepCheck, step}
 use Rattle.rules_spec.specs.Walk.{walkBy, walk}
+use Rattle.words.specs.Parts.{inWord}
 use Rattle.step_walk.specs.Fits.{PortsFit}
 
 -- a use port that is to get such a server is left without one
@@ -29,7 +31,7 @@ unfoldable pub held : Tables → Configuration → Action → Configuration
 held t c (Action.con k) = cond (ltb (portNumber (k .provider) (k .provideport)) 4294967295) (connected c k) (disconnected c k)
 held t c (Action.add i k) = effect t c (Action.add i k)
 held t c (Action.del i) = effect t c (Action.del i)
-held t c (Action.pushb i b) = effect t c (Action.pushb i b)
+held t c (Action.pushb i b) = pushed c i (inWord (b .slot))
 held t c (Action.dcon k) = effect t c (Action.dcon k)
 held t c (Action.wait i) = effect t c (Action.wait i)
 held t c (Action.fire i p) = effect t c (Action.fire i p)

@@ -1,6 +1,6 @@
 // One step by its verb, and the walk of an answer, in place.
 // Promised, of every program: what each leaves in the state and answers is the step and the walk of rules_spec/specs, but that a use port which is to
-// get a server whose number no word holds is left without one (specs/Held).
+// get a server whose number no word holds is left without one, and that a push which no word holds leaves 0 in its slot (specs/Held).
 use model::Concerned;
 use rules_spec::NO_INSTRUCTION_LEFT;
 use step_connections::connect;
@@ -13,6 +13,9 @@ use step_instructions::del_check;
 use step_instructions::del_to;
 use step_instructions::push_to;
 use step_instructions::pushb_check;
+use step_instructions::tickets::push_ticket_check;
+use step_instructions::tickets::push_ticket_to;
+use step_instructions::tickets::wait_ticket_check;
 use step_instructions::wait_check;
 use step_moves::end_check;
 use step_moves::end_to;
@@ -28,9 +31,8 @@ use words::AnswerWords;
 use words::ProgramWords;
 use words::StateWords;
 use words::TableWords;
-use words::answer::step_id;
-use words::answer::step_number;
-use words::answer::step_verb;
+use words::answer::StepWords;
+use words::answer::step_at;
 use words::answer::steps;
 use words::program::InstructionWords;
 use words::program::instruction;
@@ -38,12 +40,14 @@ use words::program::instructions;
 use words::state::done;
 use words::state::put_done;
 ghost use mathlib.Core.Path.{_≡_};
+ghost use mathlib.Core.List.{List};
 ghost use Prim.Native.Nat.{ℕ, _<_, min};
 ghost use Rattle.model.specs.View.{stepsOf};
+ghost use Rattle.rules_spec.specs.Tickets.{pushedTo};
 ghost use Rattle.rules_spec.specs.Action.{instructionAction, moveAction, effect};
 ghost use Rattle.rules_spec.specs.Step.{checkAt};
-ghost use Rattle.words.specs.Words.{tablesIn, programIn, answerIn, stateIn};
-ghost use Rattle.words.specs.Parts.{said, stepOf};
+ghost use Rattle.words.specs.Words.{tablesIn, programFrom, answerIn, stateIn};
+ghost use Rattle.words.specs.Parts.{said, saidStep, stepOf};
 ghost use Rattle.step_walk.specs.Reached.{tally, answerAt, stepped, passed, walked};
 ghost use Rattle.step_walk.specs.Held.{held, heldStep, heldWalk};
 
@@ -77,10 +81,19 @@ fn move_to(tables: &TableWords, state: &mut StateWords, verb: u32, i: u32, n: u3
     }
 }
 
-// The number of an instruction, by its verb: an unknown one counts as the last. Where it is 0 there is room for one more.
-fn line_check(default: u32, tables: &TableWords, state: &StateWords, line: InstructionWords) -> u32
-    ensures value { λ r. ⌜ r ≡ checkAt default (tablesIn (now (tables .entry))) (stateIn (now (state .entry))) (instructionAction (said line)) ⌝ }
-    ensures room { λ r. ⌜ (r ≡ 0 → tally (stateIn (now (state .entry))) (instructionAction (said line)) < 4294967295) ⌝ }
+// The number of an instruction after so many others, by its verb: an unknown one counts as the wait. Where it is 0 there is room for one more.
+fn line_check(
+    default: u32,
+    tables: &TableWords,
+    program: &ProgramWords,
+    begun: &[u32],
+    state: &StateWords,
+    at: u32,
+    line: InstructionWords,
+) -> u32
+    ensures value { λ r. ⌜ r ≡ checkAt default (tablesIn (now (tables .entry))) (stateIn (now (state .entry)))
+        (instructionAction (pushedTo (programFrom (now (program .entry)) (now (begun .entry))) (line .id) at) (said line)) ⌝ }
+    ensures room { λ r. ⌜ ((l : List ℕ) → r ≡ 0 → tally (stateIn (now (state .entry))) (instructionAction l (said line)) < 4294967295) ⌝ }
 {
     let verb = line.verb;
     let i = line.id;
@@ -88,16 +101,18 @@ fn line_check(default: u32, tables: &TableWords, state: &StateWords, line: Instr
     match verb {
         0 => add_check(state, i),
         1 => del_check(state, i),
-        2 => pushb_check(default, tables, state, i, n),
+        2 => pushb_check(default, tables, state, i, n, false),
         3 => con_check(tables, state, i, n, line.provider, line.provideport),
         4 => dcon_check(tables, state, i, n, line.provider, line.provideport),
+        6 => push_ticket_check(default, tables, program, begun, state, at, line),
+        7 => wait_ticket_check(program, begun, state, at, line),
         _ => wait_check(state, i),
     }
 }
 
 fn line_to(tables: &TableWords, state: &mut StateWords, line: InstructionWords)
-    ensures { λ r. ⌜ (tally (stateIn (now (state .entry))) (instructionAction (said line)) < 4294967295
-        → stateIn (now (state .exit)) ≡ held (tablesIn (now (tables .entry))) (stateIn (now (state .entry))) (instructionAction (said line))) ⌝ }
+    ensures { λ r. ⌜ ((l : List ℕ) → tally (stateIn (now (state .entry))) (instructionAction l (said line)) < 4294967295
+        → stateIn (now (state .exit)) ≡ held (tablesIn (now (tables .entry))) (stateIn (now (state .entry))) (instructionAction l (said line))) ⌝ }
 {
     let verb = line.verb;
     let i = line.id;
@@ -108,6 +123,7 @@ fn line_to(tables: &TableWords, state: &mut StateWords, line: InstructionWords)
         2 => push_to(state, i, n),
         3 => connect(state, i, n, line.provider, line.provideport),
         4 => disconnect(state, i, n),
+        6 => push_ticket_to(state, line),
         _ => {}
     }
 }
@@ -117,14 +133,17 @@ pub fn step(
     default: u32,
     tables: &TableWords,
     program: &ProgramWords,
+    begun: &[u32],
     state: &mut StateWords,
-    verb: u32,
-    i: u32,
-    n: u32,
+    step: StepWords,
 ) -> Answered
     ensures { λ r. ⌜ stepped r (stateIn (now (state .exit)))
-        ≡ heldStep default (tablesIn (now (tables .entry))) (programIn (now (program .entry))) (stateIn (now (state .entry))) (stepOf verb i n) ⌝ }
+        ≡ heldStep default (tablesIn (now (tables .entry))) (programFrom (now (program .entry)) (now (begun .entry))) (stateIn (now (state .entry)))
+        (saidStep step) ⌝ }
 {
+    let verb = step.verb;
+    let i = step.id;
+    let n = step.number;
     if verb != 0 {
         let answered = move_check(tables, state, verb, i, n);
         if answered.refused != 0 {
@@ -138,7 +157,7 @@ pub fn step(
         return about_none(NO_INSTRUCTION_LEFT);
     }
     let line = instruction(program, at);
-    let refused = line_check(default, tables, state, line);
+    let refused = line_check(default, tables, program, begun, state, at, line);
     if refused != 0 {
         return about_none(refused);
     }
@@ -171,20 +190,19 @@ pub fn walk(
     default: u32,
     tables: &TableWords,
     program: &ProgramWords,
+    begun: &[u32],
     answer: &AnswerWords,
     state: &mut StateWords,
 ) -> Passed
     ensures { λ r. ⌜ walked r (stateIn (now (state .exit)))
-        ≡ heldWalk default (tablesIn (now (tables .entry))) (programIn (now (program .entry))) (stateIn (now (state .entry)))
+        ≡ heldWalk default (tablesIn (now (tables .entry))) (programFrom (now (program .entry)) (now (begun .entry))) (stateIn (now (state .entry)))
         (stepsOf (answerIn (now (answer .entry)))) ⌝ }
 {
     let n = step_count(answer);
     let mut k: u32 = 0;
     while k < n {
-        let verb = step_verb(answer, k);
-        let i = step_id(answer, k);
-        let number = step_number(answer, k);
-        let answered = step(default, tables, program, state, verb, i, number);
+        let due = step_at(answer, k);
+        let answered = step(default, tables, program, begun, state, due);
         if answered.refused != 0 {
             return come_to(k, answered);
         }
