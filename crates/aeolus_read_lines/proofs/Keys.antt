@@ -10,7 +10,7 @@ use lib.ListN.{drop}
 use borrow.Author.Tests.{ltb-true}
 use Rattle.item_spec.proofs.Tests.{and-left, and-right}
 use Rattle.item_spec.specs.Reader.{Reply, Reader, got, refused, readOn, give, check, noLine, bytes}
-use Rattle.item_spec.specs.Read.{key, upon, oneForm, twoForm}
+use Rattle.item_spec.specs.Read.{given, key, upon, oneForm, twoForm}
 use Rattle.read_items.specs.Reads.{past, refusal, Reads}
 use Rattle.read_items.specs.declared.numbers.Four.{Four}
 use Rattle.read_items.specs.declared.numbers.Limits.the-variants as limits
@@ -34,10 +34,10 @@ by-key {A} a b c m s = by (key a s) refl (key b s) refl (key c s) refl
   where
     by : (x : Reply (Unit {0})) → key a s ≡ x → (y : Reply (Unit {0})) → key b s ≡ y → (z : Reply (Unit {0})) → key c s ≡ z
         → upon a (m 0) (upon b (m 1) (upon c (m 2) (noLine {A = A}))) s ≡ readOn (whichOf a b c s) m
-    by (got u r) p y q z w = rw (p, upon, whichOf)
-    by (refused n) p (got u r) q z w = rw (p, q, upon, whichOf)
-    by (refused n) p (refused i) q (got u r) w = rw (p, q, w, upon, whichOf)
-    by (refused n) p (refused i) q (refused j) w = rw (p, q, w, upon, whichOf)
+    by (got u r) p y q z w = rw (p, given, whichOf)
+    by (refused n) p (got u r) q z w = rw (p, q, given, whichOf)
+    by (refused n) p (refused i) q (got u r) w = rw (p, q, w, given, whichOf)
+    by (refused n) p (refused i) q (refused j) w = rw (p, q, w, given, whichOf)
 
 pub key-here : (k : List ℕ) (v : ℕ) (x : Reply ℕ) {s : List ℕ} {i : ℕ} → Reads s (past tt i) (key k s) → Reads s (past v i) (upon k (give v) (λ _. x) s)
 key-here k v x h = verb-here k (give v) x h (record { within = h .within; same = refl })

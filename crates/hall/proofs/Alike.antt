@@ -9,7 +9,7 @@ use native.Mathlib.Decide.{ℕ-discrete}
 use native.Mathlib.Omega.{arith}
 use lib.ListN.{getD, length, length-take}
 use lib.Seq.{getD-take}
-use borrow.Author.Tests.{ne-eqb}
+use borrow.Author.Tests.{eq-eqb, ne-eqb}
 use Rattle.item_spec.proofs.Tests.{and-right}
 use Rattle.sets.proofs.Laws.{all-at}
 use Rattle.model.specs.declared.Tables.{Tables}
@@ -35,7 +35,7 @@ use Rattle.hall.proofs.Proper.{proper-is-lawful}
 
 pub sheets-break-none : SheetsBreakNone
 unfolding SheetsBreakNone SheetsAreLawful Lawful lentLawful
-sheets-break-none x r t p c s e = let law = sheets-are-lawful x r t p e in rw (law .0, law .1)
+sheets-break-none x r t p c s e one = let law = sheets-are-lawful x r t p e in rw (law .0, law .1, eq-eqb (p .edition) 1 one)
 
 -- each step of the list is one that an answer line can say
 abbrev Steps : List Step → Type 0
@@ -47,11 +47,11 @@ steps-lawful a e j l =
     let b : j < a .count = omega (arith, length-take (a .count) (a .steps)) in
     ap stepLawful (getD-take (a .count) (a .steps) j noStep b) ∙ all-at (a .count) _ (and-right (stepsOk (a .count)) _ e) j b
 
-module _ (t : Tables) (p : Program) (law : Lawful t p) where
+module _ (t : Tables) (p : Program) (law : Lawful t p) (one : p .edition ≡ 1) where
   -- a lawful step at a point of a walk gets the rules' answer
   ruled : (c : Configuration) (s : Step) → Proper defaultDepth t p c → stepLawful s ≡ true → hallStep t p c s ≡ step defaultDepth t p c s
   unfolding ProperIsLawful Lawful hallStep lentLawful
-  ruled c s h e = rw (law .0, law .1, e, proper-is-lawful t p c h)
+  ruled c s h e = rw (law .0, law .1, eq-eqb (p .edition) 1 one, e, proper-is-lawful t p c one h)
 
   alike : (ss : List Step) (c : Configuration) → Proper defaultDepth t p c → Steps ss → hallWalk t p c ss ≡ walk defaultDepth t p c ss
   unfolding hallWalk walk
@@ -70,5 +70,5 @@ module _ (t : Tables) (p : Program) (law : Lawful t p) where
 
 pub hall-walks-alike : HallWalksAlike
 unfolding HallWalksAlike SheetsAreLawful AnswersAreLawful walkAnswer
-hall-walks-alike x r y q t p a e f =
-    alike t p (sheets-are-lawful x r t p e) (stepsOf a) start (start-proper defaultDepth t p) (steps-lawful a (answers-are-lawful y q a f))
+hall-walks-alike x r y q t p a e f one =
+    alike t p (sheets-are-lawful x r t p e) one (stepsOf a) start (start-proper defaultDepth t p) (steps-lawful a (answers-are-lawful y q a f))

@@ -16,10 +16,10 @@ use Rattle.model.specs.declared.Program.{Program}
 use Rattle.model.specs.declared.Connection.{Connection}
 use Rattle.model.specs.declared.Configuration.{Configuration}
 use Rattle.model.specs.Empty.{noServer}
-use Rattle.model.specs.View.{instance, slot, portNumber, server, isServed, connection}
+use Rattle.model.specs.View.{typeOf, instance, slot, portNumber, server, isServed, connection}
 use Rattle.read_spec.specs.Limits.{maskOk}
 use Rattle.rules_spec.specs.Con.{isUsePort, isProvidePort}
-use Rattle.rules_spec.specs.Proper.{ProperInstance, Joins, Proper, SlotIsItsPort}
+use Rattle.rules_spec.specs.Proper.{slotLimit, ProperInstance, Joins, Proper, SlotIsItsPort}
 use Rattle.rules_spec.proofs.Connections.{slot-is-its-port}
 use Rattle.judge_spec.specs.Course.{defaultDepth}
 use Rattle.hall_configuration.specs.Lawful.{queuedLawful, numbersLawful, instanceLawful, endsLawful, connectionLawful, connectionsLawful, configurationLawful}
@@ -48,15 +48,20 @@ masked n m f = lt-ltb m (2 ^ n) (rw same (collect-lt n (λ x. member x m)))
         same-members (m + n) m (collect n (λ x. member x m)) (lt-of-lt-of-le (below-power m) (pow-mono {j = m + n} (omega arith)))
         (lt-of-lt-of-le (collect-lt n (λ x. member x m)) (pow-mono {j = m + n} (omega arith))) each
 
-module _ (t : Tables) (p : Program) (c : Configuration) (h : Proper defaultDepth t p c) where
+-- a slot without a ticket is its behavior
+plain-limit : (p : Program) → p .edition ≡ 1 → slotLimit p ≡ 8
+unfolding slotLimit
+plain-limit p one = rw one
+
+module _ (t : Tables) (p : Program) (c : Configuration) (one : p .edition ≡ 1) (h : Proper defaultDepth t p c) where
   instance-lawful : (i : ℕ) → instanceLawful defaultDepth t c i ≡ true
   unfolding instanceLawful numbersLawful queuedLawful
   instance-lawful i = by-test (instance c i .present) (λ e. rw e (numbers (h .each i e))) (λ e. rw e)
     where
-      numbers : ProperInstance defaultDepth t (instance c i) (slot c i) → numbersLawful defaultDepth t c i ≡ true
+      numbers : ProperInstance defaultDepth t p (instance c i) (slot c i) → numbersLawful defaultDepth t c i ≡ true
       numbers v =
           ap₂ _&&_ (lt-ltb _ _ (v .kind)) (ap₂ _&&_ (masked _ _ (v .marked)) (ap₂ _&&_ (masked _ _ (v .running)) (ap₂ _&&_ (masked _ _ (v .ended))
-          (ap₂ _&&_ (le-leb _ _ (v .short)) (all-of _ _ (λ r l. lt-ltb _ _ (v .queue r l)))))))
+          (ap₂ _&&_ (le-leb _ _ (v .short)) (all-of _ _ (λ r l. lt-ltb (slot c i r) (typeOf t (instance c i .kind) .behaviors) (omega (arith, v .queue r l, rw (plain-limit p one) at (v .tickets r l)))))))))
 
   ends-lawful : (k : Connection) → Joins t c k → endsLawful t c k ≡ true
   unfolding endsLawful isUsePort isProvidePort

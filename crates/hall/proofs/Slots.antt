@@ -1,7 +1,7 @@
 -- What an allowed step leaves in every slot, from what the rules' proofs say of an action's effect (rules/proofs/Local).
 -- Assumes nothing.
 use mathlib.Core.Path.{_≡_, refl, sym, ap, _∙_}
-use mathlib.Core.Bool.{true, false, cond}
+use mathlib.Core.Bool.{true, false, _&&_, cond}
 use Prim.Native.Nat.{ℕ, _≤_, _<_}
 use native.Mathlib.Omega.{arith}
 use lib.Dec.{eqb, leb}
@@ -71,35 +71,35 @@ module _ (t : Tables) (c : Configuration) (whole : Whole c) where
     in-array : (i : ℕ) → instance c i .present ≡ true → i < 32
     in-array i e = omega (arith, present-in c i e, whole .instances)
 
-    room : (a : Action) → Lawfully t a → checkAt defaultDepth t c a ≡ 0 → Room c a
+    room : (p : Program) (a : Action) → Lawfully t p a → checkAt defaultDepth t c a ≡ 0 → Room c a
     unfolding actionCheck change Roomy Fits
-    room (add i k) new e = (new i k refl .0, tt)
-    room (del i) new e = (in-array i (del-facts c i e .present), tt)
-    room (pushb i b) new e = let f = pushb-facts defaultDepth t c i b e in (in-array i (f .present), omega (arith, f .short))
-    room (con k) new e = tt
-    room (dcon k) new e = tt
-    room (wait i) new e = tt
-    room (fire i p) new e = (in-array i (fire-facts t c i p e .row .present), tt)
-    room (end i x) new e = (in-array i (end-facts c i x e .present), tt)
-    room (enter i p) new e = (in-array i (enter-facts t c i p e .row .present), tt)
-    room (finish i) new e =
+    room p (add i k) new e = (new .added i k refl .0, tt)
+    room p (del i) new e = (in-array i (del-facts c i e .present), tt)
+    room p (pushb i b) new e = let f = pushb-facts defaultDepth t c i b e in (in-array i (f .present), omega (arith, f .short))
+    room p (con k) new e = tt
+    room p (dcon k) new e = tt
+    room p (wait i) new e = tt
+    room p₁ (fire i p) new e = (in-array i (fire-facts t c i p e .row .present), tt)
+    room p (end i x) new e = (in-array i (end-facts c i x e .present), tt)
+    room p₁ (enter i p) new e = (in-array i (enter-facts t c i p e .row .present), tt)
+    room p (finish i) new e =
         let f = finish-facts t c i e in
         let h = short i (f .present) in
         (in-array i (f .present), (f .queued, omega arith))
 
-    holds : (a : Action) → Lawfully t a → checkAt defaultDepth t c a ≡ 0 → Holds (effect t c a) (slots t c a)
+    holds : (p : Program) (a : Action) → Lawfully t p a → checkAt defaultDepth t c a ≡ 0 → Holds (effect t c a) (slots t c a)
     unfolding actionCheck effect change touches self turn turnedSlot slots connected disconnected withServers
-    holds (add i k) new e = owned (add i k) i (λ j. refl) (room (add i k) new e)
-    holds (del i) new e = owned (del i) i (λ j. refl) (room (del i) new e)
-    holds (pushb i b) new e = owned (pushb i b) i (λ j. refl) (room (pushb i b) new e)
-    holds (con k) new e = record { instances = λ j l. refl; queues = λ j r l g. refl; servers = slot-set _ _ }
-    holds (dcon k) new e = record { instances = λ j l. refl; queues = λ j r l g. refl; servers = slot-set _ noServer }
-    holds (wait i) new e = record { instances = λ j l. refl; queues = λ j r l g. refl; servers = λ s l. refl }
-    holds (fire i p) new e = owned (fire i p) i (λ j. refl) (room (fire i p) new e)
-    holds (end i x) new e = owned (end i x) i (λ j. refl) (room (end i x) new e)
-    holds (enter i p) new e = owned (enter i p) i (λ j. refl) (room (enter i p) new e)
-    holds (finish i) new e =
-        let o = owned (finish i) i (λ j. refl) (room (finish i) new e) in
+    holds p (add i k) new e = owned (add i k) i (λ j. refl) (room p (add i k) new e)
+    holds p (del i) new e = owned (del i) i (λ j. refl) (room p (del i) new e)
+    holds p (pushb i b) new e = owned (pushb i b) i (λ j. refl) (room p (pushb i b) new e)
+    holds p (con k) new e = record { instances = λ j l. refl; queues = λ j r l g. refl; servers = slot-set _ _ }
+    holds p (dcon k) new e = record { instances = λ j l. refl; queues = λ j r l g. refl; servers = slot-set _ noServer }
+    holds p (wait i) new e = record { instances = λ j l. refl; queues = λ j r l g. refl; servers = λ s l. refl }
+    holds p₁ (fire i p) new e = owned (fire i p) i (λ j. refl) (room p₁ (fire i p) new e)
+    holds p (end i x) new e = owned (end i x) i (λ j. refl) (room p (end i x) new e)
+    holds p₁ (enter i p) new e = owned (enter i p) i (λ j. refl) (room p₁ (enter i p) new e)
+    holds p (finish i) new e =
+        let o = owned (finish i) i (λ j. refl) (room p (finish i) new e) in
         record {
           instances = o .instances;
           queues = λ j r l g. o .queues j r l g ∙ ap (λ (x : ℕ). cond (eqb j i) x (slot c j r)) (head-gone (instance c i .queued) (slot c i) r);
@@ -109,11 +109,11 @@ module _ (t : Tables) (c : Configuration) (whole : Whole c) where
 module _ (t : Tables) (p : Program) (c : Configuration) (s : Step) (whole : Whole c) (lawful : lentLawful t p c s ≡ true) where
   law : Lawful t p
   unfolding Lawful lentLawful
-  law = (and-left (tablesLawful t) _ lawful, and-left (programLawful (t .count) p) _ (and-right (tablesLawful t) _ lawful))
+  law = (and-left (tablesLawful t) _ lawful, and-right (eqb (p .edition) 1) _ (and-left (eqb (p .edition) 1 && programLawful (t .count) p) _ (and-right (tablesLawful t) _ lawful)))
 
   lent : configurationLawful defaultDepth t p c ≡ true
   unfolding lentLawful
-  lent = and-right (stepLawful s) _ (and-right (programLawful (t .count) p) _ (and-right (tablesLawful t) _ lawful))
+  lent = and-right (stepLawful s) _ (and-right (eqb (p .edition) 1 && programLawful (t .count) p) _ (and-right (tablesLawful t) _ lawful))
 
   short : (i : ℕ) → instance c i .present ≡ true → instance c i .queued ≤ depthOf defaultDepth t
   unfolding configurationLawful instanceLawful numbersLawful
@@ -129,7 +129,7 @@ module _ (t : Tables) (p : Program) (c : Configuration) (s : Step) (whole : Whol
   unfolding withDone
   each e =
       let l = facts defaultDepth t p (omega arith) law in
-      let h = holds t c whole (l .depth) short (action p c s) (step-lawfully defaultDepth t p l c s e) (number-facts defaultDepth t p c s e .0) in
+      let h = holds t c whole (l .depth) short p (action p c s) (step-lawfully defaultDepth t p l c s e) (number-facts defaultDepth t p c s e .0) in
       after-cases t p (λ (d : Configuration). Holds d (slots t c (action p c s))) c s
       (λ _. record { instances = h .instances; queues = h .queues; servers = h .servers }) (λ _. h)
 

@@ -2,7 +2,8 @@
 -- Assumes nothing.
 use mathlib.Core.Path.{_≡_, refl, sym, ap, _∙_, subst⁻¹}
 use mathlib.Core.Logic.{_≢_}
-use mathlib.Core.Bool.{Bool, true, false, not, cond}
+use mathlib.Core.Bool.{Bool, true, false, not, _&&_, cond}
+use lib.Dec.{eqb}
 use mathlib.Core.List.{List}
 use Prim.Native.Nat.{ℕ, suc}
 use borrow.Author.Tests.{not-true, not-false}
@@ -41,7 +42,7 @@ module _ (t : Tables) (p : Program) (c : Configuration) (s : Step) where
     -- the ports that a lawful program names fit the words
     fit : not lawful ≡ false → PortsFit p
     unfolding lentLawful LawfulPortsFit
-    fit e = lawful-ports-fit (t .count) p (and-left (programLawful (t .count) p) _ (and-right (tablesLawful t) _ (sym says ∙ not-false lawful e)))
+    fit e = lawful-ports-fit (t .count) p (and-right (eqb (p .edition) 1) _ (and-left (eqb (p .edition) 1 && programLawful (t .count) p) _ (and-right (tablesLawful t) _ (sym says ∙ not-false lawful e))))
 
     pub ruled-left : not lawful ≡ false → (a : Answered) (d : Configuration) → stepped a d ≡ heldStep defaultDepth t p c s → Left t p c s a d
     unfolding hallStep HeldStepIsTheStep

@@ -43,16 +43,17 @@ NoUsePortTwice =
     → connection c s .useport ≡ connection c r .useport
     → s ≡ r
 
--- for what the reader of a sheet gives, 7 is for the step's or the configuration's sake
+-- for what the reader of a sheet gives that opens with `sheet=1`, 7 is for the step's or the configuration's sake
 unfoldable pub SheetsBreakNone : Type 0
 SheetsBreakNone =
     (x r : List ℕ) (t : Tables) (p : Program) (c : Configuration) (s : Step)
     → sheet x ≡ on (t, p) r
+    → p .edition ≡ 1
     → lentLawful t p c s ≡ (stepLawful s && configurationLawful defaultDepth t p c)
 
 -- what every point of a walk keeps is lawful to the screen
 unfoldable pub ProperIsLawful : Type 0
-ProperIsLawful = (t : Tables) (p : Program) (c : Configuration) → Proper defaultDepth t p c → configurationLawful defaultDepth t p c ≡ true
+ProperIsLawful = (t : Tables) (p : Program) (c : Configuration) → p .edition ≡ 1 → Proper defaultDepth t p c → configurationLawful defaultDepth t p c ≡ true
 
 -- the tables, program and steps that the readers give, stepped by the screen from the empty start: the walk's verdict, count and configuration
 unfoldable pub HallWalksAlike : Type 0
@@ -60,4 +61,5 @@ HallWalksAlike =
     (x r y q : List ℕ) (t : Tables) (p : Program) (a : Answer)
     → sheet x ≡ on (t, p) r
     → answer y ≡ on a q
+    → p .edition ≡ 1
     → hallWalk t p start (stepsOf a) ≡ walkAnswer defaultDepth t p a

@@ -15,7 +15,7 @@ use Rattle.model.specs.declared.Program.{Program}
 use Rattle.model.specs.declared.Step.{Step}
 use Rattle.model.specs.declared.Instance.{Instance}
 use Rattle.model.specs.declared.Configuration.{Configuration}
-use Rattle.model.specs.Empty.{noInstruction, absent, noServer}
+use Rattle.model.specs.Empty.{noneBegun, noInstruction, absent, noServer}
 use Rattle.model.specs.View.{serverNumber}
 use Rattle.model.specs.Verb.{addVerb, delVerb, pushbVerb, conVerb, dconVerb, waitVerb, fireVerb, endVerb, enterVerb, finishVerb}
 use Rattle.read_spec.specs.Kinds.{anInstruction}
@@ -63,6 +63,8 @@ tables f = record {
 -- an instruction of each verb, the first of them done
 abbrev pub program : Numbers → Program
 program f = record {
+  edition = f "edition" 1;
+  begun = noneBegun;
   instructions =
       anInstruction addVerb (f "add id" 0) (f "add type" 0) 0 0
       ∷ anInstruction delVerb (f "del id" 0) 0 0 0
@@ -163,7 +165,8 @@ tableRows =
 
 abbrev pub programRows : List Row
 programRows =
-    clauseRow "program" 256 257
+    clauseRow "edition" 1 2
+    ∷ clauseRow "program" 256 257
     ∷ clauseRow "verb" waitVerb 6
     ∷ clauseRow "add id" 31 32
     ∷ clauseRow "add type" 0 1

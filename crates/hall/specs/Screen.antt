@@ -1,6 +1,7 @@
 -- The screen in the hall: "Number 7, before all of 10 to 37, is given exactly when" what is lent breaks a limit; 02's 38 comes after it too.
 -- "The hall screen and the judge both pass" the use port on. "Any other configuration,
 -- reachable or not, gets the step rules' answer." Depth 0 stands for the board's default here too.
+use lib.Dec.{eqb}
 use Prim.Native.Nat.{ℕ}
 use mathlib.Core.Bool.{Bool, _&&_, cond}
 use mathlib.Core.Path.{_≡_}
@@ -20,10 +21,11 @@ use Rattle.hall_configuration.specs.Lawful.{configurationLawful}
 abbrev pub limitBroken : ℕ
 limitBroken = 7
 
--- "tables or program break a sheet's rules (its length aside), the step breaks an answer line's, or the configuration" one of its own
+-- "tables or program break a sheet's rules (its length aside), the step breaks an answer line's, or the configuration" one of its own; "`sheet=1` reads
+-- and reports as before, and the hall screen keeps to it"
 unfoldable pub lentLawful : Tables → Program → Configuration → Step → Bool
 lentLawful t p c s =
-    tablesLawful t && (programLawful (t .count) p && (stepLawful s && configurationLawful defaultDepth t p c))
+    tablesLawful t && ((eqb (p .edition) 1 && programLawful (t .count) p) && (stepLawful s && configurationLawful defaultDepth t p c))
 
 -- "it lends its configuration and finds it moved on afterwards, or untouched on a refusal"
 unfoldable pub hallStep : Tables → Program → Configuration → Step → Stepped

@@ -51,7 +51,7 @@ unfoldable pub slots : Tables → Configuration → Action → Slots
 slots t c (add i k) = inInstance c i (fresh t k) (λ r. 0)
 slots t c (del i) = inInstance c i absent (λ r. 0)
 slots t c (pushb i b) =
-    inInstance c i (withQueued (instance c i) (suc (instance c i .queued))) (λ r. cond (eqb r (instance c i .queued)) b (slot c i r))
+    inInstance c i (withQueued (instance c i) (suc (instance c i .queued))) (λ r. cond (eqb r (instance c i .queued)) (b .slot) (slot c i r))
 slots t c (con k) = inServers c (servedBy c (portNumber (k .user) (k .useport)) (serverNumber (k .provider) (k .provideport)))
 slots t c (dcon k) = inServers c (servedBy c (portNumber (k .user) (k .useport)) noServer)
 slots t c (wait i) = inServers c (server (c .servers))

@@ -12,6 +12,7 @@ use step_walk::step;
 use words::ProgramWords;
 use words::StateWords;
 use words::TableWords;
+use words::answer::StepWords;
 use words::tables::types;
 ghost use mathlib.Core.Path.{_≡_};
 ghost use Rattle.words.specs.Words.{tablesIn, programIn, stateIn};
@@ -52,7 +53,7 @@ fn lent_lawful(
     configuration_lawful(DEFAULT_DEPTH as u32, tables, program, configuration)
 }
 
-// The lean door: the step in place.
+// The lean door: the step in place. Nothing had been pushed before the first instruction.
 pub fn lent_step(
     tables: &TableWords,
     program: &ProgramWords,
@@ -67,14 +68,19 @@ pub fn lent_step(
     if !lent_lawful(tables, program, configuration, verb, i, n) {
         return about_none(LIMIT_BROKEN);
     }
+    let none = [0u32; 1];
+    let asked = StepWords {
+        verb,
+        id: i,
+        number: n,
+    };
     step(
         DEFAULT_DEPTH as u32,
         tables,
         program,
+        &none,
         configuration,
-        verb,
-        i,
-        n,
+        asked,
     )
 }
 

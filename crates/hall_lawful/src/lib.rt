@@ -5,11 +5,14 @@ mod types;
 use types::types_lawful;
 use words::ProgramWords;
 use words::TableWords;
+use words::program::edition;
 use words::program::instruction;
 use words::program::instructions;
 use words::tables::depth;
 use words::tables::types;
 ghost use mathlib.Core.Path.{_≡_};
+ghost use mathlib.Core.Bool.{_&&_};
+ghost use lib.Dec.{eqb};
 ghost use lib.ListN.{getD};
 ghost use Rattle.model.specs.Empty.{noInstruction};
 ghost use Rattle.read_spec.specs.Lawful.{tablesLawful, verbLawful, instructionLawful, programLawful, stepLawful};
@@ -30,7 +33,7 @@ pub fn tables_lawful(tables: &TableWords) -> bool
 
 // A code that no line says is refused like a number beyond its limit.
 fn verb_lawful(n: u32, verb: u32, number: u32, provider: u32, provideport: u32) -> bool
-    ensures { λ r. ⌜ r ≡ verbLawful n (instructionOf verb 0 number provider provideport) ⌝ }
+    ensures { λ r. ⌜ r ≡ verbLawful 1 n (instructionOf verb 0 number provider provideport) ⌝ }
 {
     match verb {
         0 => number < n,
@@ -44,16 +47,19 @@ fn verb_lawful(n: u32, verb: u32, number: u32, provider: u32, provideport: u32) 
 }
 
 fn instruction_lawful(n: u32, program: &ProgramWords, j: u32) -> bool
-    ensures { λ r. ⌜ r ≡ instructionLawful n (getD (programIn (now (program .entry)) .instructions) j noInstruction) ⌝ }
+    ensures { λ r. ⌜ r ≡ instructionLawful 1 n (getD (programIn (now (program .entry)) .instructions) j noInstruction) ⌝ }
 {
     let k = instruction(program, j);
     (k.id <= 31) & verb_lawful(n, k.verb, k.number, k.provider, k.provideport)
 }
 
-// Every instruction counts, done or not.
+// Every instruction counts, done or not. The hall keeps to sheets that open with `sheet=1`.
 pub fn program_lawful(n: u32, program: &ProgramWords) -> bool
-    ensures { λ r. ⌜ r ≡ programLawful n (programIn (now (program .entry))) ⌝ }
+    ensures { λ r. ⌜ r ≡ (eqb (programIn (now (program .entry)) .edition) 1 && programLawful n (programIn (now (program .entry)))) ⌝ }
 {
+    if edition(program) != 1 {
+        return false;
+    }
     let count = instructions(program);
     if 256 < count {
         return false;

@@ -15,17 +15,18 @@ use Rattle.model.specs.declared.Tables.{Tables}
 use Rattle.model.specs.declared.Program.{Program}
 use Rattle.model.specs.declared.Answer.{Answer}
 use Rattle.model.specs.declared.Walked.{Walked}
+use Rattle.model.specs.declared.Begun.{Begun}
 use Rattle.model.specs.declared.Configuration.{Configuration}
 use Rattle.model.specs.declared.Text.{Text}
 use Rattle.model.specs.declared.Text.the-variants as text
-use Rattle.model.specs.Empty.{start, noTables, noProgram, noAnswer}
-use Rattle.model.specs.View.{stepsOf}
+use Rattle.model.specs.Empty.{start, noneBegun, noTables, noProgram, noAnswer}
+use Rattle.model.specs.View.{stepsOf, begunWith}
 use Rattle.read_spec.specs.Limits.{stepsOk, lengthOk}
 use Rattle.read_spec.specs.Lawful.{answerLawful, Lawful, AnswersAreLawful, SheetsAreLawful}
 use Rattle.read_spec.specs.Lines.{Run, Lines, on, stop, runOn}
 use Rattle.read_spec.specs.Texts.{sheet, answer}
 use Rattle.read_spec.proofs.Rests.{StopsAt}
-use Rattle.read_spec.proofs.Lawful.{sheet-stops, answer-stops, answers-are-lawful, sheets-are-lawful}
+use Rattle.read_spec.proofs.Lawful.{sheet-stops, sheet-begun, answer-stops, answers-are-lawful, sheets-are-lawful}
 use Rattle.rules_spec.specs.PushB.{depthOf}
 use Rattle.rules_spec.proofs.Tables.{facts}
 use Rattle.rules_spec.specs.Walk.{walkFrom}
@@ -35,12 +36,14 @@ use Rattle.read_chain.specs.Whole.{Whole, outcome, whole, beside}
 use Rattle.read_sheet.specs.Sheet.{sheetRead}
 use Rattle.read_answer.specs.Answer.{answerRead}
 use Rattle.start_spec.specs.Paper.{Beginning, nothing, given, Paper, beginningOf, startBytes}
-use Rattle.start_spec.specs.Text.{startLines}
+use Rattle.start_spec.specs.Text.{Outset, startLines}
 use Rattle.start_spec.specs.Served.{someUnserved}
 use Rattle.start_spec.proofs.Proper.{start-stops}
-use Rattle.read_start.specs.Start.{shortStart as shortOf, startRun, startRead, cameTo}
+use Rattle.read_start.specs.Start.{shortStart as shortOf, shown, startRun, startRead, cameTo}
 use Rattle.judge_spec.specs.Course.{Course, faulty, reached, goOn, _>>=_, _>>_, short, shortStart, read, served, outset, defaultDepth, allUnder, course}
+use Rattle.judge_spec.specs.Next.{wholeCourse}
 use Rattle.judge_spec.proofs.Read.{all-lawful, all-read}
+use Rattle.judge_spec.proofs.Next.{course-from}
 use Rattle.judge_spec.proofs.Room.{read-fits}
 use Rattle.words.specs.Words.{stateIn}
 use Rattle.step_walk.specs.declared.Passed.{Passed}
@@ -190,20 +193,31 @@ short-of : (x : List ℕ) → length x ≤ 8192 → shortOf x ≡ on tt x
 unfolding shortOf
 short-of x h = rw (le-leb (length x) 8192 h, shortOf)
 
-begin-read : (t : Tables) (p : Program) → Lawful t p → (g : Beginning) → startLong g ≡ false → {b : Whole Configuration} → b ≡ beginRead (depthOf defaultDepth t) t g → BeginsAs (outset defaultDepth t g) g b
-unfolding beginRead startRead startRun outset read served
-begin-read t p law nothing l e = rw e (record { faults = λ n. absurd (n refl); up = λ n. absurd (n refl); within = zero-le; reaches = λ _. refl })
-begin-read t p law (given x) l e =
-    rw (e ∙ ap (λ (z : Run (Unit {0})). cameTo t x (runOn z (λ _. startLines (depthOf defaultDepth t) t))) (short-of x (ltb-false 8192 (length x) l)))
-    (go (startLines (depthOf defaultDepth t) t x) refl)
-  where
-    fifty : (c : Configuration) (r : List ℕ) → startLines (depthOf defaultDepth t) t x ≡ on c r → (q : Bool) → someUnserved t c ≡ q
-        → BeginsAs (outset defaultDepth t (given x)) (given x) (elim q [ true ↦ record { refused = 50; place = 0; value = start } | false ↦ record { refused = 0; place = length x - length r; value = c } ])
-    fifty c r f true q = record { faults = λ n. rw (f, read, q, served); up = λ n. refl; within = zero-le; reaches = λ z. absurd (omega (arith, z)) }
-    fifty c r f false q = record { faults = λ n. absurd (n refl); up = λ n. refl; within = omega arith; reaches = λ z. rw (f, read, q, served) }
+-- a program, and what had been pushed before its first line
+abbrev pub begunBy : Program → Begun → Program
+begunBy p x = begunWith p (x .queue) (x .last)
 
-    go : (z : Run Configuration) → startLines (depthOf defaultDepth t) t x ≡ z → BeginsAs (outset defaultDepth t (given x)) (given x) (cameTo t x z)
-    go (on c r) f = fifty c r f (someUnserved t c) refl
+abbrev asBegun : Program → Whole (Configuration × Begun) → Whole (Program × Configuration)
+asBegun p b = record { refused = b .refused; place = b .place; value = (begunBy p (b .value .1), b .value .0) }
+
+begin-read : (t : Tables) (p : Program) → Lawful t p → p .begun ≡ noneBegun → (g : Beginning) → startLong g ≡ false → {b : Whole (Configuration × Begun)}
+    → b ≡ beginRead (p .edition) (depthOf defaultDepth t) t g → BeginsAs (outset defaultDepth t p g) g (asBegun p b)
+unfolding beginRead startRead startRun outset read served
+begin-read t p law none nothing l e = rw e (record { faults = λ n. absurd (n refl); up = λ n. absurd (n refl); within = zero-le; reaches = λ _. alone })
+  where
+    alone : _≡_ {A = Course (Program × Configuration)} (reached (p, start)) (reached (begunBy p noneBegun, start))
+    alone i = reached (record { edition = p .edition; begun = none i; instructions = p .instructions; count = p .count }, start)
+begin-read t p law none (given x) l e =
+    rw (e ∙ ap (λ (z : Run (Unit {0})). cameTo t x (runOn z (λ _. startLines (p .edition) (depthOf defaultDepth t) t))) (short-of x (ltb-false 8192 (length x) l)))
+    (go (startLines (p .edition) (depthOf defaultDepth t) t x) refl)
+  where
+    fifty : (y : Outset) (r : List ℕ) → startLines (p .edition) (depthOf defaultDepth t) t x ≡ on y r → (q : Bool) → someUnserved t (y .0) ≡ q
+        → BeginsAs (outset defaultDepth t p (given x)) (given x) (asBegun p (elim q [ true ↦ record { refused = 50; place = 0; value = (start, noneBegun) } | false ↦ record { refused = 0; place = length x - length r; value = shown y } ]))
+    fifty y r f true q = record { faults = λ n. rw (f, read, q, served); up = λ n. refl; within = zero-le; reaches = λ z. absurd (omega (arith, z)) }
+    fifty y r f false q = record { faults = λ n. absurd (n refl); up = λ n. refl; within = omega arith; reaches = λ z. rw (f, read, q, served) }
+
+    go : (z : Run Outset) → startLines (p .edition) (depthOf defaultDepth t) t x ≡ z → BeginsAs (outset defaultDepth t p (given x)) (given x) (asBegun p (cameTo t x z))
+    go (on y r) f = fifty y r f (someUnserved t (y .0)) refl
     go (stop n r) f =
         let l = start-stops defaultDepth t p x (omega arith) law n r f in
         record { faults = λ _. rw (f, read); up = λ _. refl; within = omega arith; reaches = λ z. absurd (omega (arith, z, l .1)) }
@@ -216,6 +230,14 @@ module _ (s : List ℕ) where
     where
       go : (z : Run (Tables × Program)) → sheet s ≡ z → (let r = outcome (noTables, noProgram) s z in r .refused ≡ 0 → Lawful (r .value .0) (r .value .1))
       go (on v r) e q = sheets-are-lawful s _ _ _ e
+      go (stop n r) e q = let l = sheet-stops s n r e in absurd (omega (arith, q, l .1))
+
+  sheet-none : length s ≤ 32768 → {r : Whole (Tables × Program)} → r ≡ sheetRead s → r .refused ≡ 0 → r .value .1 .begun ≡ noneBegun
+  unfolding whole
+  sheet-none h is = rw (is, le-leb (length s) 32768 h, whole) (go (sheet s) refl)
+    where
+      go : (z : Run (Tables × Program)) → sheet s ≡ z → (let r = outcome (noTables, noProgram) s z in r .refused ≡ 0 → r .value .1 .begun ≡ noneBegun)
+      go (on v r) e q = sheet-begun s _ _ _ e
       go (stop n r) e q = let l = sheet-stops s n r e in absurd (omega (arith, q, l .1))
 
   pub long-is : (b : Bool) (x : List ℕ) → (b && ltb 8192 (length x)) ≡ startLong (beginningOf b x)
@@ -232,39 +254,52 @@ module _ (s : List ℕ) where
       go (stop n r) e = omega arith
 
 module _ (s : Paper) (a : List ℕ) where
-  module _ {r : Whole (Tables × Program)} {b : Whole Configuration} {y : Whole Answer} (is : r ≡ sheetRead (s .sheet))
-      (begins : b ≡ beginRead (depthOf defaultDepth (r .value .0)) (r .value .0) (s .beginning)) (also : y ≡ answerRead a) where
-    all-comes : (came (outcomeOf (length (s .sheet)) (openedAs r (startLong (s .beginning)) b) (length a) (answered y)) (r .value .0, r .value .1, b .value, y .value) ≡ allUnder defaultDepth s a)
-        × Told (s .sheet) (s .beginning) a (allUnder defaultDepth s a)
+  module _ {r : Whole (Tables × Program)} {b : Whole (Configuration × Begun)} {y : Whole Answer} (is : r ≡ sheetRead (s .sheet))
+      (begins : b ≡ beginRead (r .value .1 .edition) (depthOf defaultDepth (r .value .0)) (r .value .0) (s .beginning)) (also : y ≡ answerRead a) where
+    all-comes : (came (outcomeOf (length (s .sheet)) (openedAs r (startLong (s .beginning)) b) (length a) (answered y)) (r .value .0, begunBy (r .value .1) (b .value .1), b .value .0, y .value)
+        ≡ allUnder defaultDepth s a) × Told (s .sheet) (s .beginning) a (allUnder defaultDepth s a)
     unfolding allUnder
     all-comes =
-        in-order sheet (λ x. outset defaultDepth (x .0) (s .beginning)) (λ _. answer) (λ x c y. (x .0, x .1, c, y)) (s .sheet) (s .beginning) a (noTables, noProgram) noAnswer
-        is (λ p l e. begin-read (r .value .0) (r .value .1) (sheet-law (s .sheet) p is e) (s .beginning) l begins) also (sheet-stops (s .sheet)) (answer-stops a)
+        in-order sheet (λ x. outset defaultDepth (x .0) (x .1) (s .beginning)) (λ _. answer) (λ x c y. (x .0, c .0, c .1, y)) (s .sheet) (s .beginning) a (noTables, noProgram) noAnswer
+        {b = asBegun (r .value .1) b} is
+        (λ p l e. begin-read (r .value .0) (r .value .1) (sheet-law (s .sheet) p is e) (sheet-none (s .sheet) p is e) (s .beginning) l begins) also (sheet-stops (s .sheet)) (answer-stops a)
 
   pub all-told : Told (s .sheet) (s .beginning) a (allUnder defaultDepth s a)
-  all-told = all-comes {r = sheetRead (s .sheet)} {b = beginRead (depthOf defaultDepth (sheetRead (s .sheet) .value .0)) (sheetRead (s .sheet) .value .0) (s .beginning)} {y = answerRead a} refl refl refl .1
+  all-told =
+      all-comes {r = sheetRead (s .sheet)} {b = beginRead (sheetRead (s .sheet) .value .1 .edition) (depthOf defaultDepth (sheetRead (s .sheet) .value .0)) (sheetRead (s .sheet) .value .0) (s .beginning)}
+      {y = answerRead a} refl refl refl .1
 
   -- of what was read into words
-  pub outcome-comes : {o : Outcome} {w : Opened} {t : Tables} {p : Program} {c : Configuration} {z : Place} {y : Answer} → o ≡ outcomeOf (length (s .sheet)) w (length a) z
-      → beside (w .sheet) (t, p) ≡ sheetRead (s .sheet) → w .long ≡ startLong (s .beginning) → beside (w .start) c ≡ beginRead (depthOf defaultDepth t) t (s .beginning)
-      → beside z y ≡ answerRead a → came o (t, p, c, y) ≡ allUnder defaultDepth s a
-  outcome-comes {w} {t} {p} {c} {z} {y} e is l begins also =
-      ap (λ (x : Outcome). came x (t, p, c, y)) (e ∙ ap (λ (q : Bool). outcomeOf (length (s .sheet)) (record { sheet = w .sheet; long = q; start = w .start }) (length a) z) l)
-      ∙ all-comes {r = beside (w .sheet) (t, p)} {b = beside (w .start) c} {y = beside z y} is begins also .0
+  pub outcome-comes : {o : Outcome} {w : Opened} {t : Tables} {p : Program} {c : Configuration} {x : Begun} {z : Place} {y : Answer} → o ≡ outcomeOf (length (s .sheet)) w (length a) z
+      → beside (w .sheet) (t, p) ≡ sheetRead (s .sheet) → w .long ≡ startLong (s .beginning)
+      → beside (w .start) (c, x) ≡ beginRead (p .edition) (depthOf defaultDepth t) t (s .beginning) → beside z y ≡ answerRead a → came o (t, begunBy p x, c, y) ≡ allUnder defaultDepth s a
+  outcome-comes {w} {t} {p} {c} {x} {z} {y} e is l begins also =
+      ap (λ (u : Outcome). came u (t, begunBy p x, c, y)) (e ∙ ap (λ (q : Bool). outcomeOf (length (s .sheet)) (record { sheet = w .sheet; long = q; start = w .start }) (length a) z) l)
+      ∙ all-comes {r = beside (w .sheet) (t, p)} {b = beside (w .start) (c, x)} {y = beside z y} is begins also .0
 
   -- the ports that a program names fit where its sheet is read
   pub ports-fit : (t : Tables) (p : Program) (c : Configuration) (y : Answer) → reached (t, p, c, y) ≡ allUnder defaultDepth s a → PortsFit p
   unfolding Lawful LawfulPortsFit
   ports-fit t p c y e = lawful-ports-fit (t .count) p (all-lawful s a (t, p, c, y) (sym e) .0 .1)
 
-  -- the course goes on with the walk of what they say
+  -- the course goes on with the walk of what they say, beside its program
   pub outcome-walks : (o : Outcome) (t : Tables) (p : Program) (c : Configuration) (y : Answer) {w : Walked} → came o (t, p, c, y) ≡ allUnder defaultDepth s a
-      → w ≡ heldWalk defaultDepth t p c (stepsOf y) → came o w ≡ course s a
-  unfolding course walkFrom HeldWalkIsTheWalk
+      → w ≡ heldWalk defaultDepth t p c (stepsOf y) → came o (p, w) ≡ wholeCourse s a
+  unfolding wholeCourse walkFrom HeldWalkIsTheWalk
   outcome-walks (InSheet n at) t p c y e f = rw (← e)
   outcome-walks (InStart n at) t p c y e f = rw (← e)
   outcome-walks (InAnswer n at) t p c y e f = rw (← e)
   outcome-walks Reached t p c y e f = rw (← e, f, held-walk-is-the-walk defaultDepth t p c (stepsOf y) (ports-fit t p c y e))
+
+  -- that walk alone
+  pub came-course : (o : Outcome) (p : Program) (w : Walked) → came o (p, w) ≡ wholeCourse s a → came o w ≡ course s a
+  came-course o p w e = left o ∙ course-from s a e
+    where
+      left : (o : Outcome) → came o w ≡ goOn {A = Program × Walked} (came o (p, w)) (λ x. reached (x .1))
+      left (InSheet n at) = refl
+      left (InStart n at) = refl
+      left (InAnswer n at) = refl
+      left Reached = refl
 
 -- ---- what is known of a walk, and of a fault
 

@@ -6,8 +6,9 @@ use lib.Dec.{leb, ltb, eqb}
 use lib.ListN.{length}
 use Rattle.model.specs.declared.Text.the-variants as text
 use Rattle.model.specs.declared.Tables.{Tables}
+use Rattle.model.specs.declared.Begun.{Begun}
 use Rattle.model.specs.declared.Configuration.{Configuration}
-use Rattle.model.specs.Empty.{start}
+use Rattle.model.specs.Empty.{start, noneBegun}
 use Rattle.report_spec.specs.Report.{report}
 use Rattle.read_chain.specs.declared.Place.{Place}
 use Rattle.read_chain.specs.Whole.{Whole}
@@ -53,9 +54,9 @@ outcomeOf m o n a =
     (InSheet 1 0)
 
 -- where a paper begins, of a start where there is one: "no file: nothing up"
-unfoldable pub beginRead : ℕ → Tables → Beginning → Whole Configuration
-beginRead d t nothing = record { refused = 0; place = 0; value = start }
-beginRead d t (given s) = startRead d t s
+unfoldable pub beginRead : ℕ → ℕ → Tables → Beginning → Whole (Configuration × Begun)
+beginRead e d t nothing = record { refused = 0; place = 0; value = (start, noneBegun) }
+beginRead e d t (given s) = startRead e d t s
 
 -- a sheet with no start beside it
 abbrev pub aloneAs : Place → Opened

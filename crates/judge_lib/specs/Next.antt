@@ -6,7 +6,7 @@ use lib.ListN.{length}
 use Rattle.model.specs.declared.Text.{Text}
 use Rattle.model.specs.declared.Text.the-variants as text
 use Rattle.start_spec.specs.Paper.{Paper}
-use Rattle.words.specs.Words.{stateIn}
+use Rattle.words.specs.Words.{programFrom, stateIn}
 use Rattle.step_walk.specs.declared.Passed.{Passed}
 use Rattle.step_walk.specs.Reached.{walked}
 use Rattle.judge_spec.specs.Course.{reached}
@@ -18,13 +18,13 @@ use Rattle.judge_lib.specs.declared.next.Next.{Next}
 abbrev pub FaultTold : Text → ℕ → ℕ → List ℕ → Next → Type 0
 FaultTold x n at y r = r ≡ record { refused = n; accepted = 0; text = x; line = faultLine n at y; used = 0 }
 
--- the start's bytes, of a walk that has come to what the words of the state say
-abbrev pub nextIn : Passed → List ℕ → List ℕ
-nextIn w ws = nextOf (reached (walked w (stateIn ws)))
+-- the start's bytes, of a walk of the program in the words ps, begun with the words bs, that has come to what the words ws of the state say
+abbrev pub nextIn : Passed → List ℕ → List ℕ → List ℕ → List ℕ
+nextIn w ps bs ws = nextOf (reached (programFrom ps bs, walked w (stateIn ws)))
 
-pub record WalkTold (w : Passed) (ws old : List ℕ) (r : Next) (after : List ℕ) : Type 0 where
-  pub told-is : r ≡ record { refused = w .refused; accepted = w .accepted; text = text.Neither; line = 0; used = length (nextIn w ws) }
-  pub array-is : after ≡ over (nextIn w ws) old
+pub record WalkTold (w : Passed) (ps bs ws old : List ℕ) (r : Next) (after : List ℕ) : Type 0 where
+  pub told-is : r ≡ record { refused = w .refused; accepted = w .accepted; text = text.Neither; line = 0; used = length (nextIn w ps bs ws) }
+  pub array-is : after ≡ over (nextIn w ps bs ws) old
 
 -- how many bytes the start has, every byte of the array that held `old`, and of the verdict what a setter is told
 pub record Starts (s : Paper) (a old : List ℕ) (r : Next) (after : List ℕ) : Type 0 where

@@ -6,20 +6,27 @@ use read_chain::Place;
 use read_lines::LONGEST;
 use read_start::LONGEST_START;
 use step_walk::Passed;
+use words::AnswerWords;
+use words::BegunWords;
 use words::ProgramWords;
 use words::StateWords;
 use words::TableWords;
+use words::begun::clear_begun;
+use words::program::edition;
 use words::state::clear_state;
 ghost use mathlib.Core.Path.{_≡_};
 ghost use lib.ListN.{length};
 ghost use Rattle.read_sheet.specs.Sheet.{sheetRead};
-ghost use Rattle.judge_spec.specs.Course.{course};
-ghost use Rattle.words.specs.Words.{tablesIn, programIn, stateIn};
+ghost use Rattle.model.specs.View.{stepsOf};
+ghost use Rattle.judge_spec.specs.Course.{defaultDepth, course};
+ghost use Rattle.judge_spec.specs.Next.{wholeCourse};
+ghost use Rattle.words.specs.Words.{tablesIn, programIn, begunIn, programFrom, answerIn, stateIn};
 ghost use Rattle.step_walk.specs.Reached.{walked};
+ghost use Rattle.step_walk.specs.Held.{heldWalk};
 ghost use Rattle.rules_spec.specs.PushB.{depthOf};
 ghost use Rattle.start_spec.specs.Paper.{paper, beginningOf};
 ghost use Rattle.read_chain.specs.Whole.{beside};
-ghost use Rattle.model.specs.Empty.{start};
+ghost use Rattle.model.specs.Empty.{start, noneBegun};
 ghost use Rattle.read_start.specs.Start.{queueRoom};
 ghost use Rattle.judge_lib.specs.Came.{beginRead, aloneAs, outcomeOf, came, startLong};
 
@@ -78,14 +85,21 @@ pub fn outcome_of(sheet: &[u8], opened: Opened, answer: &[u8], steps: Place) -> 
     Outcome::Reached
 }
 
-// Where a paper begins, into words that say nothing is up: "no file: nothing up".
-fn begin(given: bool, text: &[u8], tables: &TableWords, state: &mut StateWords) -> Place
-    requires { ⌜ stateIn (now state) ≡ start ⌝ }
-    ensures { λ r. ⌜ beside r (stateIn (now (state .exit)))
-        ≡ beginRead (queueRoom 8 (tablesIn (now (tables .entry)))) (tablesIn (now (tables .entry))) (beginningOf given (now (text .entry))) ⌝ }
+// Where the paper of a sheet that opens with this number begins, into words that say nothing is up and nothing was pushed: "no file: nothing up".
+fn begin(
+    first: u32,
+    given: bool,
+    text: &[u8],
+    tables: &TableWords,
+    state: &mut StateWords,
+    begun: &mut BegunWords,
+) -> Place
+    requires { ⌜ (stateIn (now state) ≡ start) × (begunIn (now begun) ≡ noneBegun) ⌝ }
+    ensures { λ r. ⌜ beside r (stateIn (now (state .exit)), begunIn (now (begun .exit)))
+        ≡ beginRead first (queueRoom 8 (tablesIn (now (tables .entry)))) (tablesIn (now (tables .entry))) (beginningOf given (now (text .entry))) ⌝ }
 {
     if given {
-        return read_start::fill_start(DEFAULT_DEPTH as u32, text, tables, state);
+        return read_start::fill_start(DEFAULT_DEPTH as u32, first, text, tables, state, begun);
     }
     Place {
         refused: 0,
@@ -101,21 +115,40 @@ pub fn open_paper(
     tables: &mut TableWords,
     program: &mut ProgramWords,
     state: &mut StateWords,
+    begun: &mut BegunWords,
 ) -> Opened
     ensures sheet { λ r. ⌜ beside (r .sheet) (tablesIn (now (tables .exit)), programIn (now (program .exit))) ≡ sheetRead (now (sheet .entry)) ⌝ }
     ensures long { λ r. ⌜ r .long ≡ startLong (beginningOf given (now (start .entry))) ⌝ }
-    ensures begins { λ r. ⌜ beside (r .start) (stateIn (now (state .exit)))
-        ≡ beginRead (depthOf 8 (tablesIn (now (tables .exit)))) (tablesIn (now (tables .exit))) (beginningOf given (now (start .entry))) ⌝ }
+    ensures begins { λ r. ⌜ beside (r .start) (stateIn (now (state .exit)), begunIn (now (begun .exit)))
+        ≡ beginRead (programIn (now (program .exit)) .edition) (depthOf 8 (tablesIn (now (tables .exit)))) (tablesIn (now (tables .exit)))
+        (beginningOf given (now (start .entry))) ⌝ }
 {
     clear_state(state);
+    clear_begun(begun);
     let said = read_sheet::fill_sheet(sheet, tables, program);
-    let begun = begin(given, start, tables, state);
+    let first = edition(program);
+    let up = begin(first, given, start, tables, state, begun);
     let long = given & (LONGEST_START < start.len());
     Opened {
         sheet: said,
         long,
-        start: begun,
+        start: up,
     }
+}
+
+// The walk of what these words say.
+fn walk_words(
+    tables: &TableWords,
+    program: &ProgramWords,
+    begun: &BegunWords,
+    steps: &AnswerWords,
+    state: &mut StateWords,
+) -> Passed
+    ensures { λ r. ⌜ walked r (stateIn (now (state .exit)))
+        ≡ heldWalk defaultDepth (tablesIn (now (tables .entry))) (programFrom (now (program .entry)) (now (begun .entry))) (stateIn (now (state .entry)))
+        (stepsOf (answerIn (now (steps .entry)))) ⌝ }
+{
+    step_walk::walk(DEFAULT_DEPTH as u32, tables, program, begun, steps, state)
 }
 
 // How far the texts came, and how far the walk, where all are read.
@@ -124,8 +157,29 @@ pub(crate) struct Came {
     pub passed: Passed,
 }
 
-// ".. the answer's lines, the steps": the walk starts where the paper begins, whatever the state's words held before. Words are made right before they are
-// read into, so that they are cleared once.
+// ".. the answer's lines, the steps": the walk starts where the paper begins, whatever the words held before. The program's, and those of what had been pushed
+// before its first line, are lent for who looks at them afterwards.
+pub(crate) fn walk_paper(
+    sheet: &[u8],
+    given: bool,
+    start: &[u8],
+    answer: &[u8],
+    program: &mut ProgramWords,
+    begun: &mut BegunWords,
+    state: &mut StateWords,
+) -> Came
+    ensures { λ r. ⌜ came (r .outcome) (programFrom (now (program .exit)) (now (begun .exit)), walked (r .passed) (stateIn (now (state .exit))))
+        ≡ wholeCourse (paper (now (sheet .entry)) given (now (start .entry))) (now (answer .entry)) ⌝ }
+{
+    let mut tables = [0u32; 2002];
+    let opened = open_paper(sheet, given, start, &mut tables, program, state, begun);
+    let mut steps = [0u32; 3073];
+    let read = read_answer::fill_answer(answer, &mut steps);
+    let outcome = outcome_of(sheet, opened, answer, read);
+    let passed = walk_words(&tables, program, begun, &steps, state);
+    Came { outcome, passed }
+}
+
 pub(crate) fn walk_texts(
     sheet: &[u8],
     given: bool,
@@ -135,12 +189,7 @@ pub(crate) fn walk_texts(
 ) -> Came
     ensures { λ r. ⌜ came (r .outcome) (walked (r .passed) (stateIn (now (state .exit)))) ≡ course (paper (now (sheet .entry)) given (now (start .entry))) (now (answer .entry)) ⌝ }
 {
-    let mut tables = [0u32; 2002];
-    let mut program = [0u32; 1281];
-    let opened = open_paper(sheet, given, start, &mut tables, &mut program, state);
-    let mut steps = [0u32; 3073];
-    let read = read_answer::fill_answer(answer, &mut steps);
-    let outcome = outcome_of(sheet, opened, answer, read);
-    let passed = step_walk::walk(DEFAULT_DEPTH as u32, &tables, &program, &steps, state);
-    Came { outcome, passed }
+    let mut program = [0u32; 1282];
+    let mut begun = [0u32; 288];
+    walk_paper(sheet, given, start, answer, &mut program, &mut begun, state)
 }

@@ -1,5 +1,6 @@
 // The clock of an answer beside its walk, and the mark that it comes to.
 // Promised: the walk is that of rules_spec/specs, and the mark that of timing_spec/specs, for every table, answer and times.
+use judge_spec::DEFAULT_DEPTH;
 use model::Concerned;
 use model::mask_at;
 use sets::member;
@@ -13,9 +14,7 @@ use words::AnswerWords;
 use words::ProgramWords;
 use words::StateWords;
 use words::TableWords;
-use words::answer::step_id;
-use words::answer::step_number;
-use words::answer::step_verb;
+use words::answer::step_at;
 use words::state::running;
 ghost use mathlib.Core.Path.{_≡_};
 ghost use mathlib.Core.Bool.{cond};
@@ -26,7 +25,8 @@ ghost use Rattle.sets.specs.Mask.{member};
 ghost use Rattle.model.specs.declared.Configuration.{Configuration};
 ghost use Rattle.times_spec.specs.View.{pairSlot};
 ghost use Rattle.timing_spec.specs.Clock.{started, notes};
-ghost use Rattle.words.specs.Words.{tablesIn, programIn, answerIn, stateIn};
+ghost use Rattle.judge_spec.specs.Course.{defaultDepth};
+ghost use Rattle.words.specs.Words.{tablesIn, programFrom, answerIn, stateIn};
 ghost use Rattle.words.specs.Parts.{stepOf};
 ghost use Rattle.timing_clock.specs.Once.{Promised, timesIn};
 ghost use Rattle.timing_clock.specs.Paced.{clockAt, InTime, Ticks};
@@ -110,18 +110,18 @@ fn tick(
     }
 }
 
-// The walk of an answer from what the state's words say, with the clock beside it, of times with this par and these seconds.
+// The walk of an answer from what the state's words say, where this had been pushed before, with the clock beside it, of times with this par and these seconds.
 pub fn walk_timed(
-    default: u32,
     tables: &TableWords,
     program: &ProgramWords,
+    begun: &[u32],
     answer: &AnswerWords,
     state: &mut StateWords,
     par: u32,
     seconds: &[u32; 1024],
 ) -> TimedWalk
     ensures { λ r. ⌜ ((listed : List ℕ)
-        → Promised default (tablesIn (now (tables .entry))) (programIn (now (program .entry))) (stateIn (now (state .entry)))
+        → Promised defaultDepth (tablesIn (now (tables .entry))) (programFrom (now (program .entry)) (now (begun .entry))) (stateIn (now (state .entry)))
         (answerIn (now (answer .entry))) (timesIn par listed (now (seconds .entry))) r (stateIn (now (state .exit)))) ⌝ }
 {
     let n = step_count(answer);
@@ -129,11 +129,12 @@ pub fn walk_timed(
     let mut clock: usize = 0;
     let mut k: u32 = 0;
     while k < n {
-        let verb = step_verb(answer, k);
-        let id = step_id(answer, k);
-        let number = step_number(answer, k);
+        let due = step_at(answer, k);
+        let verb = due.verb;
+        let id = due.id;
+        let number = due.number;
         let before = running(state, id);
-        let answered = step(default, tables, program, state, verb, id, number);
+        let answered = step(DEFAULT_DEPTH as u32, tables, program, begun, state, due);
         let refused = answered.refused;
         let port = answered.port;
         if refused != 0 {

@@ -5,7 +5,6 @@ use judge_lib::pairs::open_paper;
 use judge_lib::pairs::outcome_of;
 use judge_lib::parts::part_at;
 use judge_lib::parts::part_of;
-use judge_spec::DEFAULT_DEPTH;
 use judge_spec::LENT_BYTES;
 use judge_spec::Place;
 use judge_spec::Verdict;
@@ -16,6 +15,7 @@ use timing_clock::TimedWalk;
 use timing_mark::unmarked;
 use timing_spec::Timed;
 use words::AnswerWords;
+use words::BegunWords;
 use words::ProgramWords;
 use words::StateWords;
 use words::TableWords;
@@ -30,7 +30,7 @@ ghost use Rattle.report_spec.specs.Report.{countText};
 ghost use Rattle.write_items.specs.Written.{Written};
 ghost use Rattle.start_spec.specs.Paper.{paper};
 ghost use Rattle.judge_spec.specs.Judged.{afterFault, over};
-ghost use Rattle.words.specs.Words.{tablesIn, programIn, answerIn, stateIn};
+ghost use Rattle.words.specs.Words.{tablesIn, programFrom, answerIn, stateIn};
 ghost use Rattle.step_walk.specs.Fits.{PortsFit};
 ghost use Rattle.judge_lib.specs.Room.{roomFor, Short};
 ghost use Rattle.judge_lib.specs.Counts.{Counts};
@@ -77,12 +77,13 @@ fn at_fault(outcome: TimedOutcome) -> Ended
 fn clock_pair(
     tables: &TableWords,
     program: &ProgramWords,
+    begun: &BegunWords,
     steps: &AnswerWords,
     times: &[u8],
     state: &mut StateWords,
 ) -> Ended
-    ensures { λ r. ⌜ (PortsFit (programIn (now (program .entry))) → came (r .outcome) (r .walk) (stateIn (now (state .exit)))
-        ≡ clocked (tablesIn (now (tables .entry))) (programIn (now (program .entry))) (stateIn (now (state .entry))) (answerIn (now (steps .entry))) (now (times .entry))) ⌝ }
+    ensures { λ r. ⌜ (PortsFit (programFrom (now (program .entry)) (now (begun .entry))) → came (r .outcome) (r .walk) (stateIn (now (state .exit)))
+        ≡ clocked (tablesIn (now (tables .entry))) (programFrom (now (program .entry)) (now (begun .entry))) (stateIn (now (state .entry))) (answerIn (now (steps .entry))) (now (times .entry))) ⌝ }
 {
     let read = read_times::read_times(times);
     if read.refused != 0 {
@@ -91,15 +92,7 @@ fn clock_pair(
     let par = read.times.par;
     let seconds = read.times.seconds;
     let outcome = TimedOutcome::Reached;
-    let walk = timing_clock::walk_timed(
-        DEFAULT_DEPTH as u32,
-        tables,
-        program,
-        steps,
-        state,
-        par,
-        &seconds,
-    );
+    let walk = timing_clock::walk_timed(tables, program, begun, steps, state, par, &seconds);
     Ended { outcome, walk }
 }
 
@@ -116,8 +109,17 @@ fn course(
         ≡ timedCourse (paper (now (sheet .entry)) given (now (start .entry))) (now (answer .entry)) (now (times .entry)) ⌝ }
 {
     let mut tables = [0u32; 2002];
-    let mut program = [0u32; 1281];
-    let opened = open_paper(sheet, given, start, &mut tables, &mut program, state);
+    let mut program = [0u32; 1282];
+    let mut begun = [0u32; 288];
+    let opened = open_paper(
+        sheet,
+        given,
+        start,
+        &mut tables,
+        &mut program,
+        state,
+        &mut begun,
+    );
     let mut steps = [0u32; 3073];
     let read = read_answer::fill_answer(answer, &mut steps);
     let outcome = outcome_of(sheet, opened, answer, read);
@@ -125,7 +127,7 @@ fn course(
         Outcome::InSheet(n, at) => at_fault(TimedOutcome::InSheet(n, at)),
         Outcome::InStart(n, at) => at_fault(TimedOutcome::InStart(n, at)),
         Outcome::InAnswer(n, at) => at_fault(TimedOutcome::InAnswer(n, at)),
-        Outcome::Reached => clock_pair(&tables, &program, &steps, times, state),
+        Outcome::Reached => clock_pair(&tables, &program, &begun, &steps, times, state),
     }
 }
 

@@ -1,23 +1,25 @@
 -- The report's parts: a line that may be absent, and where no more lines come.
 -- Assumes nothing.
-use Prim.Native.Nat.{ℕ, zero, suc, _≤_}
-use mathlib.Core.Path.{_≡_, ap, _∙_}
-use mathlib.Core.Logic.{by-cases}
+use Prim.Native.Nat.{ℕ, zero, suc, _-_, _≤_}
+use mathlib.Core.Path.{_≡_, refl, ap, _∙_}
+use mathlib.Core.Logic.{_≢_, by-cases}
 use mathlib.Core.Bool.{Bool, true, false}
 use mathlib.Core.List.{List, [], _++_, append-assoc, append-nil}
 use native.Mathlib.Omega.{arith}
 use native.Mathlib.Decide.{decLt}
+use borrow.Author.Tests.{eq-eqb, ne-eqb}
 use Rattle.sets.specs.Test.{tally}
 use Rattle.item_spec.proofs.Tests.{by-test}
-use Rattle.item_spec.specs.Write.{onlyIf, inTurn}
+use Rattle.item_spec.specs.Write.{onlyIf, numberText, inTurn}
 use Rattle.write_items.specs.Written.{Written}
 use Rattle.write_items.proofs.Laws.{none}
 use Rattle.model.specs.declared.Walked.{Walked}
 use Rattle.item_spec.specs.Reader.{bytes}
 use Rattle.model.specs.declared.Configuration.{Configuration}
 use Rattle.report_spec.specs.Report.{report, reportWith}
-use Rattle.start_spec.specs.Round.{stateText, startText}
-use Rattle.write_report.specs.Lines.{endingPart, headPart, instancesPart, connectionsPart}
+use Rattle.read_spec.specs.Limits.{hasTickets}
+use Rattle.start_spec.specs.Round.{lastText, startText}
+use Rattle.write_report.specs.Lines.{endingPart, headPart, instancesPart, rowsPart, connectionsPart}
 
 -- ---- a line that may be absent
 
@@ -55,6 +57,24 @@ pub parts : (w : Walked) → headPart (w .accepted) (w .refused) (w .port) (w .c
 unfolding headPart endingPart instancesPart connectionsPart report reportWith
 parts w = simp append-assoc
 
-pub start-parts : (c : Configuration) → bytes "start=1\n" ++ instancesPart c ++ connectionsPart c ≡ startText c
-unfolding instancesPart connectionsPart stateText startText
-start-parts c = simp append-assoc
+pub start-parts : (e : ℕ) (l : List ℕ) (c : Configuration) → bytes "start=1\n" ++ rowsPart e l c ++ connectionsPart c ≡ startText e l c
+unfolding rowsPart connectionsPart startText
+start-parts e l c = simp append-assoc
+
+-- ---- the last ticket of a line
+
+a-ticket : (k : ℕ) → k ≢ 0 → lastText k ≡ numberText (k - 1)
+unfolding lastText
+a-ticket zero z = absurd (z refl)
+a-ticket (suc k) z = ap numberText (let q : k ≡ suc k - 1 = omega arith in q)
+
+module _ (e stamp : ℕ) where
+  pub last-plain : e ≢ 2 → onlyIf (hasTickets e) (bytes "," ++ lastText stamp) ≡ []
+  last-plain n = rw (ne-eqb e 2 n)
+
+  pub last-none : e ≡ 2 → stamp ≡ 0 → onlyIf (hasTickets e) (bytes "," ++ lastText stamp) ≡ bytes "," ++ bytes "-"
+  unfolding lastText
+  last-none h z = rw (eq-eqb e 2 h, z) refl
+
+  pub last-some : e ≡ 2 → stamp ≢ 0 → onlyIf (hasTickets e) (bytes "," ++ lastText stamp) ≡ bytes "," ++ numberText (stamp - 1)
+  last-some h n = rw (eq-eqb e 2 h) (ap (_++_ (bytes ",")) (a-ticket stamp n))

@@ -1,5 +1,7 @@
-// The report, the start and the fault lines: each line is written into the part of the lent buffer that is still free, and its writer answers the bytes used.
+// The report, the start (`start`) and the fault lines: each line is written into the part of the lent buffer that is still free, and its writer answers the bytes used.
 // Promised: every byte of the lent buffer and the bytes used, cut where there is no room, for every state, reachable or not.
+pub mod start;
+
 use model::Concerned;
 use model::Text;
 use words::StateWords;
@@ -21,15 +23,14 @@ use write_items::write_mask;
 use write_items::write_number;
 ghost use mathlib.Core.Path.{_≡_};
 ghost use Rattle.model.specs.View.{instance, connectionOf, queueOf};
-ghost use Rattle.item_spec.specs.Write.{listText, inTurn};
+ghost use Rattle.item_spec.specs.Write.{inTurn};
 ghost use Rattle.sets.specs.Test.{tally};
-ghost use Rattle.report_spec.specs.Report.{countText, portText, instanceText, connectionText, instanceAt, connectionsText, report};
+ghost use Rattle.report_spec.specs.Report.{slotText, queueText, countText, portText, instanceText, connectionText, instanceAt, connectionsText, report};
 ghost use Rattle.report_spec.specs.Faults.{textText, faultText};
 ghost use Rattle.rules_spec.specs.Standing.{standing};
-ghost use Rattle.start_spec.specs.Round.{startText};
 ghost use Rattle.write_items.specs.Written.{Written};
 ghost use Rattle.words.specs.Words.{stateIn};
-ghost use Rattle.write_report.specs.Lines.{endingPart, headPart, instancesPart, connectionsPart, reached};
+ghost use Rattle.write_report.specs.Lines.{fieldsPart, endingPart, headPart, instancesPart, connectionsPart, reached};
 
 // key=number
 pub fn write_count(t: &mut [u8], key: &[u8], v: usize) -> usize
@@ -40,28 +41,40 @@ pub fn write_count(t: &mut [u8], key: &[u8], v: usize) -> usize
     write_byte(t, at, b'\n')
 }
 
+// What a slot of a queue holds: a behavior, and its ticket where it has one.
+fn write_slot(t: &mut [u8], at: usize, s: u32) -> usize
+    ensures { λ r. ⌜ Written (now (t .entry)) (slotText s) (now (t .exit)) at r ⌝ }
+{
+    let p = write_number(t, at, (s % 8) as usize);
+    if s < 8 {
+        return p;
+    }
+    let q = write_byte(t, p, b':');
+    write_number(t, q, (s / 8 - 1) as usize)
+}
+
 // "The queue is joined by `+`, head first, `-` when empty".
 fn write_queue(t: &mut [u8], at: usize, state: &StateWords, i: u32) -> usize
-    ensures { λ r. ⌜ Written (now (t .entry)) (listText (queueOf (stateIn (now (state .entry))) i)) (now (t .exit)) at r ⌝ }
+    ensures { λ r. ⌜ Written (now (t .entry)) (queueText (queueOf (stateIn (now (state .entry))) i)) (now (t .exit)) at r ⌝ }
 {
     let n = queued(state, i);
     if n == 0 {
         return write_byte(t, at, b'-');
     }
-    let mut p = write_number(t, at, slot(state, i, 0) as usize);
+    let mut p = write_slot(t, at, slot(state, i, 0));
     let mut s: u32 = 1;
     while s < n {
         p = write_byte(t, p, b'+');
-        p = write_number(t, p, slot(state, i, s) as usize);
+        p = write_slot(t, p, slot(state, i, s));
         s += 1;
     }
     p
 }
 
-// instance=id,type,marked,running,ended,queue
-fn write_instance(t: &mut [u8], state: &StateWords, i: u32) -> usize
+// instance=id,type,marked,running,ended,queue, up to the line's end
+fn write_fields(t: &mut [u8], state: &StateWords, i: u32) -> usize
     ensures { λ r. ⌜ Written (now (t .entry))
-        (instanceText i (instance (stateIn (now (state .entry))) i) (queueOf (stateIn (now (state .entry))) i)) (now (t .exit)) 0 r ⌝ }
+        (fieldsPart i (instance (stateIn (now (state .entry))) i) (queueOf (stateIn (now (state .entry))) i)) (now (t .exit)) 0 r ⌝ }
 {
     let mut at = write_key(t, 0, b"instance=");
     at = write_number(t, at, i as usize);
@@ -74,7 +87,14 @@ fn write_instance(t: &mut [u8], state: &StateWords, i: u32) -> usize
     at = write_byte(t, at, b',');
     at = write_mask(t, at, ended(state, i));
     at = write_byte(t, at, b',');
-    at = write_queue(t, at, state, i);
+    write_queue(t, at, state, i)
+}
+
+fn write_instance(t: &mut [u8], state: &StateWords, i: u32) -> usize
+    ensures { λ r. ⌜ Written (now (t .entry))
+        (instanceText i (instance (stateIn (now (state .entry))) i) (queueOf (stateIn (now (state .entry))) i)) (now (t .exit)) 0 r ⌝ }
+{
+    let at = write_fields(t, state, i);
     write_byte(t, at, b'\n')
 }
 
@@ -206,15 +226,6 @@ pub fn write_report(
     ensures { λ r. ⌜ Written (now (t .entry)) (report (reached accepted refused port (now (state .entry)))) (now (t .exit)) 0 r ⌝ }
 {
     let mut used = write_head(t, accepted, refused, port, done(state));
-    used += write_instances(&mut t[used..], state);
-    used + write_connections(&mut t[used..], state)
-}
-
-// What the state is as the start of a paper: "the report's lines from `instances=` on, after a line `start=1`".
-pub fn write_start(t: &mut [u8], state: &StateWords) -> usize
-    ensures { λ r. ⌜ Written (now (t .entry)) (startText (stateIn (now (state .entry)))) (now (t .exit)) 0 r ⌝ }
-{
-    let mut used = write_key(t, 0, b"start=1\n");
     used += write_instances(&mut t[used..], state);
     used + write_connections(&mut t[used..], state)
 }

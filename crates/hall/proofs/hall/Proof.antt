@@ -68,7 +68,7 @@ abbrev TT : RattleType
 TT = Array u32 tt 2002
 
 abbrev PP : RattleType
-PP = Array u32 tt 1281
+PP = Array u32 tt 1282
 
 abbrev Words : Type 0
 Words = List ℕ
@@ -179,7 +179,7 @@ module _ {M : Type 1} (𝓤 : URA M) (H : Heap 𝓤) (A : Atoms 𝓤) (W : Given
   module _ (C : Calls 𝓤 H) (Λ : Loops 𝓤 H) (fm : FmC 𝓤 H (W .laws) C) (known : Triple 𝓤 (C #step) (StepC 𝓤 H A at-mem run)) where
     abbrev En : ℕ → ℕ → ℕ → ℕ → ℕ → ℕ → ℕ → ℕ → ℕ → ℕ → Env 𝓤 H
     En l₀ l₁ l₂ l₃ l₄ l₅ l₆ l₇ l₈ l₉ =
-        (N′.mir, l₀) ∷ (tyRef (named 0) imm (tyArray (tyInt w32) 2002), l₁) ∷ (tyRef (named 1) imm (tyArray (tyInt w32) 1281), l₂) ∷ (tyRef (named 2) mut (pointee (T.the-row .written)), l₃)
+        (N′.mir, l₀) ∷ (tyRef (named 0) imm (tyArray (tyInt w32) 2002), l₁) ∷ (tyRef (named 1) imm (tyArray (tyInt w32) 1282), l₂) ∷ (tyRef (named 2) mut (pointee (T.the-row .written)), l₃)
         ∷ (tyInt w32, l₄) ∷ (tyInt w32, l₅) ∷ (tyInt w32, l₆) ∷ (S′.mir, l₇) ∷ (T′.mir, l₈) ∷ (tyBool, l₉) ∷ []
 
     -- what is held after the branch, where h′ stands in the lent place
@@ -191,7 +191,7 @@ module _ {M : Type 1} (𝓤 : URA M) (H : Heap 𝓤) (A : Atoms 𝓤) (W : Given
         ∷ ‵ (fat fullShare S′.mir l₇ 0 (LL.val S.the-type S′.the-laws r)) ∷ ‵ (fdies S′.mir l₇)
         ∷ ‵ (fat fullShare (tyInt w32) l₆ 0 (vint w32 n)) ∷ ‵ (fdies (tyInt w32) l₆) ∷ ‵ (fat fullShare (tyInt w32) l₅ 0 (vint w32 i)) ∷ ‵ (fdies (tyInt w32) l₅) ∷ ‵ (fat fullShare (tyInt w32) l₄ 0 (vint w32 v)) ∷ ‵ (fdies (tyInt w32) l₄)
         ∷ ‵ (fat fullShare (tyRef (named 2) mut (pointee (T.the-row .written))) l₃ 0 (vptr b o)) ∷ ‵ (fdies (tyRef (named 2) mut (pointee (T.the-row .written))) l₃)
-        ∷ ‵ (fat fullShare (tyRef (named 1) imm (tyArray (tyInt w32) 1281)) l₂ 0 (vptr b₁ o₁)) ∷ ‵ (fdies (tyRef (named 1) imm (tyArray (tyInt w32) 1281)) l₂)
+        ∷ ‵ (fat fullShare (tyRef (named 1) imm (tyArray (tyInt w32) 1282)) l₂ 0 (vptr b₁ o₁)) ∷ ‵ (fdies (tyRef (named 1) imm (tyArray (tyInt w32) 1282)) l₂)
         ∷ ‵ (fat fullShare (tyRef (named 0) imm (tyArray (tyInt w32) 2002)) l₁ 0 (vptr b₀ o₀)) ∷ ‵ (fdies (tyRef (named 0) imm (tyArray (tyInt w32) 2002)) l₁)
         ∷ ‵ (froom N′.mir l₀ 0) ∷ ‵ (fdies N′.mir l₀) ∷ []
 

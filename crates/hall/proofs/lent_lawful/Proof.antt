@@ -1,5 +1,6 @@
 use mathlib.Core.Path.{_≡_, sym, ap, _∙_}
 use mathlib.Core.Bool.{Bool, true, false, not, _&&_, and-assoc}
+use lib.Dec.{eqb}
 use borrow.Author.Tests.{not-true, not-false}
 use borrow.Author.Needs.{needs}
 use Rattle.read_spec.specs.Lawful.{programLawful}
@@ -21,7 +22,7 @@ module _ (x y z a b c d : Bool) (p : x ≡ a) (q : y ≡ b) (r : z ≡ c) where
 
 -- the program in a sheet of as many types as the tables have
 program : (c : tie.After-program-lawful)
-    → let s = c .before .before .args in c .program-lawful .result ≡ programLawful (tablesIn (s .tables .now) .count) (programIn (s .program .now))
+    → let s = c .before .before .args in c .program-lawful .result ≡ (eqb (programIn (s .program .now) .edition) 1 && programLawful (tablesIn (s .tables .now) .count) (programIn (s .program .now)))
 program c = rw (c .before .types .ensures) at (c .program-lawful .ensures)
 
 pub lent-lawful-spec : {M : Type 1} → statement M

@@ -1,4 +1,7 @@
+use lib.Dec.{eqb}
 use borrow.Author.Tests.{ne-eqb}
+use Rattle.item_spec.proofs.Tests.{by-test}
+use Rattle.model.specs.Verb.{pushTicketVerb, waitTicketVerb}
 use Rattle.hall_lawful.proofs.verb_lawful.Statement.{statement}
 use Rattle.hall_lawful.proofs.verb_lawful.Tie as tie
 
@@ -31,6 +34,7 @@ returns-7 c =
       ne-eqb _ _ (r .0 .1),
       ne-eqb _ _ (r .1),
     )
+    (by-test (eqb (c .before .args .verb) pushTicketVerb) (λ e. rw e) (λ e. rw e (by-test (eqb (c .before .args .verb) waitTicketVerb) (λ f. rw f) (λ f. rw f))))
 
 pub verb-lawful-spec : {M : Type 1} → statement M
 verb-lawful-spec =

@@ -13,7 +13,7 @@ returns c fits = let d = c .before in rw (c .at-fault .ensures) (clocks-told _ _
 returns-2 : tie.Need-returns-2
 unfolding TimedAsRuled
 returns-2 c fits =
-    let d = c .before .before .before .before in
+    let d = c .before .before .before .before .before in
     let read = d .before .before .read-times in
     let (walks, marks) = timed-as-ruled _ _ _ _ _ _ _ _ fits (c .walk-timed .ensures (read .result .times .listed)) in
     (λ i. reached (walks i, marks i)) ∙ clocks-told _ _ _ _ _ (read .ensures) .reaches (d .if1 .left)
@@ -22,4 +22,4 @@ pub clock-pair-spec : {M : Type 1} → statement M
 clock-pair-spec =
     tie.close
     (tie.spec
-    (λ c κs. search needs) (λ c κs. search needs) returns (λ c. search needs) (λ c κs. search needs) returns-2)
+    (λ c κs. search needs) (λ c κs. search needs) returns (λ c κs. search needs) returns-2)

@@ -1,19 +1,16 @@
 use native.Mathlib.Omega.{arith}
-use Rattle.words.specs.Words.{stateIn}
-use Rattle.step_walk.specs.Reached.{walked}
-use Rattle.judge_lib.proofs.Onward.{start-few, none-told, some-told}
+use Rattle.judge_lib.proofs.Onward.{none-told, some-told}
 use borrow.Author.Needs.{needs}
 use Rattle.judge_lib.proofs.next.after_steps.Statement.{statement}
 use Rattle.judge_lib.proofs.next.after_steps.Tie as tie
 
 returns : tie.Need-returns
-returns c = none-told _ _ _ (c .if1 .taken)
+returns c = none-told _ _ _ _ _ (c .if1 .taken)
 
 returns-2 : tie.Need-returns-2
 returns-2 c =
     let x = c .before .before .before .before .before .before .before .before in
-    some-told _ _ _ (c .before .before .before .before .if1 .left) (c .before .before .write-start .ensures)
-    (omega (arith, start-few (walked (x .args .w) (stateIn (x .args .state .now))) (x .pre .0 .few), x .pre .1))
+    some-told _ _ _ _ _ (c .before .before .before .before .if1 .left) (c .before .before .write-next .ensures) (omega (arith, x .pre .0 .few, x .pre .1))
 
 pub after-steps-spec : {M : Type 1} → statement M
 after-steps-spec =

@@ -1,14 +1,14 @@
 use Rattle.write_items.proofs.Laws.{next, used-fits}
 use Rattle.write_report.proofs.Parts.{start-parts}
 use borrow.Author.Needs.{needs}
-use Rattle.write_report.proofs.write_start.Statement.{statement}
-use Rattle.write_report.proofs.write_start.Tie as tie
+use Rattle.write_report.proofs.start.write_start.Statement.{statement}
+use Rattle.write_report.proofs.start.write_start.Tie as tie
 
 returns : tie.Need-returns
 returns c =
     let connections = c .before .before in
-    let instances = connections .before .before .before .before in
-    rw (← start-parts _) (next (next (instances .before .before .before .before .write-key .ensures) (instances .write-instances .ensures)) (connections .write-connections .ensures))
+    let rows = connections .before .before .before .before in
+    rw (← start-parts _ _ _) (next (next (rows .before .before .before .before .write-key .ensures) (rows .write-rows .ensures)) (connections .write-connections .ensures))
 
 pub write-start-spec : {M : Type 1} → statement M
 write-start-spec =
