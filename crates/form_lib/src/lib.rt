@@ -113,7 +113,7 @@ pub fn write_draft(draft: Draft, text: &[u8], out: &mut [u8]) -> Drafted
     ensures counts { λ r. ⌜ Counts (r .bytes) (now (out .exit)) ⌝ }
 {
     let mut tables = [0u32; 2002];
-    let mut program = [0u32; 1281];
+    let mut program = [0u32; 1282];
     let fault = read_for(draft, text, &mut tables, &mut program);
     if fault.refused != 0 {
         return Drafted {

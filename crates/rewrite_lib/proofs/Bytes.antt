@@ -19,7 +19,7 @@ four s old = let whole = s ++ drop (length s) old in take 14 whole ++ (52 ∷ []
 
 four-is : (s old : List ℕ) → Begins s → four s old ≡ over (sheetAfter 0 s) old
 unfolding four over
-four-is s old (x, e) = subst (λ (l : List ℕ). four l old ≡ over (sheetAfter 0 l) old) (sym e) refl
+four-is s old (h, x, e) = subst (λ (l : List ℕ). four l old ≡ over (sheetAfter 0 l) old) (sym e) refl
 
 module _ {s old mid : List ℕ} {n : ℕ} (h : length s ≤ 32768) (room : length old ≡ 32768) (w : Written old s mid 0 n) where
   pub as-it-was : (d : ℕ) → (d ≡ 0 → ⊥) → (n ≡ length (sheetAfter d s)) × (mid ≡ over (sheetAfter d s) old)
@@ -31,7 +31,7 @@ module _ {s old mid : List ℕ} {n : ℕ} (h : length s ≤ 32768) (room : lengt
   with-four {end} {k} v d z b =
       let (size, is) = fits-all w (omega arith) in
       let (_, put) = fits v (omega (arith, length-written w)) in
-      let (x, e) = b in
+      let (_, x, e) = b in
       rw z (rw e (rw e at size), put ∙ rw is (four-is s old b))
 
 -- what was written is counted from the buffer's start

@@ -44,7 +44,7 @@ sheet-came s is = rw is (by-test (lengthOk (length s)) (λ l. rw (l, whole) (lin
       faults = λ n. absurd (n refl);
       reaches = λ _. rw (l, short, e, read);
       short-is = λ _. leb-true (length s) 32768 l;
-      begins-so = λ _ z. begins s q (y .0) (y .1) e z;
+      begins-so = λ _ z. let (h, x, ok, is) = begins s q (y .0) (y .1) e z in (h, x, is);
     }
     lines l (stop n q) e = record {
       faults = λ _. rw (l, short, e, read);

@@ -25,7 +25,7 @@ pub record Rewrites (s old : List ℕ) (r : Rewritten) (after : List ℕ) : Type
 
 -- a sheet that leaves the depth at 0 begins so
 abbrev pub Begins : List ℕ → Type 0
-Begins s = (x : List ℕ) × (s ≡ oldHead ++ x)
+Begins s = (e : ℕ) × (x : List ℕ) × (s ≡ oldHead e ++ x)
 
 unfoldable pub NoOtherRewriting : Type 0
 NoOtherRewriting = (s old : List ℕ) (r q : Rewritten) (b c : List ℕ) → Rewrites s old r b → Rewrites s old q c → (r ≡ q) × (b ≡ c)

@@ -42,7 +42,7 @@ pub fn rewrite(sheet: &[u8], out: &mut [u8; LONGEST]) -> Rewritten
     ensures counts { λ r. ⌜ Counts (r .written) (now (out .exit)) ⌝ }
 {
     let mut tables = [0u32; 2002];
-    let mut program = [0u32; 1281];
+    let mut program = [0u32; 1282];
     let read = read_sheet::fill_sheet(sheet, &mut tables, &mut program);
     if read.refused != 0 {
         let fault = judge_verdicts::after_fault(Text::Sheet, sheet, read.refused, read.place);

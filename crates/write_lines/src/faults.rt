@@ -9,7 +9,7 @@ use sets::overlaps;
 ghost use mathlib.Core.Path.{_≡_};
 ghost use Rattle.read_spec.specs.Limits.{maskOk};
 ghost use Rattle.rules_spec.specs.Refusal.{_⇒_∣_};
-ghost use Rattle.write_spec.specs.Kinds.{limitFault, initialFault};
+ghost use Rattle.write_spec.specs.Kinds.{limitFault, editionFault, initialFault};
 ghost use Rattle.read_sheet_lines.specs.declared.Rows.the-variants.{Transitions, Ports};
 ghost use Rattle.write_lines.specs.Rows.{rowFault};
 
@@ -31,6 +31,13 @@ pub fn limit_fault(ok: bool) -> u8
     ensures { λ r. ⌜ r ≡ limitFault ok ⌝ }
 {
     refuse_if(!ok, BEYOND_LIMIT, 0)
+}
+
+// `sheet=`
+pub fn edition_fault(e: u32) -> u8
+    ensures { λ r. ⌜ r ≡ editionFault e ⌝ }
+{
+    refuse_if(!((e == 1) | (e == 2)), BAD_FORM, 0)
 }
 
 pub fn initial_fault(places: u32, initial: u32) -> u8

@@ -9,7 +9,7 @@ use write_items::write_key;
 use write_items::write_mask;
 use write_items::write_number;
 ghost use mathlib.Core.List.{_++_};
-ghost use Rattle.item_spec.specs.Write.{oneText, twoText, fourText};
+ghost use Rattle.item_spec.specs.Write.{oneText, twoText, threeText, fourText};
 ghost use Rattle.write_items.specs.Written.{Written};
 ghost use Rattle.write_spec.specs.Kinds.{setText, setsText, initialText};
 ghost use Rattle.read_sheet_lines.specs.declared.Rows.the-variants.{Ports};
@@ -32,14 +32,20 @@ fn write_pair(t: &mut [u8], at: usize, a: u32, b: u32) -> usize
     write_last(t, end, b)
 }
 
+fn write_three(t: &mut [u8], at: usize, a: u32, b: u32, c: u32) -> usize
+    ensures { λ r. ⌜ Written (now (t .entry)) (threeText a b c) (now (t .exit)) at r ⌝ }
+{
+    let mut end = write_number(t, at, a as usize);
+    end = write_byte(t, end, b',');
+    write_pair(t, end, b, c)
+}
+
 fn write_four(t: &mut [u8], at: usize, a: u32, b: u32, c: u32, d: u32) -> usize
     ensures { λ r. ⌜ Written (now (t .entry)) (fourText a b c d) (now (t .exit)) at r ⌝ }
 {
     let mut end = write_number(t, at, a as usize);
     end = write_byte(t, end, b',');
-    end = write_number(t, end, b as usize);
-    end = write_byte(t, end, b',');
-    write_pair(t, end, c, d)
+    write_three(t, end, b, c, d)
 }
 
 // A key and so many numbers.
@@ -51,6 +57,7 @@ pub fn write_line(t: &mut [u8], key: &[u8], count: u32, a: u32, b: u32, c: u32, 
         0 => at,
         1 => write_last(t, at, a),
         2 => write_pair(t, at, a, b),
+        3 => write_three(t, at, a, b, c),
         _ => write_four(t, at, a, b, c, d),
     }
 }

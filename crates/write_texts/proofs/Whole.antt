@@ -21,7 +21,7 @@ use Rattle.write_items.specs.Written.{Written}
 use Rattle.write_items.proofs.Laws.{fits-all}
 use Rattle.form_cells.specs.Cells.{cellsOf}
 use Rattle.form_cells.proofs.Laws.{cells-length}
-use Rattle.write_spec.specs.Kinds.{limitFault, initialFault}
+use Rattle.write_spec.specs.Kinds.{editionFault, limitFault, initialFault}
 use Rattle.write_spec.specs.Texts.{firstOf, typeText, typeFault, sheetText, sheetFault}
 use Rattle.write_spec.specs.Buffer.{writeNumber, penned, Penned}
 use Rattle.write_spec.proofs.Turns.{or-assoc}
@@ -34,7 +34,7 @@ pub type-parts : (t : Tables) (i : ℕ) → headText t i ++ kindsText t i ≡ ty
 unfolding headText kindsText kindText typeText
 type-parts t i = simp append-assoc
 
-pub sheet-parts : (t : Tables) (p : Program) → firstText (t .depth) ++ partText (bytes "types=") Types t p ++ partText (bytes "program=") Instructions t p ≡ sheetText t p
+pub sheet-parts : (t : Tables) (p : Program) → firstText (p .edition) (t .depth) ++ partText (bytes "types=") Types t p ++ partText (bytes "program=") Instructions t p ≡ sheetText t p
 unfolding firstText partText sheetText
 sheet-parts t p = simp append-assoc
 
@@ -51,10 +51,10 @@ type-numbers t i =
     two-pairs (limitFault (placesOk (v .places))) (initialFault (v .places) (v .initial)) (limitFault (transitionsOk (v .transitions))) (rowsFault Transitions t i (knownOf v) (v .transitions))
     (limitFault (behaviorsOk (v .behaviors))) (rowsFault Behaviors t i (knownOf v) (v .behaviors)) (limitFault (portsOk (v .ports))) (rowsFault Ports t i (knownOf v) (v .ports))
 
-pub sheet-numbers : (t : Tables) (p : Program) → orNumber (limitFault (depthOk (t .depth))) (orNumber (partFault Types t p) (partFault Instructions t p)) ≡ sheetFault t p
+pub sheet-numbers : (t : Tables) (p : Program) → orNumber (editionFault (p .edition)) (orNumber (limitFault (depthOk (t .depth))) (orNumber (partFault Types t p) (partFault Instructions t p))) ≡ sheetFault t p
 unfolding partFault sheetFault
 sheet-numbers t p =
-    ap (λ (n : ℕ). orNumber (limitFault (depthOk (t .depth))) n) (sym (or-assoc (limitFault (typesOk (t .count))) (firstOf (typeFault t) (t .count)) (partFault Instructions t p)))
+    ap (λ (n : ℕ). orNumber (editionFault (p .edition)) (orNumber (limitFault (depthOk (t .depth))) n)) (sym (or-assoc (limitFault (typesOk (t .count))) (firstOf (typeFault t) (t .count)) (partFault Instructions t p)))
 
 -- ---- the lent buffer
 -- what is asked of a length, for a length cut at one byte more than a text may have

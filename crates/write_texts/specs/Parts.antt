@@ -69,8 +69,8 @@ unfoldable pub headFault : Tables → ℕ → ℕ
 headFault t i = orNumber (limitFault (placesOk (typeOf t i .places))) (initialFault (typeOf t i .places) (typeOf t i .initial))
 
 -- the two first lines of a sheet
-unfoldable pub firstText : ℕ → List ℕ
-firstText d = countText (bytes "sheet=") 1 ++ countText (bytes "depth=") d
+unfoldable pub firstText : ℕ → ℕ → List ℕ
+firstText e d = countText (bytes "sheet=") e ++ countText (bytes "depth=") d
 
 -- all types, and the program: how many there are, and may be
 abbrev pub partCount : Part → Tables → Program → ℕ
@@ -84,7 +84,7 @@ partOk Instructions n = programOk n
 -- the number of type i, of instruction i, and of the whole part
 abbrev pub lineFault : Part → Tables → Program → ℕ → ℕ
 lineFault Types t p i = typeFault t i
-lineFault Instructions t p i = doFault (t .count) (instructionRow p i)
+lineFault Instructions t p i = doFault (p .edition) (t .count) (instructionRow p i)
 
 unfoldable pub partFault : Part → Tables → Program → ℕ
 partFault k t p = orNumber (limitFault (partOk k (partCount k t p))) (firstOf (lineFault k t p) (partCount k t p))

@@ -12,11 +12,13 @@ use words::AnswerWords;
 use words::ProgramWords;
 use words::TableWords;
 use words::answer::steps;
+use words::program::edition;
 use words::tables::depth;
 use words::tables::initial_of;
 use words::tables::places_of;
 use words::tables::transitions_of;
 use words::tables::types;
+use write_lines::faults::edition_fault;
 use write_lines::faults::initial_fault;
 use write_lines::faults::limit_fault;
 use write_lines::faults::row_fault;
@@ -98,7 +100,7 @@ fn line_fault(part: Part, tables: &TableWords, program: &ProgramWords, i: u32) -
 {
     match part {
         Part::Types => type_fault(tables, i),
-        Part::Instructions => do_fault(types(tables), instruction_at(program, i)),
+        Part::Instructions => do_fault(edition(program), types(tables), instruction_at(program, i)),
     }
 }
 
@@ -118,10 +120,11 @@ fn part_fault(part: Part, tables: &TableWords, program: &ProgramWords) -> u8
 pub(crate) fn sheet_fault(tables: &TableWords, program: &ProgramWords) -> u8
     ensures { λ r. ⌜ r ≡ sheetFault (tablesIn (now (tables .entry))) (programIn (now (program .entry))) ⌝ }
 {
+    let first = edition_fault(edition(program));
     let deep = limit_fault(depth(tables) <= 8);
     let rows = part_fault(Part::Types, tables, program);
     let lines = part_fault(Part::Instructions, tables, program);
-    or_number(deep, or_number(rows, lines))
+    or_number(first, or_number(deep, or_number(rows, lines)))
 }
 
 pub(crate) fn answer_fault(answer: &AnswerWords) -> u8

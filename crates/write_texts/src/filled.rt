@@ -8,6 +8,7 @@ use crate::rows::count_of;
 use read_sheet_lines::Rows;
 use words::ProgramWords;
 use words::TableWords;
+use words::program::edition;
 use words::program::instructions;
 use words::tables::depth;
 use words::tables::initial_of;
@@ -18,7 +19,7 @@ use write_lines::write_one;
 ghost use mathlib.Core.List.{_++_};
 ghost use Rattle.write_items.specs.Written.{Written};
 ghost use Rattle.words.specs.Words.{tablesIn, programIn};
-ghost use Rattle.write_texts.specs.Form.{typeLinesText, typeRowsText, formLines};
+ghost use Rattle.write_texts.specs.Form.{editionRow, formFirst, typeLinesText, typeRowsText, formLines};
 ghost use Rattle.write_texts.specs.Layouts.{textAs};
 
 // type=, initial=
@@ -51,13 +52,30 @@ pub(crate) fn put_form_type(t: &mut [u8], tables: &TableWords, i: u32) -> usize
     used + put_type_rows(&mut t[used..], tables, i)
 }
 
+// A form for a sheet with tickets opens with its number; no row stands for 1.
+fn put_edition_row(t: &mut [u8], edition: u32) -> usize
+    ensures { λ r. ⌜ Written (now (t .entry)) (editionRow edition) (now (t .exit)) 0 r ⌝ }
+{
+    if edition == 1 {
+        return 0;
+    }
+    write_one(t, b"sheet=", edition)
+}
+
+fn put_form_first(t: &mut [u8], edition: u32, depth: u32) -> usize
+    ensures { λ r. ⌜ Written (now (t .entry)) (formFirst edition depth) (now (t .exit)) 0 r ⌝ }
+{
+    let used = put_edition_row(t, edition);
+    used + write_one(&mut t[used..], b"depth=", depth)
+}
+
 fn put_form(t: &mut [u8], tables: &TableWords, program: &ProgramWords) -> usize
     ensures { λ r. ⌜ Written (now (t .entry)) (formLines (tablesIn (now (tables .entry))) (programIn (now (program .entry)))) (now (t .exit)) 0 r ⌝ }
 {
     let deep = depth(tables);
     let count = types(tables);
     let lines = instructions(program);
-    let mut used = write_one(t, b"depth=", deep);
+    let mut used = put_form_first(t, edition(program), deep);
     used += put_lines(
         &mut t[used..],
         Layout::Form,

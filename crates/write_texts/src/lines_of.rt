@@ -12,6 +12,7 @@ use words::AnswerWords;
 use words::ProgramWords;
 use words::TableWords;
 use words::answer::steps;
+use words::program::edition;
 use words::tables::depth;
 use words::tables::initial_of;
 use words::tables::places_of;
@@ -141,17 +142,17 @@ fn put_part(
 }
 
 // sheet=, depth=
-fn put_first(t: &mut [u8], depth: u32) -> usize
-    ensures { λ r. ⌜ Written (now (t .entry)) (firstText depth) (now (t .exit)) 0 r ⌝ }
+fn put_first(t: &mut [u8], edition: u32, depth: u32) -> usize
+    ensures { λ r. ⌜ Written (now (t .entry)) (firstText edition depth) (now (t .exit)) 0 r ⌝ }
 {
-    let used = write_one(t, b"sheet=", 1);
+    let used = write_one(t, b"sheet=", edition);
     used + write_one(&mut t[used..], b"depth=", depth)
 }
 
 pub(crate) fn put_sheet(t: &mut [u8], tables: &TableWords, program: &ProgramWords) -> usize
     ensures { λ r. ⌜ Written (now (t .entry)) (sheetText (tablesIn (now (tables .entry))) (programIn (now (program .entry)))) (now (t .exit)) 0 r ⌝ }
 {
-    let mut used = put_first(t, depth(tables));
+    let mut used = put_first(t, edition(program), depth(tables));
     used += put_part(&mut t[used..], b"types=", Part::Types, tables, program);
     used
         + put_part(

@@ -1,2 +1,3 @@
--- Limits as they are tested (Limits).
+-- Limits as they are tested (Limits); the number of a verb that no line of the sheet says (Foreign).
 pub mod Limits
+pub mod Foreign

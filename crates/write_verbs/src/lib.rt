@@ -14,7 +14,7 @@ ghost use Rattle.rules_spec.specs.Refusal.{_⇒_∣_};
 ghost use Rattle.write_items.specs.Written.{Written};
 ghost use Rattle.write_spec.specs.Kinds.{doText, doFault, stepText, stepFault};
 ghost use Rattle.write_lines.specs.Numbers.{numbersText};
-ghost use Rattle.write_verbs.specs.Verbs.{asInstruction, asStep, numbersOk, Says};
+ghost use Rattle.write_verbs.specs.Verbs.{asInstruction, asStep, numbersOk, Says, editionOf, isForeign};
 
 // What a line says: a verb's code, then id, number, provider and provideport, 0 for those that it has not.
 pub struct Said(pub u32, pub u32, pub u32, pub u32, pub u32);
@@ -22,9 +22,9 @@ pub struct Said(pub u32, pub u32, pub u32, pub u32, pub u32);
 // The key, how many bytes of it count, how many numbers follow, what each lies below, and the number of a line where they do.
 struct Verb([u8; 12], usize, u32, [u32; 4], u8);
 
-// In a sheet of so many types. A code that no line says has no word.
+// In a sheet of so many types, one with tickets for the verbs that have one. A code that no line says has no word.
 fn do_verb(types: u32, verb: u32) -> Verb
-    ensures { λ r. ⌜ Says r (λ a b c d. doText (anInstruction verb a b c d)) (λ a b c d. doFault types (anInstruction verb a b c d)) ⌝ }
+    ensures { λ r. ⌜ Says r (λ a b c d. doText (anInstruction verb a b c d)) (λ a b c d. doFault (editionOf verb) types (anInstruction verb a b c d)) ⌝ }
 {
     match verb {
         0 => Verb(*b"do=add,     ", 7, 2, [32, types, 0, 0], 0),
@@ -33,6 +33,8 @@ fn do_verb(types: u32, verb: u32) -> Verb
         3 => Verb(*b"do=con,     ", 7, 4, [32, 16, 32, 16], 0),
         4 => Verb(*b"do=dcon,    ", 8, 4, [32, 16, 32, 16], 0),
         5 => Verb(*b"do=wait,    ", 8, 1, [32, 0, 0, 0], 0),
+        6 => Verb(*b"do=pushb,   ", 9, 3, [32, 8, 256, 0], 0),
+        7 => Verb(*b"do=wait,    ", 8, 2, [32, 256, 0, 0], 0),
         _ => Verb(*b"do=\n        ", 4, 0, [0; 4], BAD_FORM),
     }
 }
@@ -71,6 +73,7 @@ fn within(count: u32, below: [u32; 4], x: Said) -> bool
         0 => true,
         1 => id,
         2 => id & number,
+        3 => id & (number & provider),
         _ => id & (number & (provider & provideport)),
     }
 }
@@ -91,10 +94,24 @@ pub fn write_do(t: &mut [u8], x: Said) -> usize
     write_verb(t, verb, x)
 }
 
-// In a sheet of so many types.
-pub fn do_fault(types: u32, x: Said) -> u8
-    ensures { λ r. ⌜ r ≡ doFault types (asInstruction x) ⌝ }
+// A verb that no line says in a sheet that opens with this number: there each push has a ticket, or none has and no wait.
+fn is_foreign(edition: u32, verb: u32) -> bool
+    ensures { λ r. ⌜ r ≡ isForeign edition verb ⌝ }
 {
+    if edition == 2 {
+        verb == 2
+    } else {
+        (verb == 6) | (verb == 7)
+    }
+}
+
+// In a sheet of so many types that opens with this number.
+pub fn do_fault(edition: u32, types: u32, x: Said) -> u8
+    ensures { λ r. ⌜ r ≡ doFault edition types (asInstruction x) ⌝ }
+{
+    if is_foreign(edition, x.0) {
+        return BAD_FORM;
+    }
     verb_fault(do_verb(types, x.0), x)
 }
 

@@ -20,6 +20,8 @@ do-verb-spec =
     (λ c. rw (c .before .before .match .keys4) (record { short = omega arith; text-is = λ a b c d. refl; fault-is = λ a b c d. rw (below a 31, below b 15, below c 31, below d 15) }))
     (λ c. rw (c .before .before .match .keys5) (record { short = omega arith; text-is = λ a b c d. refl; fault-is = λ a b c d. rw (below a 31, below b 15, below c 31, below d 15) }))
     (λ c. rw (c .before .before .match .keys6) (record { short = omega arith; text-is = λ a b c d. refl; fault-is = λ a b c d. rw (below a 31) }))
+    (λ c. rw (c .before .before .match .keys7) (record { short = omega arith; text-is = λ a b c d. refl; fault-is = λ a b c d. rw (below a 31, below b 7, below c 255) }))
+    (λ c. rw (c .before .before .match .keys8) (record { short = omega arith; text-is = λ a b c d. refl; fault-is = λ a b c d. rw (below a 31, below b 255) }))
     (λ c.
     let r = c .before .before .match .rest in
-    rw (ne-eqb _ _ (r .0 .0 .0 .0 .0 .1), ne-eqb _ _ (r .0 .0 .0 .0 .1), ne-eqb _ _ (r .0 .0 .0 .1), ne-eqb _ _ (r .0 .0 .1), ne-eqb _ _ (r .0 .1), ne-eqb _ _ (r .1)) (record { short = omega arith; text-is = λ a b c d. refl; fault-is = λ a b c d. refl })))
+    rw (ne-eqb _ _ (r .0 .0 .0 .0 .0 .0 .0 .1), ne-eqb _ _ (r .0 .0 .0 .0 .0 .0 .1), ne-eqb _ _ (r .0 .0 .0 .0 .0 .1), ne-eqb _ _ (r .0 .0 .0 .0 .1), ne-eqb _ _ (r .0 .0 .0 .1), ne-eqb _ _ (r .0 .0 .1), ne-eqb _ _ (r .0 .1), ne-eqb _ _ (r .1)) (record { short = omega arith; text-is = λ a b c d. refl; fault-is = λ a b c d. refl })))
