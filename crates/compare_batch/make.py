@@ -13,9 +13,11 @@ from cases import cases as plans
 from model import judge
 from pairs import pairs
 from starts import starts
+from tickets import tickets
 
 # a paper of `judge_tests` and a room: no refusal, a refused step, a fault in the sheet, one in the answer, both texts empty, the report's very length, a byte less,
-# none; then papers with a start: no refusal, a refused step, the report's very length, a byte less, and each number of a start
+# none; then papers with a start: no refusal, a refused step, the report's very length, a byte less, and each number of a start; then papers with tickets: a queue of
+# them, their own numbers, a push without one, and the same from a start
 cases = [
     ("pair", 8192),
     ("pair_service_in_use", 16384),
@@ -36,6 +38,18 @@ cases = [
     ("start_with_a_byte_after", 8192),
     ("start_unserved", 8192),
     ("start_good_and_answer_faulty", 8192),
+    ("ticket_shown", 8192),
+    ("ticket_equal", 8192),
+    ("ticket_still_queued", 8192),
+    ("ticket_skipped", 8192),
+    ("ticket_push_without", 8192),
+    ("ticket_sensor", 8192),
+    ("ticket_start_shown", 8192),
+    ("ticket_longest_report", 7574),
+    ("ticket_longest_report", 7573),
+    ("ticket_start_of_six_fields", 8192),
+    ("ticket_start_past_255", 8192),
+    ("ticket_start_that_falls", 8192),
 ]
 
 
@@ -80,7 +94,7 @@ def as_case(case, room):
 
 
 texts = {name: (sheet, None, answer) for name, sheet, answer, _ in pairs}
-texts |= {name: (sheet, start, answer) for name, sheet, start, answer, _ in starts}
+texts |= {name: (sheet, start, answer) for name, sheet, start, answer, _ in starts + tickets}
 planned = list(plans_judged())
 with open(os.path.join(here, "stdin"), "wb") as file:
     file.write(b"".join(as_case(*case) for case in cases))

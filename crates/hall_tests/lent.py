@@ -75,6 +75,9 @@ for word, verb in ("del", DEL), ("wait", WAIT):
     limit(f"{word}_id", f"program.1.verb={verb} program.1.id=?", 31, 32)
     case(f"{word}_has_an_id_alone", base, f"program.1.verb={verb} program.1.number=255 program.1.provider=255 program.1.provideport=255", 0, fired)
 case("add_has_two_numbers", base, "program.1.provider=255 program.1.provideport=255", 0, fired)
+# C-21: "the hall screen keeps to" sheets without tickets; a push and a wait with one have codes of their own, after these six
+for verb in (6, 7, 8):
+    case(f"verb_{verb}_in_the_program", base, f"program.1.verb={verb} program.1.id=0 program.1.number=0 program.1.provider=0 program.1.provideport=0", 7)
 case("an_instruction_past_the_program", base, "program.2.verb=99 program.2.id=99", 0, fired)
 case("the_last_instruction", base, "instructions=256 program.255.verb=6", 7)
 

@@ -181,7 +181,7 @@ def state_of(x):
     state = rules.State(x["depth"] or rules.DEFAULT_DEPTH, types, program)
     for i, v in enumerate(x["instances"]):
         if v["present"]:
-            queue = x["queue"][i * 8 : i * 8 + v["queued"]]
+            queue = [(b, None) for b in x["queue"][i * 8 : i * 8 + v["queued"]]]
             state.instances[i] = rules.Instance(v["kind"], members(v["marked"]), members(v["running"]), members(v["ended"]), queue)
     state.connections.update(connections(x))
     state.done = x["done"]

@@ -1,10 +1,11 @@
-"""make.py: writes data/, args and stdout of the program `judge_tests` from pairs.py, starts.py and model.py, and checks that they agree."""
+"""make.py: writes data/, args and stdout of the program `judge_tests` from pairs.py, starts.py, tickets.py and model.py, and checks that they agree."""
 import os
 import shutil
 
 from model import judge, printed
 from pairs import pairs
 from starts import check_cuts, starts
+from tickets import tickets
 
 here = os.path.dirname(os.path.abspath(__file__))
 
@@ -22,7 +23,7 @@ def expected(name, sheet, start, answer, said):
     return f"case={name}\n{printed(sheet, answer, start)}place={','.join(map(str, judgement.place))}\n"
 
 
-papers = [(name, sheet, None, answer, said) for name, sheet, answer, said in pairs] + starts
+papers = [(name, sheet, None, answer, said) for name, sheet, answer, said in pairs] + starts + tickets
 names = [paper[0] for paper in papers]
 assert len(set(names)) == len(names) and max(map(len, names)) <= 64
 check_cuts()

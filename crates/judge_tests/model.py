@@ -1,11 +1,12 @@
 """The judge in Python, written from document 01 and not from the definitions: what the program `judge_tests` prints is held to it."""
 import re
-from dataclasses import dataclass, field
+from dataclasses import dataclass, field, replace
 
 LONGEST = 32768
 LONGEST_START = 8192  # C-20
 DEFAULT_DEPTH = 8  # the second paper, C-15
 CONNECTIONS = 64
+TICKETS = 256  # C-21
 
 
 class Fault(Exception):
@@ -91,15 +92,16 @@ def count(key, least, greatest):
     return reader
 
 
-def verb(key, limits):
-    """A line of a verb and its numbers; `limits` has for each verb one more than the greatest of each number."""
+def verb(key, *forms):
+    """A line of a verb and its numbers; each form is a verb and, for each number, one more than the greatest."""
 
     def reader(line):
         word, *items = after(key, line).split(b",")
-        if word not in limits or len(items) != len(limits[word]):
+        found = [limits for name, limits in forms if name == word and len(limits) == len(items)]
+        if not found:
             raise Fault(2)
         values = [number(x) for x in items]
-        below(values, limits[word])
+        below(values, found[0])
         return word.decode(), values
 
     return reader
@@ -165,24 +167,31 @@ def read_type(lines, due_number):
 
 def read_sheet(text):
     lines = Lines(text)
-    lines.read(due(b"sheet=", 1))
+
+    def first(line):
+        if number(after(b"sheet=", line)) not in (1, 2):
+            raise Fault(2)
+        return line == b"sheet=2"
+
+    ticketed = lines.read(first)
     depth = lines.read(count(b"depth=", 0, 8))
     types = lines.read(count(b"types=", 1, 16))
     tables = [read_type(lines, i) for i in range(types)]
     ends = [32, 16, 32, 16]
-    limits = {b"add": [32, types], b"del": [32], b"pushb": [32, 8], b"con": ends, b"dcon": ends, b"wait": [32]}
+    forms = [(b"add", [32, types]), (b"del", [32]), (b"con", ends), (b"dcon", ends), (b"wait", [32])]
+    forms += [(b"pushb", [32, 8, TICKETS]), (b"wait", [32, TICKETS])] if ticketed else [(b"pushb", [32, 8])]
     instructions = lines.read(count(b"program=", 0, 256))
-    program = [lines.read(verb(b"do=", limits)) for _ in range(instructions)]
+    program = [lines.read(verb(b"do=", *forms)) for _ in range(instructions)]
     lines.end()
-    return depth or DEFAULT_DEPTH, tables, program
+    return depth or DEFAULT_DEPTH, tables, program, ticketed
 
 
 def read_answer(text):
     lines = Lines(text)
     lines.read(due(b"answer=", 1))
-    limits = {b"next": [], b"fire": [32, 16], b"end": [32, 32], b"enter": [32, 16], b"finish": [32]}
+    forms = (b"next", []), (b"fire", [32, 16]), (b"end", [32, 32]), (b"enter", [32, 16]), (b"finish", [32])
     steps = lines.read(count(b"steps=", 0, 1024))
-    answer = [lines.read(verb(b"step=", limits)) for _ in range(steps)]
+    answer = [lines.read(verb(b"step=", *forms)) for _ in range(steps)]
     lines.end()
     return answer
 
@@ -196,15 +205,16 @@ class Instance:
     marked: set
     running: set = field(default_factory=set)
     ended: set = field(default_factory=set)
-    queue: list = field(default_factory=list)
+    queue: list = field(default_factory=list)  # pairs of a behavior and its ticket, None in a `sheet=1`
+    pushed: list = field(default_factory=list)  # the tickets pushed since the `add`, or known of the start
 
     def held(self):
         return self.running | self.ended
 
 
 class State:
-    def __init__(self, depth, types, program):
-        self.depth, self.types, self.program = depth, types, program
+    def __init__(self, depth, types, program, ticketed=False):
+        self.depth, self.types, self.program, self.ticketed = depth, types, program, ticketed
         self.instances, self.connections, self.done = {}, {}, 0
 
     # -- what is said of an instance
@@ -216,7 +226,7 @@ class State:
     def current(self, instance, place, end):
         """The transitions of the current behavior whose source (end 0) or destination (end 1) is the place."""
         kind = self.types[instance.kind]
-        behavior = kind.behaviors[instance.queue[0]] if instance.queue else set()
+        behavior = kind.behaviors[instance.queue[0][0]] if instance.queue else set()
         return {x for x in behavior if kind.transitions[x][end] == place}
 
     def refusing(self, instance, port):
@@ -225,13 +235,13 @@ class State:
         for place in instance.marked:
             leaving = self.current(instance, place, 0)
             if leaving and not leaving & instance.held():
-                gone = Instance(instance.kind, instance.marked - {place}, instance.running | leaving, instance.ended, instance.queue)
+                gone = replace(instance, marked=instance.marked - {place}, running=instance.running | leaving)
                 if not self.active(gone, port):
                     return True
         for place in range(16):
             entering = self.current(instance, place, 1)
             if entering and entering <= instance.ended and place not in instance.marked:
-                come = Instance(instance.kind, instance.marked | {place}, instance.running - entering, instance.ended - entering, instance.queue)
+                come = replace(instance, marked=instance.marked | {place}, running=instance.running - entering, ended=instance.ended - entering)
                 if not self.active(come, port):
                     return True
         return False
@@ -277,13 +287,17 @@ class State:
             raise Refused(21)
         del self.instances[identity]
 
-    def pushb(self, identity, behavior):
+    def pushb(self, identity, behavior, ticket=None):
         instance = self.present(identity)
         if behavior >= len(self.types[instance.kind].behaviors):
             raise Refused(13)
+        if ticket is not None and any(ticket <= other for other in instance.pushed):
+            raise Refused(19)
         if len(instance.queue) >= self.depth:
             raise Refused(20)
-        instance.queue.append(behavior)
+        instance.queue.append((behavior, ticket))
+        if ticket is not None:
+            instance.pushed.append(ticket)
 
     def con(self, user, useport, provider, provideport):
         self.present(user), self.present(provider)
@@ -304,9 +318,14 @@ class State:
             raise Refused(22)
         del self.connections[user, useport]
 
-    def wait(self, identity):
-        if self.present(identity).queue:
+    def wait(self, identity, ticket=None):
+        instance = self.present(identity)
+        if ticket is None and instance.queue:
             raise Refused(21)
+        if ticket is not None and any(ticket == other for _, other in instance.queue):
+            raise Refused(23)
+        if ticket is not None and ticket not in instance.pushed:
+            raise Refused(24)
 
     # -- moves
 
@@ -324,12 +343,12 @@ class State:
             raise Refused(31)
         if leaving & before.held():
             raise Refused(33)
-        return self.tested(identity, before, Instance(before.kind, before.marked - {place}, before.running | leaving, before.ended, before.queue))
+        return self.tested(identity, before, replace(before, marked=before.marked - {place}, running=before.running | leaving))
 
     def end(self, identity, before, transition):
         if transition not in before.running:
             raise Refused(31)
-        return Instance(before.kind, before.marked, before.running - {transition}, before.ended | {transition}, before.queue)
+        return replace(before, running=before.running - {transition}, ended=before.ended | {transition})
 
     def enter(self, identity, before, place):
         entering = self.current(before, place, 1)
@@ -339,12 +358,12 @@ class State:
             raise Refused(31)
         if place in before.marked:
             raise Refused(33)
-        return self.tested(identity, before, Instance(before.kind, before.marked | {place}, before.running - entering, before.ended - entering, before.queue))
+        return self.tested(identity, before, replace(before, marked=before.marked | {place}, running=before.running - entering, ended=before.ended - entering))
 
     def finish(self, identity, before, _):
         if before.held() or any(self.current(before, place, 0) for place in before.marked):
             raise Refused(37)
-        return Instance(before.kind, before.marked, before.running, before.ended, before.queue[1:])
+        return replace(before, queue=before.queue[1:])
 
     def tested(self, identity, before, moved):
         """The port checks of a fire or an enter, each over all ports before the next."""
@@ -377,7 +396,8 @@ class State:
         lines = [f"accepted={accepted}", f"refused={refused}", f"port={port}", f"next={self.done}", f"instances={len(self.instances)}"]
         for identity, x in sorted(self.instances.items()):
             sets = ",".join(joined(sorted(values)) for values in (x.marked, x.running, x.ended))
-            lines.append(f"instance={identity},{x.kind},{sets},{joined(x.queue)}")
+            queue = [f"{behavior}:{ticket}" if self.ticketed else behavior for behavior, ticket in x.queue]
+            lines.append(f"instance={identity},{x.kind},{sets},{joined(queue)}")
         lines.append(f"connections={len(self.connections)}")
         for user, provider in sorted(self.connections.items()):
             lines.append("connection=%d,%d,%d,%d" % (user + provider))
@@ -387,8 +407,14 @@ class State:
 # ---- a start: the second paper, C-20
 
 
-def queued(item):
-    return [] if item == b"-" else [number(x) for x in item.split(b"+")]
+def queued(item, ticketed):
+    """Pairs of a behavior and its ticket, C-21's `behavior:ticket`; None stands for the ticket in a `sheet=1`."""
+    if item == b"-":
+        return []
+    parts = [x.split(b":") for x in item.split(b"+")]
+    if any(len(x) != 1 + ticketed for x in parts):
+        raise Fault(2)
+    return [(number(x[0]), number(x[1]) if ticketed else None) for x in parts]
 
 
 def read_start(text, state):
@@ -398,22 +424,29 @@ def read_start(text, state):
 
     def instance(line):
         items = after(b"instance=", line).split(b",")
-        if len(items) != 6:
+        if len(items) != 6 + state.ticketed:
             raise Fault(2)
         identity, kind = number(items[0]), number(items[1])
         marked, running, ended = (members(x) for x in items[2:5])
-        queue = queued(items[5])
+        queue = queued(items[5], state.ticketed)
+        # the last ticket pushed, "`-` for none"
+        last = None if not state.ticketed or items[6] == b"-" else number(items[6])
+        behaviors, tickets = [x for x, _ in queue], [x for _, x in queue if x is not None]
+        pushed = tickets or ([] if last is None else [last])
         below([identity, kind], [32, len(state.types)])
         own = state.types[kind]
         below(marked, [own.places] * len(marked))
         below(running + ended, [len(own.transitions)] * len(running + ended))
-        below(queue + [len(queue)], [len(own.behaviors)] * len(queue) + [state.depth + 1])
+        below(behaviors + [len(queue)], [len(own.behaviors)] * len(queue) + [state.depth + 1])
+        below(tickets + ([] if last is None else [last]), [TICKETS] * (len(queue) + 1))
         held = set(running) | set(ended)
         if any(identity <= other for other in state.instances):
             raise Fault(4)
-        if set(running) & set(ended) or not held <= (own.behaviors[queue[0]] if queue else set()):
+        if set(running) & set(ended) or not held <= (own.behaviors[behaviors[0]] if queue else set()):
             raise Fault(4)
-        state.instances[identity] = Instance(kind, set(marked), set(running), set(ended), queue)
+        if tickets and (tickets != sorted(set(tickets)) or last != tickets[-1]):
+            raise Fault(4)
+        state.instances[identity] = Instance(kind, set(marked), set(running), set(ended), queue, pushed)
 
     for _ in range(lines.read(count(b"instances=", 0, 32))):
         lines.read(instance)

@@ -10,8 +10,9 @@ def flat(items):
             yield from flat(x)
 
 
-def sheet(types, program, depth=0):
-    out = ["sheet=1", f"depth={depth}", f"types={len(types)}"]
+def sheet(types, program, depth=0, first=1):
+    """`first` is the number of the first line: 2 for a sheet with tickets."""
+    out = [f"sheet={first}", f"depth={depth}", f"types={len(types)}"]
     for i, (places, initial, trans, behaviors, ports) in enumerate(types):
         out += [f"type={i}", f"places={places}", f"initial={initial}", f"transitions={len(trans)}"]
         out += [f"tran={x}" for x in trans] + [f"behaviors={len(behaviors)}"] + [f"behavior={x}" for x in behaviors]

@@ -195,7 +195,7 @@ fault("answer_of_the_greatest_length", P, good + "#" * (32768 - len(good)), "ans
 fault("answer_too_long", P, good + "#" * (32769 - len(good)), "answer", 0, 1)
 fault("both_too_long", filled + "#", filled + "#", "sheet", 0, 1)
 fault("answer_too_long_and_faulty_sheet", "", filled + "#", "answer", 0, 1)
-fault("both_faulty", "sheet=2\n", "answer=2\n", "sheet", 1, 2)
+fault("both_faulty", "sheet=3\n", "answer=2\n", "sheet", 1, 2)
 fault("sheet_ended_early", P[: P.index("program=")], good, "sheet", 26, 2)
 fault("sheet_ended_in_a_line", P[:-1], good, "sheet", last, 2)
 fault("sheet_with_a_byte_after", P + "#", good, "sheet", last + 1, 5)
@@ -219,7 +219,7 @@ def changed(name, text, old, new, refused):
 
 
 for name, old, new, refused in (
-    ("first_line_of_another_number", "sheet=1", "sheet=2", 2),
+    ("first_line_of_another_number", "sheet=1", "sheet=3", 2),
     ("first_line_of_a_great_number", "sheet=1", "sheet=99999", 2),
     ("key_in_upper_case", "depth=0", "Depth=0", 2),
     ("line_left_out", "depth=0\ntypes=2", "types=2", 2),

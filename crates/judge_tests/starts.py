@@ -101,7 +101,7 @@ fault("sheet_and_answer_too_long", served, 0, 1, text=long_text, steps=long_text
 fault("all_three_too_long", long_start, 0, 1, text=long_text, steps=long_text, which="sheet")
 fault("start_too_long_and_faulty_sheet", long_start, 0, 1, text="", steps="")
 fault("start_faulty_and_answer_too_long", "", 0, 1, steps=long_text, which="answer")
-fault("sheet_and_start_faulty", "start=2\n", 1, 2, text="sheet=2\n", which="sheet")
+fault("sheet_and_start_faulty", "start=2\n", 1, 2, text="sheet=3\n", which="sheet")
 fault("sheet_going_on_and_start_faulty", "start=2\n", 1 + P.count("\n"), 5, text=P + "#", which="sheet")
 fault("start_and_answer_faulty", "start=2\n", 1, 2, steps="")
 fault("start_good_and_answer_faulty", served, 1, 2, steps="answer=2\n", which="answer")

@@ -121,7 +121,7 @@ put("sheet", "bytes_32769_of_nothing", "\0" * 32769, 1)
 # ---- the first lines and the numbers due
 for kind, lines, first in (("sheet", P, "sheet=1"), ("answer", A, "answer=1")):
     word = key(first)
-    for n, new in enumerate((f"{word}=2", f"{word}=0", f"{word}=01", f"{word}=99999", f"{word}=", f"{word}=1 ", word.upper() + "=1", " " + first, first + "\r", "", f"{word}=-1", f"{word}=100000")):
+    for n, new in enumerate((f"{word}=3" if word == "sheet" else f"{word}=2", f"{word}=0", f"{word}=01", f"{word}=99999", f"{word}=", f"{word}=1 ", word.upper() + "=1", " " + first, first + "\r", "", f"{word}=-1", f"{word}=100000")):
         swap(kind, f"first_{n}", lines, first, new, 2)
 for n, new in enumerate(("type=0", "type=2", "type=99999", "type=01", "type=-")):
     swap("sheet", f"type_due_{n}", P, "type=1", new, 2)
@@ -184,6 +184,23 @@ for n, (new, number) in enumerate((
     ("dcon,0,16,0,0", 3), ("dcon,0,0,32,0", 3), ("dcon,0,0,0,16", 3), ("wait,31", 0), ("wait,32", 3), ("wait,31,0", 2), ("wait", 2), ("Add,0,0", 2), ("push,0,0", 2), ("", 2), ("add, 0,0", 2), ("add,00,0", 2), ("add,0,0\r", 2),
 )):
     swap("sheet", f"do_{n}", P, "do=add,1,1", "do=" + new, number)
+
+# ---- a sheet with tickets: its first line, and the do lines that it has others of
+T = ["sheet=2"] + sheet(program=("add,0,0", "add,1,1", "con,1,0,0,0", "pushb,0,0,0", "pushb,1,0,255", "wait,0,255", "wait,1"))[1:]
+put("sheet", "tickets", joined(T))
+put("sheet", "tickets_and_no_program", joined(["sheet=2"] + sheet(program=())[1:]))
+for n, new in enumerate(("sheet=3", "sheet=0", "sheet=02", "sheet=22", "sheet=2 ", "sheet=2,", "sheet=")):
+    swap("sheet", f"tickets_first_{n}", T, "sheet=2", new, 2)
+put("sheet", "tickets_where_none_is_due", joined(["sheet=1"] + T[1:]), 2, T.index("do=pushb,0,0,0") + 1)
+put("sheet", "tickets_missing", joined(["sheet=2"] + P[1:]), 2, P.index("do=pushb,0,0") + 1)
+for n, (new, number) in enumerate((
+    ("pushb,31,7,255", 0), ("pushb,0,0,256", 3), ("pushb,0,8,0", 3), ("pushb,32,0,0", 3), ("pushb,0,0,99999", 3), ("pushb,0,0", 2), ("pushb,0,0,", 2), ("pushb,0,0,00", 2), ("pushb,0,0,0,0", 2), ("pushb,0,0,100000", 2), ("pushb,0,0:0", 2),
+    ("pushb,32,8,x", 2), ("wait,31,255", 0), ("wait,31", 0), ("wait,0,0", 0), ("wait,0,256", 3), ("wait,32,0", 3), ("wait,32", 3), ("wait,0,", 2), ("wait,0,1,2", 2), ("wait,0,01", 2), ("wait,32,x", 2), ("wait,", 2), ("wait", 2), ("del,0,0", 2), ("add,0,0,0", 2),
+)):
+    swap("sheet", f"tickets_do_{n}", T, "do=pushb,0,0,0", "do=" + new, number)
+# and of those lines none in a sheet without tickets
+for n, new in enumerate(("pushb,0,0,0", "pushb,0,0,256", "wait,0,0", "wait,0,256")):
+    swap("sheet", f"no_tickets_do_{n}", P, "do=add,1,1", "do=" + new, 2)
 
 # ---- step lines
 for n, (new, number) in enumerate((

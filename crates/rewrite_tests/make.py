@@ -30,11 +30,20 @@ def depth(written):
     return old.replace("depth=0", f"depth={written}")
 
 
+def ticketed():
+    """The old sheet with tickets, C-21: each push has the next one."""
+    lines = old.replace("sheet=1", "sheet=2").splitlines()
+    return "".join(f"{line},{n}\n" if line.startswith("do=pushb") else f"{line}\n" for n, line in enumerate(lines))
+
+
 # a sheet, and the refusal's number and line; 0, 0 where it is rewritten
 last = old.count("\n")
 sheets = {"old": (old, 0, 0), "longest": (longest, 0, 0)}
 sheets |= {f"depth_{d}": (depth(d), 0, 0) for d in range(1, 9)}
 sheets |= {
+    "tickets": (ticketed(), 0, 0),
+    "tickets_missing": (old.replace("sheet=1", "sheet=2"), 2, old[: old.index("do=pushb")].count("\n") + 1),
+    "sheet_3": (old.replace("sheet=1", "sheet=3"), 2, 1),
     "depth_9": (depth(9), 3, 2),
     "depth_00": (depth("00"), 2, 2),
     "empty": ("", 2, 1),
@@ -46,7 +55,7 @@ sheets |= {
     "too_long": (longest + "x", 1, 0),
     "too_long_of_nothing": ("\0" * 32769, 1, 0),
 }
-cases = [("old", a) for a in answers] + [(f"depth_{d}", "fifth") for d in range(1, 9)] + [("depth_4", "good"), ("longest", "good")]
+cases = [("old", a) for a in answers] + [(f"depth_{d}", "fifth") for d in range(1, 9)] + [("depth_4", "good"), ("longest", "good"), ("tickets", "good"), ("tickets", "fifth")]
 cases += [(name, "good") for name, (_, refused, _) in sheets.items() if refused]
 room = 32768
 

@@ -150,7 +150,7 @@ fault("times_of_the_greatest_length", some + "#" * (32768 - len(some)), 6, 40)
 fault("times_too_long", some + "#" * (32769 - len(some)), 0, 40, steps=too_soon)
 
 # ---- faults of the sheet and of the answer come before those of the times, and these before any step
-fault("sheet_and_times_faulty", "", 1, 2, text="sheet=2\n", which="sheet")
+fault("sheet_and_times_faulty", "", 1, 2, text="sheet=3\n", which="sheet")
 fault("sheet_going_on_and_times_faulty", "times=2\n", 1 + twins.count("\n"), 5, text=twins + "#", which="sheet")
 fault("answer_and_times_faulty", times(0), 2, 3, steps="answer=1\nsteps=1025\n", which="answer")
 fault("answer_faulty_and_times_too_long", "#" * 32769, 1, 2, steps="answer=2\n", which="answer")
@@ -188,3 +188,21 @@ fault("start_faulty_and_times_too_long", "#" * 32769, 3, 4, which="start", first
 fault("start_good_answer_and_times_faulty", "", 1, 2, steps="", which="answer", first=running)
 fault("start_good_and_times_faulty", times(0), 2, 41, first=running)
 fault("sheet_and_start_and_times_faulty", "", 1, 2, text="", which="sheet", first="")
+
+# ---- sheets with tickets, C-21
+ticketed = sheet([alone], ["add,0,0", "add,1,0", "pushb,0,0,7", "pushb,1,0,7"], first=2)
+case("tickets_at_once", ticketed, together, seconds(15, 20, 30), 500)
+case("tickets_one_after_the_other", ticketed, one_by_one, seconds(15, 20, 30), 300)
+case("tickets_shown_before_the_mark", ticketed, answer(nexts(4), "fire,0,0"), seconds(15, 20, 30), 1000)
+waiting = sheet([provider], ["add,0,0", "pushb,0,0,0", "pushb,0,1,255", "wait,0,0", "wait,0,255"], first=2)
+turn = [nexts(3), up0, "finish,0", "next", move(0, 1, 1, 0), "finish,0", "next"]
+case("tickets_waited_for", waiting, answer(*turn), times(30, "0,0,20", "0,1,20"), 750)
+case("ticket_still_queued", waiting, answer(*turn[:4], nexts(2)), times(30, "0,0,20", "0,1,20"), 0, 23)
+case("ticket_never_pushed", waiting.replace("wait,0,0", "wait,0,1"), answer(*turn), times(30, "0,0,20", "0,1,20"), 0, 24)
+case("ticket_not_above_the_last", waiting.replace("pushb,0,1,255", "pushb,0,1,0"), answer(*turn), times(30, "0,0,20", "0,1,20"), 0, 19)
+case("tickets_running_at_the_start", sheet([alone], ["wait,0,4"], first=2), answer("end,0,0", "enter,0,1", "finish,0", "next"), times(15, "0,0,20"), 750, first=start(["0,0,-,0,-,0:4,4"]))
+sensor = {name: example(name, "sensor") for name in ("sheet", "start", "answer")}
+case("sensor", sensor["sheet"], sensor["answer"], times(60, "0,1,20", "0,2,10", "0,3,30", "1,3,15", "1,4,10", "1,5,5", "1,6,5"), 706, first=sensor["start"])
+fault("tickets_and_times_2", "times=2\npar=1\nrows=0\n", 1, 40, text=ticketed)
+fault("tickets_missing", some, ticketed[: ticketed.index("do=pushb")].count("\n") + 1, 2, text=ticketed.replace(",0,7", ",0"), which="sheet")
+fault("tickets_missing_at_the_start", some, 3, 2, text=ticketed, which="start", first=running)

@@ -12,6 +12,7 @@ HERE = os.path.dirname(os.path.abspath(__file__))
 TEXTS = os.path.join(HERE, "..", "judge_tests", "data")
 ROOM = 40000
 VERBS = {"add": 0, "del": 1, "pushb": 2, "con": 3, "dcon": 4, "wait": 5}
+TICKETED = {6: ("pushb", 3), 7: ("wait", 2)}  # the verbs of a sheet with tickets: the word, how many numbers
 MOVES = {"next": 0, "fire": 1, "end": 2, "enter": 3, "finish": 4}
 cases = []  # name, file, lines of stdout
 
@@ -39,13 +40,16 @@ class Type:
         )
 
 
-def sheet(types, program, depth=0):
+def sheet(types, program, depth=0, edition=1):
     def line(x):
+        if x[0] in TICKETED:
+            verb, n = TICKETED[x[0]]
+            return f"do={verb}," + ",".join(str(v) for v in x[1:1 + n]) + "\n"
         verb = [v for v in VERBS if VERBS[v] == x[0]][0]
         return f"do={verb}," + ",".join(str(n) for n in x[1:1 + {"add": 2, "pushb": 2, "con": 4, "dcon": 4}.get(verb, 1)]) + "\n"
 
     return (
-        f"sheet=1\ndepth={depth}\ntypes={len(types)}\n" + "".join(t.text(i) for i, t in enumerate(types))
+        f"sheet={edition}\ndepth={depth}\ntypes={len(types)}\n" + "".join(t.text(i) for i, t in enumerate(types))
         + f"program={len(program)}\n" + "".join(line(x) for x in program)
     )
 
@@ -58,8 +62,8 @@ def answer(steps):
     return f"answer=1\nsteps={len(steps)}\n" + "".join(line(x) for x in steps)
 
 
-def table_words(types, program, depth=0):
-    w = {2000: depth, 2001: len(types), 2002 + 1280: len(program)}
+def table_words(types, program, depth=0, edition=1):
+    w = {2000: depth, 2001: len(types), 2002 + 1280: len(program), 2002 + 1281: edition}
     for i, t in enumerate(types):
         for f, v in enumerate((t.places, t.initial, len(t.trans), len(t.behaviors), len(t.ports))):
             w[1920 + i * 5 + f] = v
@@ -97,9 +101,9 @@ def put(name, words, text, refused=0, room=ROOM):
     cases.append((f"{name}.words", data, "".join(shown)))
 
 
-def tables(name, types, program, depth=0, refused=0, room=ROOM, more=None):
-    text = sheet(types, program, depth) if refused == 0 else ""
-    put(name, {**table_words(types, program, depth), **(more or {})}, text, refused, room)
+def tables(name, types, program, depth=0, refused=0, room=ROOM, more=None, edition=1):
+    text = sheet(types, program, depth, edition) if refused == 0 else ""
+    put(name, {**table_words(types, program, depth, edition), **(more or {})}, text, refused, room)
 
 
 def steps(name, lines, refused=0, room=ROOM, more=None):
@@ -162,9 +166,24 @@ for verb, good, bad in (
     tables(f"{verb}_at_its_greatest", pair, [(VERBS[verb],) + good])
     for i, numbers in enumerate(bad):
         tables(f"{verb}_past_it_{i}", pair, [(VERBS[verb],) + numbers], refused=3)
-tables("verb_6", pair, [(6, 99)], refused=2)
+tables("verb_8", pair, [(8, 99)], refused=2)
+
+# ---- a sheet with tickets: its verbs at their greatest and past it, and each verb in the other kind of sheet
+tickets = [(0, 0, 0), (6, 0, 0, 0), (6, 0, 1, 255), (7, 0, 0), (5, 0)]
+tables("tickets", pair, tickets, edition=2)
+tables("push_with_ticket_at_its_greatest", pair, [(6, 31, 7, 255)], edition=2)
+for i, numbers in enumerate(((32, 0, 0), (0, 8, 0), (0, 0, 256), (0, 0, 100000))):
+    tables(f"push_with_ticket_past_it_{i}", pair, [(6,) + numbers], refused=3, edition=2)
+tables("wait_for_one_at_its_greatest", pair, [(7, 31, 255)], edition=2)
+for i, numbers in enumerate(((32, 0), (0, 256))):
+    tables(f"wait_for_one_past_it_{i}", pair, [(7,) + numbers], refused=3, edition=2)
+tables("push_without_ticket_where_all_have_one", pair, [(2, 99, 99)], refused=2, edition=2)
+tables("push_with_ticket_where_none_has_one", pair, [(6, 99, 99, 999)], refused=2)
+tables("wait_for_one_where_none_has_one", pair, [(7, 99, 999)], refused=2)
+for edition in (0, 3, 100000):
+    tables(f"edition_{edition}", pair, P, 9, refused=2, edition=edition)
 tables("first_fault_of_two", [Type(2, 1, [(1, 1)], [], [])], [], 9, 3)
-tables("second_type_at_fault", [Type(), Type(2, 0, [], [], [])], [(6, 0)], refused=4)
+tables("second_type_at_fault", [Type(), Type(2, 0, [], [], [])], [(8, 0)], refused=4)
 
 # ---- what no line says is not looked at
 free = {**{p: 7777777 for p in range(3283)}, **table_words(pair, P)}
@@ -235,7 +254,7 @@ steps("answer_at_fault_and_no_room", [(5,)], 2, 0)
 for name in """all_busy concerto_d_taken_down concerto_deleted_while_linked concerto_disconnected_from_the_ip concerto_maintain concerto_name_not_unique
 concerto_update concerto_update_with_a_barrier connection_64 connection_65 counts_at_their_greatest del_of_connected_with_queue head_goes_rest_moves_up
 in_use_at_enter last_token_refuses list_and_port_empty madeus_check_before_the_service madeus_without_docks old_marks_gone one_of_two_tokens_leaves
-provide_port_serves_many second_push_at_depth_1 steps_at_their_greatest use_port_connected_twice""".split():
+provide_port_serves_many second_push_at_depth_1 steps_at_their_greatest use_port_connected_twice ticket_256_pushes ticket_no_push_at_all ticket_sensor""".split():
     same(name + ".sheet")
     same(name + ".answer")
 

@@ -4,6 +4,7 @@
 use words::ProgramWords;
 use words::StateWords;
 use words::TableWords;
+use words::program::put_edition;
 use words::program::put_instruction;
 use words::program::put_instructions;
 use words::state::clear_state;
@@ -104,6 +105,7 @@ fn fill_instruction(program: &mut ProgramWords, bytes: &[u8; BYTES], n: u32)
 
 pub(crate) fn fill_program(program: &mut ProgramWords, bytes: &[u8; BYTES]) {
     put_instructions(program, mask_at(bytes, 5250));
+    put_edition(program, 1);
     for n in 0..256u32 {
         fill_instruction(program, bytes, n);
     }

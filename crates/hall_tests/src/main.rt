@@ -83,7 +83,7 @@ fn lend(
 fn run_case(name: &[u8; 64], size: usize, bytes: &[u8; BYTES]) {
     let mut tables: TableWords = [0; 2002];
     fill_tables(&mut tables, bytes);
-    let mut program: ProgramWords = [0; 1281];
+    let mut program: ProgramWords = [0; 1282];
     fill_program(&mut program, bytes);
     let mut state: StateWords = [0; 930];
     fill_state(&mut state, bytes);

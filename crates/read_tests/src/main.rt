@@ -37,7 +37,7 @@ fn write_reading(name: &[u8], text: &[u8], refused: u8, place: usize) {
 fn read_text(name: &[u8], text: &[u8]) {
     if ends_in(name, b".sheet") {
         let mut tables = [0u32; 2002];
-        let mut program = [0u32; 1281];
+        let mut program = [0u32; 1282];
         let read = read_sheet::fill_sheet(text, &mut tables, &mut program);
         write_reading(name, text, read.refused, read.place);
     }

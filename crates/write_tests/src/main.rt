@@ -19,7 +19,7 @@ fn ends_in(name: &[u8], end: &[u8]) -> bool {
     check::same(&name[start..], end)
 }
 
-fn pen_sheet(tables: &[u32; 2002], program: &[u32; 1281], out: &mut [u8]) -> Written
+fn pen_sheet(tables: &[u32; 2002], program: &[u32; 1282], out: &mut [u8]) -> Written
     ensures { λ r. ⌜ Counts (r .bytes) (now (out .exit)) ⌝ }
 {
     write_texts::write_sheet(tables, program, out)
@@ -31,14 +31,14 @@ fn pen_answer(answer: &[u32; 3073], out: &mut [u8]) -> Written
     write_texts::write_answer(answer, out)
 }
 
-fn pen_form(tables: &[u32; 2002], program: &[u32; 1281], out: &mut [u8]) -> Written
+fn pen_form(tables: &[u32; 2002], program: &[u32; 1282], out: &mut [u8]) -> Written
     ensures { λ r. ⌜ Counts (r .bytes) (now (out .exit)) ⌝ }
 {
     write_texts::write_form(tables, program, out)
 }
 
 // Through a form and back.
-fn through_form(tables: &mut [u32; 2002], program: &mut [u32; 1281]) {
+fn through_form(tables: &mut [u32; 2002], program: &mut [u32; 1282]) {
     let mut out = [0u8; 32768];
     let written = pen_form(tables, program, &mut out);
     let bytes = written.bytes;
@@ -49,7 +49,7 @@ fn through_form(tables: &mut [u32; 2002], program: &mut [u32; 1281]) {
 
 fn same_sheet(text: &[u8]) -> bool {
     let mut tables = [0u32; 2002];
-    let mut program = [0u32; 1281];
+    let mut program = [0u32; 1282];
     read_sheet::fill_sheet(text, &mut tables, &mut program);
     let mut out = [0u8; 32768];
     let written = pen_sheet(&tables, &program, &mut out);
@@ -118,9 +118,9 @@ fn show_written(refused: u8, bytes: usize, read: u8, out: &[u8]) {
 
 fn write_sheet(all: &[u32; 6358], out: &mut [u8]) {
     let mut tables = [0u32; 2002];
-    let mut program = [0u32; 1281];
+    let mut program = [0u32; 1282];
     lend(all, 0, 2002, &mut tables);
-    lend(all, 2002, 1281, &mut program);
+    lend(all, 2002, 1282, &mut program);
     let written = pen_sheet(&tables, &program, out);
     let bytes = written.bytes;
     let read = read_sheet::fill_sheet(&out[..bytes], &mut tables, &mut program);

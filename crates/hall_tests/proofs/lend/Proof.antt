@@ -69,7 +69,7 @@ abbrev TT : RattleType
 TT = Array u32 tt 2002
 
 abbrev PP : RattleType
-PP = Array u32 tt 1281
+PP = Array u32 tt 1282
 
 abbrev Words : Type 0
 Words = List ℕ

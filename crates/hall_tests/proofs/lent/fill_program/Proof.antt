@@ -10,4 +10,4 @@ abbrev μ-loop : tie.MeasureT-loop
 μ-loop program₀ bytes n₀ program n = 256 - n
 
 pub fill-program-spec : {M : Type 1} → statement M
-fill-program-spec = tie.close (tie.spec Inv-loop μ-loop (λ c κs. search needs) (λ c κs. search needs) (λ c. search needs) (λ c κs. search needs) (λ c. search needs) (λ c. search needs) (λ c. search needs) (λ c. search needs))
+fill-program-spec = tie.close (tie.spec Inv-loop μ-loop (λ c κs. search needs) (λ c κs. search needs) (λ c κs. search needs) (λ c. search needs) (λ c κs. search needs) (λ c. search needs) (λ c. search needs) (λ c. search needs) (λ c. search needs))
