@@ -23,8 +23,8 @@ struct stream { uint8_t *bytes; size_t length, size; };
 /* The cases of one run of the command, what is expected of it, and where each case starts in both. */
 struct cases { struct stream input, expected; size_t input_at[AT_ONCE + 1], expected_at[AT_ONCE + 1]; unsigned count; };
 
-/* The number of a case, whether it has a start, and whether the number is one of the start. */
-struct tally { unsigned number; bool started, of_start; };
+/* The number of a case, whether it has a start and whether the number is one of the start, and whether its sheet has tickets. */
+struct tally { unsigned number; bool started, of_start, ticketed; };
 
 /* Appends a case and its answer. */
 typedef struct tally appender(uint64_t seed, uint64_t index, struct cases *cases);
@@ -34,7 +34,7 @@ struct job {
     const char *folder;
     char **command;
     uint64_t count, seen[NUMBERS], total;
-    uint64_t seen_of_start[NUMBERS], started;
+    uint64_t seen_of_start[NUMBERS], seen_of_both[NUMBERS], started, ticketed, both;
     const char *kind;
     bool texts;                       /* whether a case is texts */
 };
@@ -110,7 +110,7 @@ static struct tally append_answer(struct stream *s, const struct pair *pair, jud
     judge(&texts, report, pair->room, &result);
     append_bytes(s, line, result_line(line, &result));
     append_bytes(s, report, result.length);
-    return (struct tally){ result.refused, pair->started, result.text == START };
+    return (struct tally){ result.refused, pair->started, result.text == START, pair->ticketed };
 }
 
 static struct tally append_pair(uint64_t seed, uint64_t index, struct cases *cases)
@@ -152,7 +152,7 @@ static struct tally append_hall(uint64_t seed, uint64_t index, struct cases *cas
     uint8_t *first = make_room(&cases->expected, LONGEST_HALL_ANSWER), *at = ink_number(ink_byte(first, 'c'), (uint32_t)index);
     at = ink_changes(ink_refusal(at, refusal), before, after);
     cases->expected.length += (size_t)(ink_byte(at, '\n') - first);
-    return (struct tally){ refusal.number, false, false };
+    return (struct tally){ refusal.number, false, false, false };
 }
 
 static void make_cases(struct job *job, uint64_t seed, uint64_t from, uint64_t count, struct cases *cases)
@@ -165,7 +165,10 @@ static void make_cases(struct job *job, uint64_t seed, uint64_t from, uint64_t c
         struct tally tally = job->append(seed, from + k, cases);
         job->seen[tally.number]++;
         job->started += tally.started;
+        job->ticketed += tally.ticketed;
+        job->both += tally.started && tally.ticketed;
         job->seen_of_start[tally.number] += tally.of_start;
+        job->seen_of_both[tally.number] += tally.started && tally.ticketed && (tally.of_start || tally.number >= 10);
     }
     cases->input_at[count] = cases->input.length;
     cases->expected_at[count] = cases->expected.length;
@@ -294,18 +297,27 @@ static bool share(unsigned number, uint64_t seen, uint64_t total, unsigned many)
     return !rare;
 }
 
-/* Prints the shares; whether each number that must occur has half a percent, and each of a start one percent of the starts. */
+/* The same of the cases of one kind, where there are any: whether each of their own numbers has one percent of them. */
+static bool shares_of(const char *kind, uint64_t total, const uint64_t *seen, const unsigned *numbers, unsigned count)
+{
+    bool enough = true;
+    if (total > 0) fprintf(stderr, "%" PRIu64 " with %s, whose own numbers are\n", total, kind);
+    for (unsigned k = 0; total > 0 && k < count; k++) enough = share(numbers[k], seen[numbers[k]], total, 100) && enough;
+    return enough;
+}
+
+/* Prints the shares; whether each number that must occur has half a percent, and each of a start, of tickets and of a start with tickets
+   one percent of these. */
 static bool shares(const struct job *job)
 {
-    static const unsigned of_start[] = { 1, 2, 3, 4, 5, 50 };
+    static const unsigned of_start[] = { 1, 2, 3, 4, 5, 50 }, of_tickets[] = { 19, 23, 24 }, of_both[] = { 2, 3, 4, 50, 19, 23, 24 };
     bool enough = true;
     fprintf(stderr, "%" PRIu64 " cases of %s\n", job->total, job->kind);
     for (unsigned number = 0; number < NUMBERS; number++)
         if (due(job, number)) enough = share(number, job->seen[number], job->total, 200) && enough;
-    if (job->started == 0) return enough;
-    fprintf(stderr, "%" PRIu64 " with a start, whose own numbers are\n", job->started);
-    for (unsigned k = 0; k < 6; k++) enough = share(of_start[k], job->seen_of_start[of_start[k]], job->started, 100) && enough;
-    return enough;
+    enough = shares_of("a start", job->started, job->seen_of_start, of_start, 6) && enough;
+    enough = shares_of("tickets", job->ticketed, job->seen, of_tickets, 3) && enough;
+    return shares_of("a start and tickets", job->both, job->seen_of_both, of_both, 7) && enough;
 }
 
 int main(int argc, char **argv)

@@ -239,10 +239,10 @@ static const struct edge rows[] = {
     { "initial=", 4, { 0, 15, 16, 32 } }, { "transitions=", 3, { 0, 32, 33 } }, { "tran=", 5, { 0, 1, 2, 15, 16 } },
     { "behaviors=", 3, { 0, 8, 9 } }, { "behavior=", 5, { 0, 1, 2, 31, 32 } }, { "ports=", 3, { 0, 16, 17 } },
     { "port=", 6, { 0, 1, 15, 16, 31, 32 } }, { "program=", 3, { 0, 256, 257 } }, { "do=add", 6, { 0, 1, 2, 16, 31, 32 } },
-    { "do=del", 3, { 0, 31, 32 } }, { "do=pushb", 3, { 8, 31, 32 } }, { "do=con", 2, { 16, 32 } }, { "do=con", 2, { 16, 32 } },
-    { "do=dcon", 2, { 16, 32 } }, { "do=dcon", 2, { 16, 32 } }, { "do=wait", 3, { 0, 31, 32 } },
+    { "do=del", 3, { 0, 31, 32 } }, { "do=pushb", 5, { 8, 31, 32, 255, 256 } }, { "do=con", 2, { 16, 32 } }, { "do=con", 2, { 16, 32 } },
+    { "do=dcon", 2, { 16, 32 } }, { "do=dcon", 2, { 16, 32 } }, { "do=wait", 5, { 0, 31, 32, 255, 256 } },
     { "steps=", 4, { 0, 1, 1024, 1025 } }, { "step=fire", 3, { 16, 31, 32 } }, { "step=end", 3, { 16, 31, 32 } },
-    { "step=enter", 3, { 16, 31, 32 } }, { "step=finish", 3, { 0, 31, 32 } }, { "sheet=", 2, { 0, 2 } }, { "answer=", 2, { 0, 2 } },
+    { "step=enter", 3, { 16, 31, 32 } }, { "step=finish", 3, { 0, 31, 32 } }, { "sheet=", 4, { 0, 1, 2, 3 } }, { "answer=", 2, { 0, 2 } },
 };
 const struct edges sheet_edges = { rows, sizeof rows / sizeof rows[0] };
 
@@ -290,6 +290,34 @@ static void edge_number(struct random *r, struct draft *text, const struct edges
         else if (chance(r, 4)) text->length = line.start + line.length;
         return;
     }
+}
+
+/* A push, a wait or, where there is none, an empty span at the end. */
+static struct span draw_ticketed_line(struct random *r, const struct draft *text)
+{
+    struct span line = draw_line_of(r, text, chance(r, 50) ? "do=pushb" : "do=wait");
+    return line.length > 0 ? line : draw_line_of(r, text, "do=pushb");
+}
+
+void damage_ticket(struct random *r, struct draft *text)
+{
+    struct span line = chance(r, 20) ? line_at(text, 0) : draw_ticketed_line(r, text);
+    size_t end = line.start + line.length, comma = end;
+    if (line.length == 0) return;
+    while (comma > line.start && text->bytes[comma - 1] != ',') comma--;
+    if (line.start == 0) replace_number(text, draw_number_in(r, text, line), pick(r, 4));
+    else if (chance(r, 50)) insert(text, end, chance(r, 80) ? ",5" : chance(r, 50) ? ",256" : ",");
+    else splice(text, (struct span){ comma - 1, end - comma + 1 }, "", 0);
+}
+
+void damage_ticket_number(struct random *r, struct draft *text)
+{
+    static const unsigned numbers[] = { 255, 256, 256, 256, 257, 99999 };
+    struct span line = draw_ticketed_line(r, text);
+    size_t end = line.start + line.length, digits = end;
+    if (line.length == 0) return;
+    while (digits > line.start && is_digit(text->bytes[digits - 1])) digits--;
+    replace_number(text, (struct span){ digits, end - digits }, numbers[pick(r, 6)]);
 }
 
 void damage_number(struct random *r, struct draft *text, const struct edges *edges)

@@ -43,8 +43,9 @@ static uint8_t *ink_instruction(uint8_t *at, const struct instruction *i)
 {
     static const char *const words[INSTRUCTION_VERBS] = { "add", "del", "pushb", "con", "dcon", "wait" };
     static const unsigned counts[INSTRUCTION_VERBS] = { 2, 1, 2, 4, 4, 1 };
-    const uint8_t numbers[] = { i->id, i->number, i->provider, i->provideport };
-    return ink_numbers(ink_word(ink_word(at, "do="), words[i->verb]), numbers, counts[i->verb]);
+    uint8_t numbers[] = { i->id, i->number, i->provider, i->provideport };
+    if (i->ticketed) numbers[counts[i->verb]] = i->ticket;
+    return ink_numbers(ink_word(ink_word(at, "do="), words[i->verb]), numbers, counts[i->verb] + i->ticketed);
 }
 
 static uint8_t *ink_step(uint8_t *at, const struct step *step)
@@ -57,7 +58,7 @@ static uint8_t *ink_step(uint8_t *at, const struct step *step)
 
 void write_sheet(const struct paper *paper, struct draft *text)
 {
-    uint8_t *at = ink_line(text->bytes, "sheet=", 1);
+    uint8_t *at = ink_line(text->bytes, "sheet=", paper->tables.ticketed ? 2 : 1);
     at = ink_line(ink_line(at, "depth=", paper->tables.depth), "types=", paper->tables.count);
     for (unsigned k = 0; k < paper->tables.count; k++) at = ink_type(at, &paper->tables.type[k], k);
     at = ink_line(at, "program=", paper->program.count);
@@ -75,13 +76,14 @@ void write_answer(const struct paper *paper, struct draft *text)
 /* ---- a sheet of an exact length ---- */
 
 /* An instruction whose line has so many bytes, 9 to 20. */
-static struct instruction of_length(struct random *r, unsigned length)
+static struct instruction of_length(struct random *r, unsigned length, bool ticketed)
 {
     struct instruction i;
     uint8_t line[32];
     do {
-        i = (struct instruction){ (uint8_t)pick(r, INSTRUCTION_VERBS), 0, 0, 0, 0 };
-        i.id = (uint8_t)pick(r, INSTANCES);
+        i = (struct instruction){ .verb = (uint8_t)pick(r, INSTRUCTION_VERBS), .id = (uint8_t)pick(r, INSTANCES) };
+        i.ticketed = ticketed && (i.verb == PUSHB || (i.verb == WAIT && chance(r, 50)));
+        if (i.ticketed) i.ticket = (uint8_t)pick(r, TICKETS);
         if (i.verb == CON || i.verb == DCON) {
             i.number = (uint8_t)pick(r, PORTS);
             i.provider = (uint8_t)pick(r, INSTANCES);
@@ -106,7 +108,7 @@ static void fill_sheet(struct paper *paper, struct draft *text, size_t length)
     size_t now = text->length;
     while (now < length && paper->program.count < INSTRUCTIONS) {
         unsigned line = line_towards(length - now);
-        paper->program.line[paper->program.count++] = of_length(&paper->random, line);
+        paper->program.line[paper->program.count++] = of_length(&paper->random, line, paper->tables.ticketed);
         now += line + (paper->program.count == 10 || paper->program.count == 100);
     }
     write_sheet(paper, text);
@@ -136,11 +138,11 @@ static void fill_to_the_limit(struct paper *paper, struct draft *text)
 
 /* ---- the texts ---- */
 
-/* How often each number is aimed at. */
+/* How often each number is aimed at; 19, 23 and 24 only where the sheet has tickets. */
 static const unsigned aims[39] = {
     [0] = 60, [1] = 20, [2] = 60, [3] = 90, [4] = 25, [5] = 25, [6] = 20,
     [10] = 20, [11] = 20, [12] = 20, [13] = 25, [14] = 25, [15] = 25, [16] = 25, [17] = 20, [18] = 20,
-    [20] = 25, [21] = 20, [22] = 40, [30] = 20, [31] = 25, [32] = 20, [33] = 40, [34] = 30, [35] = 60, [36] = 80, [37] = 25, [38] = 20,
+    [19] = 50, [20] = 25, [21] = 20, [22] = 40, [23] = 75, [24] = 60, [30] = 20, [31] = 25, [32] = 20, [33] = 40, [34] = 30, [35] = 60, [36] = 80, [37] = 25, [38] = 20,
 };
 
 static void write_texts(const struct paper *paper, struct pair *pair)
@@ -168,8 +170,11 @@ static void make_faulty(struct paper *paper, struct pair *pair, unsigned number)
         for (unsigned tries = 0; tries < 8 && !damage_tables(r, &paper->tables); tries++) continue;
     write_texts(paper, pair);
     struct draft *text = chance(r, 60) ? &pair->sheet : &pair->answer;
-    if (number == 2) damage_form(r, text);
-    if (number == 3) damage_number(r, text, &sheet_edges);
+    bool of_tickets = chance(r, 20);
+    if (number == 2 && of_tickets) damage_ticket(r, &pair->sheet);
+    else if (number == 2) damage_form(r, text);
+    if (number == 3 && of_tickets && paper->tables.ticketed) damage_ticket_number(r, &pair->sheet);
+    else if (number == 3) damage_number(r, text, &sheet_edges);
     if (number == 5) damage_end(r, text);
     if (chance(r, 5)) damage_form(r, chance(r, 50) ? &pair->sheet : &pair->answer);
     if (chance(r, 5)) damage_number(r, chance(r, 50) ? &pair->sheet : &pair->answer, &sheet_edges);
@@ -207,10 +212,17 @@ void cut_to_case(struct draft *text)
     if (text->length > LONGEST_CASE) text->length = LONGEST_CASE;
 }
 
-/* What the walk aims at: a room too short takes the place of a step's number too. */
-static unsigned steps_aim(struct random *r, unsigned aim)
+static unsigned draw_aim(struct random *r, bool ticketed)
 {
-    unsigned other = pick_weighted(r, aims, 39);
+    unsigned aim = pick_weighted(r, aims, 39);
+    while (!ticketed && (aim == 19 || aim == 23 || aim == 24)) aim = pick_weighted(r, aims, 39);
+    return aim;
+}
+
+/* What the walk aims at: a room too short takes the place of a step's number too. */
+static unsigned steps_aim(struct random *r, unsigned aim, bool ticketed)
+{
+    unsigned other = draw_aim(r, ticketed);
     if (aim == 6) aim = other;
     return aim >= 10 ? aim : 0;
 }
@@ -227,12 +239,14 @@ void generate_pair(uint64_t seed, uint64_t index, struct pair *pair)
 {
     static struct paper paper;
     paper.random = random_of(seed, index);
-    unsigned aim = pick_weighted(&paper.random, aims, 39), start_aim = draw_start_aim(&paper);
-    draw_paper(&paper, steps_aim(&paper.random, aim));
+    bool ticketed = chance(&paper.random, 34);
+    unsigned aim = draw_aim(&paper.random, ticketed), start_aim = draw_start_aim(&paper);
+    draw_paper(&paper, steps_aim(&paper.random, aim, ticketed), ticketed);
     if (aim == 1) make_long(&paper, pair);
     else if (aim >= 2 && aim <= 5) make_faulty(&paper, pair, aim);
     else write_texts(&paper, pair);
     pair->started = paper.started;
+    pair->ticketed = ticketed;
     if (paper.started) write_start(&paper, &pair->start, start_aim);
     if (start_aim == 1 && chance(&paper.random, 30)) {
         struct draft *other = chance(&paper.random, 50) ? &pair->sheet : &pair->answer;

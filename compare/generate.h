@@ -18,6 +18,7 @@ struct paper {
     struct step step[STEPS];
     unsigned steps;
     bool started;
+    unsigned stride;                  /* tickets rise by 1 to this, where the sheet has tickets */
     unsigned aim;                     /* the number that the last step shall be refused with, 0 for none */
     bool halfway;                     /* whether 31 is sought at a place with only some of its transitions ended */
     bool full;                        /* whether 64 connections are to stand before the aim is sought */
@@ -27,14 +28,14 @@ struct paper {
 };
 
 struct draft { uint8_t bytes[LONGEST_DRAFT]; size_t length; };
-struct pair { struct draft sheet, start, answer; bool started; size_t room; };
+struct pair { struct draft sheet, start, answer; bool started, ticketed; size_t room; };
 
 /* A lawful type near the limits with long lists, and a lawful type well below them. */
 void draw_great_type(struct random *random, struct type *type);
 void draw_little_type(struct random *random, struct type *type);
 
 /* Lawful tables at random and a walk of no steps, in a manner that helps towards the aim. */
-void start_paper(struct paper *paper, unsigned aim);
+void start_paper(struct paper *paper, unsigned aim, bool ticketed);
 
 /* Takes a step that is allowed, or one that is refused with that number; false where none was found. An instruction
    that the step needs is appended to the program, all of whose instructions are done. */
@@ -47,8 +48,12 @@ void draw_start(struct paper *paper);
 /* Makes a use port active in the start without an active provide port behind it, where it can: 50. */
 void unserve_start(struct paper *paper);
 
-/* A paper walked to its end, or to a step refused with the aim where one was found; with a start where `started` says so. */
-void draw_paper(struct paper *paper, unsigned aim);
+/* A paper walked to its end, or to a step refused with the aim where one was found; with a start where `started` says so, and
+   with tickets where `ticketed` does. */
+void draw_paper(struct paper *paper, unsigned aim, bool ticketed);
+
+/* A ticket above all that were pushed on an instance, where there is one. */
+unsigned draw_ticket(struct paper *paper, const struct instance *instance);
 
 /* An instruction and a step within the limits of their lines, lawful or not at their turn. */
 struct instruction draw_instruction(struct paper *paper, unsigned noise);

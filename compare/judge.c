@@ -4,7 +4,7 @@
 #include "ink.h"
 #include "state.h"
 
-/* The longest report has 32 instances with all sets full and 64 connections: below 10,000 bytes whatever they hold. */
+/* The longest report has 32 instances with all sets full and 64 connections: below 11,000 bytes whatever they hold. */
 enum { LONGEST_REPORT = 16384 };
 
 static bool initial_line(struct reader *r, struct type *type)
@@ -75,13 +75,26 @@ static const struct form step_forms[STEP_VERBS] = {
     [FINISH] = { "finish,", 1, { 31 } },
 };
 
-static bool do_line(struct reader *r, unsigned types, struct instruction *i)
+/* C-21: "`do=pushb,id,behavior,ticket` and `do=wait,id,ticket` .. in sheets that open with `sheet=2`; there every push has a ticket,
+   and a wait may have one": one number more than the verb's own. */
+static bool take_ticket(struct reader *r, const struct tables *tables, unsigned verb, bool *ticketed, unsigned *ticket)
 {
-    unsigned verb, n[4] = { 0, 0, 0, 0 };
+    *ticketed = tables->ticketed && (verb == PUSHB || verb == WAIT) && take_byte(r, ',');
+    *ticket = 0;
+    if (*ticketed) return take_number(r, ticket);
+    return !tables->ticketed || verb != PUSHB;
+}
+
+static bool do_line(struct reader *r, const struct tables *tables, struct instruction *i)
+{
+    unsigned verb, ticket, n[4] = { 0, 0, 0, 0 };
+    bool ticketed;
     if (!take_word(r, "do=") || !take_verb(r, instruction_forms, INSTRUCTION_VERBS, &verb)
-        || !take_numbers(r, instruction_forms[verb].count, n) || !end_line(r)) return at_fault(r, FORM);
-    if (verb == ADD ? n[0] >= INSTANCES || n[1] >= types : !within(&instruction_forms[verb], n)) return at_fault(r, LIMIT);
-    *i = (struct instruction){ (uint8_t)verb, (uint8_t)n[0], (uint8_t)n[1], (uint8_t)n[2], (uint8_t)n[3] };
+        || !take_numbers(r, instruction_forms[verb].count, n) || !take_ticket(r, tables, verb, &ticketed, &ticket) || !end_line(r))
+        return at_fault(r, FORM);
+    bool inside = verb == ADD ? n[0] < INSTANCES && n[1] < tables->count : within(&instruction_forms[verb], n);
+    if (!inside || ticket >= TICKETS) return at_fault(r, LIMIT);
+    *i = (struct instruction){ (uint8_t)verb, (uint8_t)n[0], (uint8_t)n[1], (uint8_t)n[2], (uint8_t)n[3], ticketed, (uint8_t)ticket };
     return line_done(r);
 }
 
@@ -135,26 +148,35 @@ static bool read_type(struct reader *r, struct type *type, unsigned due)
     return initial_line(r, type) && read_transitions(r, type) && read_behaviors(r, type) && read_ports(r, type);
 }
 
-static bool read_program(struct reader *r, unsigned types, struct program *program)
+static bool read_program(struct reader *r, const struct tables *tables, struct program *program)
 {
     unsigned count;
     if (!count_line(r, "program=", 0, INSTRUCTIONS, &count)) return false;
     program->count = count;
     for (unsigned k = 0; k < count; k++)
-        if (!do_line(r, types, &program->line[k])) return false;
+        if (!do_line(r, tables, &program->line[k])) return false;
     return true;
+}
+
+/* `sheet=1`, or `sheet=2` for tickets: any other number is a form fault. */
+static bool sheet_line(struct reader *r, bool *ticketed)
+{
+    unsigned number;
+    if (!take_word(r, "sheet=") || !take_number(r, &number) || !end_line(r) || number < 1 || number > 2) return at_fault(r, FORM);
+    *ticketed = number == 2;
+    return line_done(r);
 }
 
 static bool read_sheet(struct reader *r, struct tables *tables, struct program *program)
 {
     unsigned depth, types;
-    if (!due_line(r, "sheet=", 1) || !count_line(r, "depth=", 0, DEPTH, &depth)
+    if (!sheet_line(r, &tables->ticketed) || !count_line(r, "depth=", 0, DEPTH, &depth)
         || !count_line(r, "types=", 1, TYPES, &types)) return false;
     tables->depth = (uint8_t)depth;
     tables->count = (uint8_t)types;
     for (unsigned k = 0; k < types; k++)
         if (!read_type(r, &tables->type[k], k)) return false;
-    return read_program(r, types, program) && at_end(r);
+    return read_program(r, tables, program) && at_end(r);
 }
 
 static bool read_answer(struct reader *r, struct step *steps, unsigned *count)
@@ -165,6 +187,9 @@ static bool read_answer(struct reader *r, struct step *steps, unsigned *count)
     return at_end(r);
 }
 
+/* What the texts say; without a start nothing is up. */
+struct said { struct tables tables; struct program program; struct configuration configuration; struct step step[STEPS]; unsigned steps; };
+
 /* ---- the report ---- */
 
 /* C-11: "in a line `port=` after `refused=`; it is `-` for every verdict but 34 and 38" */
@@ -173,23 +198,23 @@ static uint8_t *ink_port(uint8_t *at, unsigned port)
     return port == NO_PORT ? ink_word(at, "port=-\n") : ink_line(at, "port=", port);
 }
 
-static size_t write_report(uint8_t *bytes, unsigned accepted, struct refusal refusal, const struct configuration *c)
+static size_t write_report(uint8_t *bytes, unsigned accepted, struct refusal refusal, const struct said *said)
 {
     uint8_t *at = ink_line(bytes, "accepted=", accepted);
     at = ink_port(ink_line(at, "refused=", refusal.number), refusal.port);
-    at = ink_line(at, "next=", c->done);
-    return (size_t)(ink_state(at, c) - bytes);
+    at = ink_line(at, "next=", said->configuration.done);
+    return (size_t)(ink_state(at, &said->configuration, said->tables.ticketed) - bytes);
 }
 
 /* ---- the whole ---- */
 
 /* The length is known before the first byte is lent out: "the report buffer holds its old bytes" after 6. */
-static struct result after_walk(struct result walked, struct refusal refusal, const struct configuration *c, uint8_t *report, size_t room)
+static struct result after_walk(struct result walked, struct refusal refusal, const struct said *said, uint8_t *report, size_t room)
 {
     uint8_t bytes[LONGEST_REPORT];
     walked.refused = refusal.number;
-    walked.next = c->done;
-    walked.length = write_report(bytes, walked.accepted, refusal, c);
+    walked.next = said->configuration.done;
+    walked.length = write_report(bytes, walked.accepted, refusal, said);
     return in_room(walked, bytes, report, room);
 }
 
@@ -200,9 +225,6 @@ static enum text too_long(const struct texts *texts)
     if (texts->start.at != NULL && texts->start.length > LONGEST_START) return START;
     return texts->answer.length > LONGEST_TEXT ? ANSWER : NO_TEXT;
 }
-
-/* What the texts say; without a start nothing is up. */
-struct said { struct tables tables; struct program program; struct configuration configuration; struct step step[STEPS]; unsigned steps; };
 
 /* 50 "for an unserved use port, after the start's last line" */
 static bool started(struct bytes start, struct said *said, struct result *result)
@@ -240,5 +262,5 @@ void judge(const struct texts *texts, uint8_t *report, size_t room, struct resul
         if (refusal.number == 0) walked.accepted++;
     }
     if (refusal.number != 0) walked.place = step_place(texts->answer, walked.accepted);
-    *result = after_walk(walked, refusal, &said.configuration, report, room);
+    *result = after_walk(walked, refusal, &said, report, room);
 }

@@ -392,7 +392,7 @@ static void draw_last(struct paper *paper, struct lent *lent, bool walk)
 /* The empty start, a walk of some steps, or a configuration drawn at once. */
 static void draw_state(struct paper *paper, unsigned aim, bool walk)
 {
-    start_paper(paper, aim);
+    start_paper(paper, aim, false);
     if (chance(&paper->random, 4)) return;
     for (unsigned steps = pick(&paper->random, 80); steps > 0; steps--) draw_allowed(paper);
     if (!walk) scramble(paper);

@@ -209,14 +209,39 @@ bool draw_connection(struct paper *paper, struct instruction *con)
 static struct instruction of_connection(struct paper *paper, unsigned verb)
 {
     const struct connection *n = &paper->configuration.connection[pick(&paper->random, paper->configuration.count)];
-    return (struct instruction){ (uint8_t)verb, n->user, n->useport, n->provider, n->provideport };
+    return (struct instruction){ (uint8_t)verb, n->user, n->useport, n->provider, n->provideport, false, 0 };
+}
+
+unsigned draw_ticket(struct paper *paper, const struct instance *instance)
+{
+    struct random *r = &paper->random;
+    unsigned least = past_tickets(&instance->pushed);
+    unsigned ticket = least + (chance(r, 50) ? 0 : pick(r, chance(r, 5) ? TICKETS : paper->stride));
+    return ticket < TICKETS ? ticket : TICKETS - 1;
+}
+
+/* One of the tickets pushed on an instance, or any where there is none. */
+static unsigned draw_pushed(struct random *r, const struct instance *instance)
+{
+    unsigned first = pick(r, past_tickets(&instance->pushed));
+    while (first > 0 && !has_ticket(&instance->pushed, first)) first--;
+    return first;
+}
+
+/* A push has a ticket above the last; a wait one that was pushed, now and then one that wasn't. */
+static void give_ticket(struct paper *paper, struct instruction *i)
+{
+    struct random *r = &paper->random;
+    const struct instance *instance = &paper->configuration.instance[i->id];
+    i->ticketed = true;
+    i->ticket = (uint8_t)(i->verb == PUSHB ? draw_ticket(paper, instance) : chance(r, 90) ? draw_pushed(r, instance) : pick(r, TICKETS));
 }
 
 /* Fields that the verb's line does not say stay 0, as the reader leaves them. */
 static struct instruction draw_of_verb(struct paper *paper, unsigned verb)
 {
     struct random *r = &paper->random;
-    struct instruction i = { (uint8_t)verb, 0, 0, 0, 0 };
+    struct instruction i = { .verb = (uint8_t)verb };
     switch (verb) {
     case ADD: i.id = (uint8_t)draw_id(paper, false); i.number = (uint8_t)pick(r, paper->tables.count); break;
     case PUSHB: i.id = (uint8_t)draw_id(paper, true); i.number = (uint8_t)pick(r, type_at(paper, i.id)->behaviors); break;
@@ -224,6 +249,7 @@ static struct instruction draw_of_verb(struct paper *paper, unsigned verb)
     case DCON: i = of_connection(paper, DCON); break;
     default: i.id = (uint8_t)draw_id(paper, true); break;
     }
+    if (paper->tables.ticketed && (verb == PUSHB || (verb == WAIT && chance(r, 70)))) give_ticket(paper, &i);
     return i;
 }
 
@@ -232,6 +258,10 @@ static void disturb(struct paper *paper, struct instruction *i)
 {
     struct random *r = &paper->random;
     bool four = i->verb == CON || i->verb == DCON;
+    if (i->ticketed && chance(r, 40)) {
+        i->ticket = (uint8_t)(chance(r, 30) ? TICKETS - 1 : pick(r, TICKETS));
+        return;
+    }
     switch (pick(r, four ? 4 : i->verb == ADD || i->verb == PUSHB ? 2 : 1)) {
     case 0: i->id = (uint8_t)pick(r, INSTANCES); break;
     case 1: i->number = (uint8_t)pick(r, four ? PORTS : i->verb == ADD ? paper->tables.count : BEHAVIORS); break;
@@ -303,6 +333,21 @@ static struct instruction con_source(struct paper *paper, unsigned number)
     return i;
 }
 
+/* A push whose ticket is the last once more or one below it, or a wait: for a push that is queued, or for one that never was, among
+   them the one after the last and those between two pushes. */
+static struct instruction ticket_source(struct paper *paper, unsigned number)
+{
+    struct random *r = &paper->random;
+    struct instruction i = draw_of_verb(paper, number == 19 ? PUSHB : WAIT);
+    const struct instance *instance = &paper->configuration.instance[i.id];
+    unsigned past = past_tickets(&instance->pushed);
+    i.ticketed = true;
+    if (number == 19) i.ticket = (uint8_t)(past == 0 ? 0 : chance(r, 50) ? past - 1 : pick(r, past));
+    else if (number == 23) i.ticket = instance->queued == 0 ? 0 : instance->ticket[pick(r, instance->queued)];
+    else i.ticket = (uint8_t)(chance(r, 30) ? past : chance(r, 60) ? pick(r, past) : pick(r, TICKETS));
+    return i;
+}
+
 /* An instruction of a verb that can get the number, bent towards it. */
 static struct instruction aimed_source(struct paper *paper, unsigned number)
 {
@@ -316,11 +361,12 @@ static struct instruction aimed_source(struct paper *paper, unsigned number)
     case 14: case 15: case 16: return con_source(paper, number);
     case 17: i = draw_of_verb(paper, DCON); disturb(paper, &i); return i;
     case 18: i = of_connection(paper, DEL); if (chance(r, 50)) i.id = i.provider; break;
+    case 19: case 23: case 24: return ticket_source(paper, number);
     case 20: i = draw_of_verb(paper, PUSHB); return i;
     case 21: i = draw_of_verb(paper, chance(r, 50) ? DEL : WAIT); return i;
     default: return draw_of_verb(paper, DCON);
     }
-    return (struct instruction){ i.verb, i.id, 0, 0, 0 };
+    return (struct instruction){ .verb = i.verb, .id = i.id };
 }
 
 /* Whether a place is being come to: some transition of the current behavior that leads to it has ended. */
@@ -422,7 +468,9 @@ static void draw_manner(struct paper *paper)
     paper->crowd = crowds[pick(r, 7)];
     paper->moves = pick_from(r, 20, 80);
     if (chance(r, 30)) weights[DEL] = weights[DCON] = 20;
-    if (paper->aim == 20 || paper->aim == 21) weights[PUSHB] = 80, paper->moves = 20, paper->crowd = pick_from(r, 1, 4);
+    if (paper->aim >= 19 && paper->aim <= 21) weights[PUSHB] = 80, paper->moves = 20, paper->crowd = pick_from(r, 1, 4);
+    if (paper->aim == 23 || paper->aim == 24) weights[PUSHB] = 60, weights[WAIT] = 20, paper->moves = pick_from(r, 20, 70), paper->crowd = pick_from(r, 1, 6);
+    if (paper->tables.ticketed) paper->stride = pick_from(r, 1, chance(r, 20) ? 60 : 8);
     if (paper->full) weights[CON] = 400, weights[PUSHB] = 1, paper->moves = 2, paper->crowd = pick_from(r, 12, 32);
     if (paper->aim >= 31) weights[PUSHB] = 40, paper->moves = pick_from(r, 50, 85), paper->crowd = crowds[pick(r, 5)];
     memcpy(paper->verbs, weights, sizeof weights);
@@ -455,7 +503,7 @@ static void append_program(struct paper *paper)
     }
 }
 
-void start_paper(struct paper *paper, unsigned aim)
+void start_paper(struct paper *paper, unsigned aim, bool ticketed)
 {
     paper->aim = aim;
     paper->steps = 0;
@@ -465,12 +513,13 @@ void start_paper(struct paper *paper, unsigned aim)
     paper->halfway = chance(&paper->random, 40);
     paper->full = aim == 16 || (aim == 15 && chance(&paper->random, 25));
     draw_tables(paper);
+    paper->tables.ticketed = ticketed;
     draw_manner(paper);
 }
 
-void draw_paper(struct paper *paper, unsigned aim)
+void draw_paper(struct paper *paper, unsigned aim, bool ticketed)
 {
-    start_paper(paper, aim);
+    start_paper(paper, aim, ticketed);
     if (paper->started) draw_start(paper);
     unsigned length = draw_length(&paper->random), ready = pick(&paper->random, 40), idle = 0;
     if (aim != 0 && length < 200) length = 200;

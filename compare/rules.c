@@ -85,11 +85,12 @@ static unsigned del_number(const struct configuration *c, const struct instructi
     return c->instance[i->id].queued > 0 ? 21 : 0;
 }
 
-/* "pushb: present, behavior exists, queue shorter than the depth" */
+/* "pushb: present, behavior exists, queue shorter than the depth"; "19, ticket not above the last, after 13 and before 20" */
 static unsigned pushb_number(const struct tables *tables, const struct configuration *c, const struct instruction *i)
 {
     if (!c->instance[i->id].present) return 11;
     if (i->number >= type_of(tables, c, i->id)->behaviors) return 13;
+    if (i->ticketed && i->ticket < past_tickets(&c->instance[i->id].pushed)) return 19;
     return c->instance[i->id].queued >= effective_depth(tables) ? 20 : 0;
 }
 
@@ -118,10 +119,25 @@ static unsigned dcon_number(const struct tables *tables, const struct configurat
     return active_end(tables, c, i->id, i->number) ? 22 : 0;
 }
 
+bool ticket_queued(const struct instance *instance, unsigned ticket)
+{
+    for (unsigned k = 0; k < instance->queued; k++)
+        if (instance->ticket[k] == ticket) return true;
+    return false;
+}
+
+/* "A wait with ticket is allowed once that push is finished": "23, ticket still queued, and 24, ticket never pushed, in place of 21" */
+static unsigned ticket_number(const struct instance *instance, unsigned ticket)
+{
+    if (!has_ticket(&instance->pushed, ticket)) return 24;
+    return ticket_queued(instance, ticket) ? 23 : 0;
+}
+
 /* "wait: present, queue empty." */
 static unsigned wait_number(const struct configuration *c, const struct instruction *i)
 {
     if (!c->instance[i->id].present) return 11;
+    if (i->ticketed) return ticket_number(&c->instance[i->id], i->ticket);
     return c->instance[i->id].queued > 0 ? 21 : 0;
 }
 
@@ -156,13 +172,23 @@ static void disconnect(struct configuration *c, const struct instruction *i)
     memset(&c->connection[c->count], 0, sizeof c->connection[0]);
 }
 
+/* "appended last", with its ticket where it has one */
+static void push(struct instance *instance, const struct instruction *i)
+{
+    if (i->ticketed) {
+        instance->ticket[instance->queued] = i->ticket;
+        add_ticket(&instance->pushed, i->ticket);
+    }
+    instance->queue[instance->queued++] = i->number;
+}
+
 static void carry_out(const struct tables *tables, struct configuration *c, const struct instruction *i)
 {
     struct instance *instance = &c->instance[i->id];
     switch (i->verb) {
     case ADD: add(tables, instance, i->number); break;
     case DEL: memset(instance, 0, sizeof *instance); break;
-    case PUSHB: instance->queue[instance->queued++] = i->number; break;
+    case PUSHB: push(instance, i); break;
     case CON: c->connection[c->count++] = (struct connection){ i->id, i->number, i->provider, i->provideport }; break;
     case DCON: disconnect(c, i); break;
     default: break;
@@ -331,7 +357,8 @@ static void drop_head(struct instance *instance)
 {
     instance->queued--;
     memmove(&instance->queue[0], &instance->queue[1], instance->queued);
-    instance->queue[instance->queued] = 0;
+    memmove(&instance->ticket[0], &instance->ticket[1], instance->queued);
+    instance->queue[instance->queued] = instance->ticket[instance->queued] = 0;
 }
 
 static void fire(const struct type *type, struct instance *instance, unsigned place)

@@ -9,7 +9,7 @@
 /* "The two texts": the greatest counts, and the depth that 0 stands for. */
 enum {
     TYPES = 16, PLACES = 16, TRANSITIONS = 32, BEHAVIORS = 8, PORTS = 16, INSTRUCTIONS = 256, STEPS = 1024,
-    INSTANCES = 32, CONNECTIONS = 64, DEPTH = 8, DEFAULT_DEPTH = 8
+    INSTANCES = 32, CONNECTIONS = 64, DEPTH = 8, DEFAULT_DEPTH = 8, TICKETS = 256
 };
 
 enum instruction_verb { ADD, DEL, PUSHB, CON, DCON, WAIT, INSTRUCTION_VERBS };
@@ -26,13 +26,24 @@ struct type {
     struct port port[PORTS];
 };
 
-struct tables { uint8_t depth, count; struct type type[TYPES]; };
+/* C-21: in a `sheet=2` "every push has a ticket, and a wait may have one"; the hall keeps to `sheet=1`. */
+struct tables { uint8_t depth, count; bool ticketed; struct type type[TYPES]; };
 
-/* `number` is the type of add, the behavior of pushb, the use port of con and dcon; `id` is their user. */
-struct instruction { uint8_t verb, id, number, provider, provideport; };
+/* `number` is the type of add, the behavior of pushb, the use port of con and dcon; `id` is their user. `ticketed` says whether
+   the line has a ticket. */
+struct instruction { uint8_t verb, id, number, provider, provideport; bool ticketed; uint8_t ticket; };
 struct program { uint32_t count; struct instruction line[INSTRUCTIONS]; };
 
-struct instance { uint8_t present, kind, queued; uint32_t marked, running, ended; uint8_t queue[DEPTH]; };
+/* A set of tickets. */
+struct tickets { uint32_t word[TICKETS / 32]; };
+
+/* `ticket` stands beside the queue, and `pushed` are all tickets since the `add`, or known of the start; both only with tickets. */
+struct instance {
+    uint8_t present, kind, queued;
+    uint32_t marked, running, ended;
+    uint8_t queue[DEPTH], ticket[DEPTH];
+    struct tickets pushed;
+};
 struct connection { uint8_t user, useport, provider, provideport; };
 
 struct configuration {
@@ -49,10 +60,24 @@ static inline uint32_t bit(unsigned member) { return (uint32_t)1 << member; }
 /* The set of the numbers below `count`, which may be 32. */
 static inline uint32_t below(unsigned count) { return count >= 32 ? UINT32_MAX : bit(count) - 1; }
 
+static inline void add_ticket(struct tickets *set, unsigned ticket) { set->word[ticket / 32] |= bit(ticket % 32); }
+static inline bool has_ticket(const struct tickets *set, unsigned ticket) { return (set->word[ticket / 32] & bit(ticket % 32)) != 0; }
+
+/* One more than the greatest of them, 0 where there is none: the last ticket pushed, as tickets rise. */
+static inline unsigned past_tickets(const struct tickets *set)
+{
+    unsigned past = TICKETS;
+    while (past > 0 && !has_ticket(set, past - 1)) past--;
+    return past;
+}
+
 /* "depth=D (1 to 8, the queue depth; 0 stands for the default", "From the spring sitting 0 stands for 8" */
 unsigned effective_depth(const struct tables *tables);
 
 bool port_active(const struct port *port, const struct instance *instance);
+
+/* Whether a push with that ticket is in the queue. */
+bool ticket_queued(const struct instance *instance, unsigned ticket);
 
 /* The connection of a use port, or null: "the use port not yet connected". */
 const struct connection *connection_of(const struct configuration *configuration, unsigned user, unsigned useport);

@@ -4,6 +4,21 @@
 #include "generate.h"
 #include "state.h"
 
+/* Tickets for a queue that rise to 255 at most; without a queue a last one or none. */
+static void draw_tickets(struct paper *paper, struct instance *i)
+{
+    struct random *r = &paper->random;
+    unsigned least = chance(r, 30) ? 0 : pick(r, TICKETS - DEPTH + 1), most = TICKETS - i->queued;
+    if (chance(r, 10)) least = most;
+    if (i->queued == 0 && chance(r, 60)) add_ticket(&i->pushed, least < TICKETS ? least : TICKETS - 1);
+    for (unsigned k = 0; k < i->queued; k++, least++, most++) {
+        if (chance(r, 50)) least += pick(r, paper->stride);
+        if (least > most) least = most;
+        i->ticket[k] = (uint8_t)least;
+        add_ticket(&i->pushed, least);
+    }
+}
+
 static void draw_instance(struct paper *paper, struct instance *i)
 {
     struct random *r = &paper->random;
@@ -15,6 +30,7 @@ static void draw_instance(struct paper *paper, struct instance *i)
     i->marked = chance(r, 40) ? type->initial : pick_set(r, type->places, dense);
     if (type->behaviors > 0) i->queued = (uint8_t)(chance(r, 20) ? depth : pick(r, depth + 1));
     for (unsigned k = 0; k < i->queued; k++) i->queue[k] = (uint8_t)pick(r, type->behaviors);
+    if (paper->tables.ticketed) draw_tickets(paper, i);
     uint32_t held = i->queued == 0 || chance(r, 40) ? 0 : type->behavior[i->queue[0]] & pick_set(r, TRANSITIONS, dense);
     i->ended = held & (chance(r, 30) ? UINT32_MAX : pick_set(r, TRANSITIONS, 50));
     i->running = held & ~i->ended;
@@ -89,11 +105,24 @@ static void walk_there(struct paper *paper)
     while (steps-- > 0 && !(paper->full && paper->configuration.count == CONNECTIONS)) draw_allowed(paper);
 }
 
+/* Of the tickets pushed a start says those of its queue, or the last where it has none: "counts as finished only if it is that last
+   one". A last ticket may be any there, or none. */
+static void forget_tickets(struct paper *paper, struct instance *i)
+{
+    struct random *r = &paper->random;
+    unsigned past = chance(r, 10) ? 0 : chance(r, 10) ? pick(r, TICKETS + 1) : past_tickets(&i->pushed);
+    i->pushed = (struct tickets){ { 0 } };
+    for (unsigned k = 0; k < i->queued; k++) add_ticket(&i->pushed, i->ticket[k]);
+    if (i->queued == 0 && past > 0) add_ticket(&i->pushed, past - 1);
+}
+
 /* "The judge then starts there with the program at its first line." */
 void draw_start(struct paper *paper)
 {
     if (chance(&paper->random, 60)) walk_there(paper);
     else if (chance(&paper->random, 90)) draw_any(paper);
+    for (unsigned id = 0; paper->tables.ticketed && id < INSTANCES; id++)
+        if (paper->configuration.instance[id].present) forget_tickets(paper, &paper->configuration.instance[id]);
     memset(&paper->program, 0, sizeof paper->program);
     paper->steps = 0;
     paper->configuration.done = 0;

@@ -3,32 +3,34 @@
 
 #include "ink.h"
 
-static uint8_t *ink_queue(uint8_t *at, const struct instance *i)
+static uint8_t *ink_queue(uint8_t *at, const struct instance *i, bool ticketed)
 {
     if (i->queued == 0) return ink_byte(at, '-');
-    at = ink_number(at, i->queue[0]);
-    for (unsigned k = 1; k < i->queued; k++) at = ink_number(ink_byte(at, '+'), i->queue[k]);
+    for (unsigned k = 0; k < i->queued; k++) {
+        at = ink_number(k == 0 ? at : ink_byte(at, '+'), i->queue[k]);
+        if (ticketed) at = ink_number(ink_byte(at, ':'), i->ticket[k]);
+    }
     return at;
 }
 
 /* "`instance=id,type,marked,running,ended,queue`" */
-static uint8_t *ink_instance(uint8_t *at, unsigned id, const struct instance *i)
+static uint8_t *ink_instance(uint8_t *at, unsigned id, const struct instance *i, bool ticketed)
 {
     at = ink_byte(ink_number(ink_word(at, "instance="), id), ',');
     at = ink_byte(ink_number(at, i->kind), ',');
     at = ink_byte(ink_list(at, i->marked), ',');
     at = ink_byte(ink_list(at, i->running), ',');
     at = ink_byte(ink_list(at, i->ended), ',');
-    return ink_byte(ink_queue(at, i), '\n');
+    return ink_byte(ink_queue(at, i, ticketed), '\n');
 }
 
-static uint8_t *ink_instances(uint8_t *at, const struct configuration *c)
+static uint8_t *ink_instances(uint8_t *at, const struct configuration *c, bool ticketed)
 {
     unsigned count = 0;
     for (unsigned id = 0; id < INSTANCES; id++) count += c->instance[id].present;
     at = ink_line(at, "instances=", count);
     for (unsigned id = 0; id < INSTANCES; id++)
-        if (c->instance[id].present) at = ink_instance(at, id, &c->instance[id]);
+        if (c->instance[id].present) at = ink_instance(at, id, &c->instance[id], ticketed);
     return at;
 }
 
@@ -62,7 +64,7 @@ static uint8_t *ink_connections(uint8_t *at, const struct configuration *c)
     return at;
 }
 
-uint8_t *ink_state(uint8_t *at, const struct configuration *c)
+uint8_t *ink_state(uint8_t *at, const struct configuration *c, bool ticketed)
 {
-    return ink_connections(ink_instances(at, c), c);
+    return ink_connections(ink_instances(at, c, ticketed), c);
 }

@@ -5,7 +5,8 @@
 #include "reader.h"
 #include "rules.h"
 
-uint8_t *ink_state(uint8_t *at, const struct configuration *configuration);
+/* C-21: "The queue .. in reports shows `behavior:ticket`" where the sheet has tickets. */
+uint8_t *ink_state(uint8_t *at, const struct configuration *configuration, bool ticketed);
 
 /* Reads a start into an empty configuration; whether all of its lines are good and permitted by the tables. */
 bool read_start(struct reader *reader, const struct tables *tables, struct configuration *configuration);
