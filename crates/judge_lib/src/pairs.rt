@@ -107,7 +107,35 @@ fn begin(
     }
 }
 
-// What the sheet and the start say, in the lent words, whatever these held before. The state's are cleared first, right after they were made.
+// What the sheet and the start say, into words of a state in which nothing is up and nothing was pushed: whoever has just made them need not clear them again.
+pub(crate) fn open_cleared(
+    sheet: &[u8],
+    given: bool,
+    text: &[u8],
+    tables: &mut TableWords,
+    program: &mut ProgramWords,
+    state: &mut StateWords,
+    begun: &mut BegunWords,
+) -> Opened
+    requires { ⌜ (stateIn (now state) ≡ start) × (begunIn (now begun) ≡ noneBegun) ⌝ }
+    ensures sheet { λ r. ⌜ beside (r .sheet) (tablesIn (now (tables .exit)), programIn (now (program .exit))) ≡ sheetRead (now (sheet .entry)) ⌝ }
+    ensures long { λ r. ⌜ r .long ≡ startLong (beginningOf given (now (text .entry))) ⌝ }
+    ensures begins { λ r. ⌜ beside (r .start) (stateIn (now (state .exit)), begunIn (now (begun .exit)))
+        ≡ beginRead (programIn (now (program .exit)) .edition) (depthOf 8 (tablesIn (now (tables .exit)))) (tablesIn (now (tables .exit)))
+        (beginningOf given (now (text .entry))) ⌝ }
+{
+    let said = read_sheet::fill_sheet(sheet, tables, program);
+    let first = edition(program);
+    let up = begin(first, given, text, tables, state, begun);
+    let long = given & (LONGEST_START < text.len());
+    Opened {
+        sheet: said,
+        long,
+        start: up,
+    }
+}
+
+// The same in any words, whatever these held before.
 pub fn open_paper(
     sheet: &[u8],
     given: bool,
@@ -125,15 +153,7 @@ pub fn open_paper(
 {
     clear_state(state);
     clear_begun(begun);
-    let said = read_sheet::fill_sheet(sheet, tables, program);
-    let first = edition(program);
-    let up = begin(first, given, start, tables, state, begun);
-    let long = given & (LONGEST_START < start.len());
-    Opened {
-        sheet: said,
-        long,
-        start: up,
-    }
+    open_cleared(sheet, given, start, tables, program, state, begun)
 }
 
 // The walk of what these words say.
@@ -157,22 +177,23 @@ pub(crate) struct Came {
     pub passed: Passed,
 }
 
-// ".. the answer's lines, the steps": the walk starts where the paper begins, whatever the words held before. The program's, and those of what had been pushed
+// ".. the answer's lines, the steps": the walk starts where the paper begins, in words that were just made. The program's, and those of what had been pushed
 // before its first line, are lent for who looks at them afterwards.
 pub(crate) fn walk_paper(
     sheet: &[u8],
     given: bool,
-    start: &[u8],
+    text: &[u8],
     answer: &[u8],
     program: &mut ProgramWords,
     begun: &mut BegunWords,
     state: &mut StateWords,
 ) -> Came
+    requires { ⌜ (stateIn (now state) ≡ start) × (begunIn (now begun) ≡ noneBegun) ⌝ }
     ensures { λ r. ⌜ came (r .outcome) (programFrom (now (program .exit)) (now (begun .exit)), walked (r .passed) (stateIn (now (state .exit))))
-        ≡ wholeCourse (paper (now (sheet .entry)) given (now (start .entry))) (now (answer .entry)) ⌝ }
+        ≡ wholeCourse (paper (now (sheet .entry)) given (now (text .entry))) (now (answer .entry)) ⌝ }
 {
     let mut tables = [0u32; 2002];
-    let opened = open_paper(sheet, given, start, &mut tables, program, state, begun);
+    let opened = open_cleared(sheet, given, text, &mut tables, program, state, begun);
     let mut steps = [0u32; 3073];
     let read = read_answer::fill_answer(answer, &mut steps);
     let outcome = outcome_of(sheet, opened, answer, read);
@@ -183,13 +204,14 @@ pub(crate) fn walk_paper(
 pub(crate) fn walk_texts(
     sheet: &[u8],
     given: bool,
-    start: &[u8],
+    text: &[u8],
     answer: &[u8],
     state: &mut StateWords,
 ) -> Came
-    ensures { λ r. ⌜ came (r .outcome) (walked (r .passed) (stateIn (now (state .exit)))) ≡ course (paper (now (sheet .entry)) given (now (start .entry))) (now (answer .entry)) ⌝ }
+    requires { ⌜ stateIn (now state) ≡ start ⌝ }
+    ensures { λ r. ⌜ came (r .outcome) (walked (r .passed) (stateIn (now (state .exit)))) ≡ course (paper (now (sheet .entry)) given (now (text .entry))) (now (answer .entry)) ⌝ }
 {
     let mut program = [0u32; 1282];
     let mut begun = [0u32; 288];
-    walk_paper(sheet, given, start, answer, &mut program, &mut begun, state)
+    walk_paper(sheet, given, text, answer, &mut program, &mut begun, state)
 }

@@ -3,12 +3,16 @@ use Rattle.model.specs.declared.Text.the-variants as text
 use Rattle.start_spec.specs.Paper.{paper}
 use Rattle.judge_spec.specs.Course.{reached, course}
 use Rattle.words.specs.Words.{stateIn}
+use Rattle.words.proofs.InState.{start-in}
 use Rattle.step_walk.specs.Reached.{walked}
 use Rattle.judge_lib.proofs.Judgement.{fault-judges, fault-judges-in, walk-judges, fault-places, fault-places-in, walk-places}
 use Rattle.judge_lib.proofs.Order.{reached-short, started, course-told}
 use borrow.Author.Needs.{needs}
 use Rattle.judge_lib.proofs.judge_and_place.Statement.{statement}
 use Rattle.judge_lib.proofs.judge_and_place.Tie as tie
+
+walk-texts-requires : tie.Need-walk-texts-requires
+walk-texts-requires c κs = start-in
 
 returns : tie.Need-returns
 returns c =
@@ -47,4 +51,4 @@ returns-4 c =
     record { judges = walk-judges _ _ (x .report .now) _ (came-to (c .before .before .before .before .before)) (h .0) (h .1 .1); places = walk-places _ _ _ _ (came-to (c .before .before .before .before .before)) (h .1 .0) }
 
 pub judge-and-place-spec : {M : Type 1} → statement M
-judge-and-place-spec = tie.close (tie.spec (λ c κs. search needs) (λ c. search needs) (λ c κs. search needs) (λ c. search needs) (λ c κs. search needs) (λ c. search needs) (λ c κs. search needs) (λ c. search needs) judge-walk-requires returns returns-2 returns-3 (λ c. search needs) returns-4)
+judge-and-place-spec = tie.close (tie.spec walk-texts-requires (λ c. search needs) (λ c κs. search needs) (λ c. search needs) (λ c κs. search needs) (λ c. search needs) (λ c κs. search needs) (λ c. search needs) judge-walk-requires returns returns-2 returns-3 (λ c. search needs) returns-4)

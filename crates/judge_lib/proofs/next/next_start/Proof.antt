@@ -5,12 +5,17 @@ use Rattle.judge_spec.specs.Course.{reached}
 use Rattle.judge_spec.specs.Next.{wholeCourse}
 use Rattle.judge_spec.proofs.Next.{course-from}
 use Rattle.words.specs.Words.{programFrom, stateIn}
+use Rattle.words.proofs.InState.{start-in}
+use Rattle.words.proofs.InTexts.{none-begun}
 use Rattle.step_walk.specs.Reached.{walked}
 use Rattle.judge_lib.proofs.Onward.{fault-starts, next-short, walk-starts}
 use Rattle.judge_lib.proofs.Order.{started, course-told}
 use borrow.Author.Needs.{needs}
 use Rattle.judge_lib.proofs.next.next_start.Statement.{statement}
 use Rattle.judge_lib.proofs.next.next_start.Tie as tie
+
+walk-paper-requires : tie.Need-walk-paper-requires
+walk-paper-requires c κs = (start-in, none-begun 288)
 
 returns : tie.Need-returns
 returns c =
@@ -47,5 +52,5 @@ returns-4 c = walk-starts _ _ _ (search needs) _ _ _ _ (came-to (c .before .befo
 pub next-start-spec : {M : Type 1} → statement M
 next-start-spec =
     tie.close
-    (tie.spec (λ c κs. search needs) (λ c. search needs) (λ c κs. search needs) (λ c. search needs) (λ c κs. search needs) (λ c. search needs) (λ c κs. search needs)
+    (tie.spec walk-paper-requires (λ c. search needs) (λ c κs. search needs) (λ c. search needs) (λ c κs. search needs) (λ c. search needs) (λ c κs. search needs)
     (λ c. search needs) after-steps-requires returns returns-2 returns-3 returns-4)
