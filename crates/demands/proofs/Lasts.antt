@@ -125,7 +125,7 @@ next-is : (s : Paper) (a : List ℕ) (w : Walked) → course s a ≡ reached w �
 unfolding nextStart wholeCourse nextOf
 next-is s a w e ok =
     let b = all-read s a w e in
-    rw (nextStart, wholeCourse, b .whole, ← b .walked, nextOf, eq-eqb (w .refused) 0 ok, program-is s a w b) (ap (λ (v : Walked). startOf (b .program) (v .configuration)) (sym (b .walked)))
+    rw (nextStart, wholeCourse, b .whole, ← b .walked, nextOf, eq-eqb (w .refused) 0 ok, program-is s (b .sheet-is) (b .begun)) (ap (λ (v : Walked). startOf (b .program) (v .configuration)) (sym (b .walked)))
 
 pub next-starts-are-starts : NextStartsAreStarts
 unfolding NextStartsAreStarts shortStart StartsHaveRoom

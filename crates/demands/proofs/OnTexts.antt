@@ -21,7 +21,7 @@ use Rattle.model.specs.declared.Program.{Program}
 use Rattle.model.specs.View.{stepsOf}
 use Rattle.read_spec.specs.Limits.{lengthOk, hasTickets}
 use Rattle.read_spec.specs.Lines.{Run, on, stop}
-use Rattle.read_spec.specs.Texts.{answer}
+use Rattle.read_spec.specs.Texts.{sheet, answer}
 use Rattle.read_spec.specs.Lawful.{Lawful, SheetsAreLawful}
 use Rattle.read_spec.proofs.Lawful.{sheets-are-lawful, sheet-begun}
 use Rattle.rules_spec.specs.Walk.{walkFrom}
@@ -29,12 +29,13 @@ use Rattle.report_spec.specs.Report.{report}
 use Rattle.start_spec.specs.Paper.{Beginning, Paper}
 use Rattle.start_spec.specs.Permitted.{MayBegin, TicketsFit}
 use Rattle.judge_spec.specs.Course.{Course, faulty, reached, defaultDepth, short, shortStart, read, served, outset, allUnder, course}
-use Rattle.judge_spec.specs.Judged.{afterFault, afterWalk, stepPlace, inRoom, ending, judged, printing, printed}
+use Rattle.judge_spec.specs.declared.Verdict.{Verdict}
+use Rattle.judge_spec.specs.Judged.{afterFault, walkVerdict, afterWalk, stepPlace, inRoom, ending, judged, printing, printed}
 use Rattle.judge_spec.specs.Room.{ReportsFit}
 use Rattle.judge_spec.proofs.Read as Judged
 use Rattle.judge_spec.proofs.Read.{Begun, empty, up, all-read, begun-lawful, begun-edition, begun-well, begun-fits, fault-numbered}
 use Rattle.judge_spec.proofs.Room.{reports-fit}
-use Rattle.demands.specs.OnTexts.{sheetTables, ownProgram, outsetOf, sheetProgram, beginOf, answerSteps, AllRead, AllAllowed, walkOn, upTo, ReachedIsTheWalk, SafeOnTexts, QueuesOnTexts, SameReports, ReportsAgreeOnTexts, Exchanged, exchangedSteps, exchangedText, MovesExchangeOnTexts}
+use Rattle.demands.specs.OnTexts.{sheetTables, ownProgram, outsetOf, sheetProgram, beginOf, answerSteps, AllRead, verdictOn, AllAllowed, walkOn, upTo, ReachedIsTheWalk, SafeOnTexts, QueuesOnTexts, SameReports, ReportsAgreeOnTexts, Exchanged, exchangedSteps, exchangedText, MovesExchangeOnTexts}
 use Rattle.demands.specs.Safe.{WalksAreSafe}
 use Rattle.demands.specs.Queues.{QueuesAreKept}
 use Rattle.demands.specs.Exchange.{MovesExchange}
@@ -50,37 +51,56 @@ use Rattle.demands.proofs.Agree.{reports-agree}
 
 -- ---- what the texts come to
 
-begun-is : (t : Tables) (p : Program) (g : Beginning) (x : Program × Configuration) → Begun defaultDepth t p g x → outset defaultDepth t p g ≡ reached x
+pub begun-is : (t : Tables) (p : Program) (g : Beginning) (x : Program × Configuration) → Begun defaultDepth t p g x → outset defaultDepth t p g ≡ reached x
 unfolding outset read served
 begun-is t p _ _ empty = refl
 begun-is t p _ _ (up e q) = rw (e, read, q, served)
 
-module _ (s : Paper) (a : List ℕ) (w : Walked) (b : Judged.AllRead s a w) where
-  tables-are : sheetTables s ≡ b .tables
+-- the sheet is lawful, and the paper may begin where it does
+pub record Opens (s : Paper) : Type 0 where
+  pub lawful : Lawful (sheetTables s) (sheetProgram s)
+  pub begins-well : MayBegin defaultDepth (sheetTables s) (sheetProgram s) (beginOf s)
+  pub fits : hasTickets (sheetProgram s .edition) ≡ true → TicketsFit (sheetProgram s) (beginOf s)
+
+-- a paper that is read, and begins with x
+module _ (s : Paper) {t : Tables} {p : Program} {r : List ℕ} {x : Program × Configuration} (said : sheet (s .sheet) ≡ on (t, p) r) (b : Begun defaultDepth t p (s .beginning) x) where
+  pub tables-are : sheetTables s ≡ t
   unfolding sheetTables
-  tables-are = rw (b .sheet-is, sheetTables)
+  tables-are = rw (said, sheetTables)
 
-  outset-is : outsetOf s ≡ (b .program, b .begin)
+  outset-is : outsetOf s ≡ x
   unfolding outsetOf ownProgram sheetTables
-  outset-is = rw (b .sheet-is, sheetTables, ownProgram, begun-is (b .tables) (b .sheet-program) (s .beginning) (b .program, b .begin) (b .begun), outsetOf)
+  outset-is = rw (said, sheetTables, ownProgram, begun-is t p (s .beginning) x b, outsetOf)
 
-  pub program-is : sheetProgram s ≡ b .program
+  pub program-is : sheetProgram s ≡ x .0
   unfolding sheetProgram
-  program-is = ap (λ (x : Program × Configuration). x .0) outset-is
+  program-is = ap (λ (y : Program × Configuration). y .0) outset-is
 
-  begin-is : beginOf s ≡ b .begin
+  pub begin-is : beginOf s ≡ x .1
   unfolding beginOf
-  begin-is = ap (λ (x : Program × Configuration). x .1) outset-is
+  begin-is = ap (λ (y : Program × Configuration). y .1) outset-is
 
-  steps-are : answerSteps a ≡ stepsOf (b .steps)
-  unfolding answerSteps
-  steps-are = rw (b .answer-is, answerSteps)
+  pub opens : Opens s
+  unfolding SheetsAreLawful
+  opens =
+      let law = sheets-are-lawful (s .sheet) _ _ _ said in
+      let none = sheet-begun (s .sheet) _ _ _ said in
+      let same = begun-edition t p (s .beginning) x b in
+      record {
+        lawful = rw (tables-are, program-is) (begun-lawful t p law (s .beginning) x b);
+        begins-well = rw (tables-are, program-is, begin-is) (begun-well t p law (s .beginning) x b);
+        fits = rw (program-is, begin-is) (λ has. begun-fits t p law (ap hasTickets (sym same) ∙ has) none (s .beginning) x b);
+      }
+
+steps-are : (s : Paper) (a : List ℕ) (w : Walked) (b : Judged.AllRead s a w) → answerSteps a ≡ stepsOf (b .steps)
+unfolding answerSteps
+steps-are s a w b = rw (b .answer-is, answerSteps)
 
 pub reached-is-the-walk : ReachedIsTheWalk
 unfolding ReachedIsTheWalk walkFrom
 reached-is-the-walk s a w e =
     let b = all-read s a w e in
-    b .walked ∙ rw (tables-are s a w b, program-is s a w b, begin-is s a w b, steps-are s a w b)
+    b .walked ∙ rw (tables-are s (b .sheet-is) (b .begun), program-is s (b .sheet-is) (b .begun), begin-is s (b .sheet-is) (b .begun), steps-are s a w b)
 
 -- the walk is reached, the sheet is lawful, and the answer is the text of its steps
 pub record Goes (s : Paper) (a : List ℕ) : Type 0 where
@@ -92,28 +112,32 @@ pub record Goes (s : Paper) (a : List ℕ) : Type 0 where
   pub text : a ≡ answerText (ofSteps (answerSteps a))
 
 pub read-goes : (s : Paper) (a : List ℕ) → AllRead s a → Goes s a
-unfolding ReachedIsTheWalk answerSteps SheetsAreLawful AnswersAreTheirTexts
+unfolding ReachedIsTheWalk answerSteps AnswersAreTheirTexts
 read-goes s a (w, e) =
     let b = all-read s a w e in
-    let law = sheets-are-lawful (s .sheet) _ _ _ (b .sheet-is) in
-    let none = sheet-begun (s .sheet) _ _ _ (b .sheet-is) in
-    let same = begun-edition (b .tables) (b .sheet-program) (s .beginning) (b .program, b .begin) (b .begun) in
+    let o = opens s (b .sheet-is) (b .begun) in
     record {
       is = e ∙ ap reached (reached-is-the-walk s a w e);
-      lawful = rw (tables-are s a w b, program-is s a w b) (begun-lawful (b .tables) (b .sheet-program) law (s .beginning) (b .program, b .begin) (b .begun));
-      begins-well = rw (tables-are s a w b, program-is s a w b, begin-is s a w b) (begun-well (b .tables) (b .sheet-program) law (s .beginning) (b .program, b .begin) (b .begun));
-      fits = rw (program-is s a w b, begin-is s a w b)
-          (λ has. begun-fits (b .tables) (b .sheet-program) law (ap hasTickets (sym same) ∙ has) none (s .beginning) (b .program, b .begin) (b .begun));
+      lawful = o .lawful;
+      begins-well = o .begins-well;
+      fits = o .fits;
       said = rw (b .answer-is, answerSteps) (answers-are-their-texts a _ _ (b .answer-is) .0);
       text = rw (b .answer-is, answerSteps) (answers-are-their-texts a _ _ (b .answer-is) .1);
     }
 
 -- ---- what the judge makes of it
 
--- the number is the walk's: there is room for the report
-number-is : (s : Paper) (a : List ℕ) (w : Walked) → course s a ≡ reached w → judged s a 8192 .verdict .refused ≡ w .refused
-unfolding judged ending inRoom afterWalk ReportsFit
-number-is s a w e = rw (e, ending, le-leb (length (report w)) 8192 (reports-fit s a w e), inRoom)
+-- the verdict is the walk's: there is room for the report
+room-is : (s : Paper) (a : List ℕ) (w : Walked) → course s a ≡ reached w → inRoom 8192 w (report w) a .verdict ≡ walkVerdict w (length (report w))
+unfolding inRoom afterWalk ReportsFit
+room-is s a w e = rw (le-leb (length (report w)) 8192 (reports-fit s a w e), inRoom)
+
+pub verdict-is : (s : Paper) (a : List ℕ) (w : Walked) → course s a ≡ reached w → verdictOn s a ≡ walkVerdict w (length (report w))
+unfolding judged ending
+verdict-is s a w e = ap (λ (z : Course Walked). ending s a 8192 z .verdict) e ∙ room-is s a w e
+
+number-is : (s : Paper) (a : List ℕ) (w : Walked) → course s a ≡ reached w → verdictOn s a .refused ≡ w .refused
+number-is s a w e = ap (λ (v : Verdict). v .refused) (verdict-is s a w e)
 
 allowed-reads : (s : Paper) (a : List ℕ) → AllAllowed s a → AllRead s a
 unfolding judged ending afterFault
@@ -148,7 +172,7 @@ alike-where-reached s a b w ok l e f = record {
 
 -- ---- the exchanged answer
 
-not-reached : {A : Type 0} {x : Text} {n at : ℕ} {w : A} → faulty x n at ≡ reached w → ⊥
+pub not-reached : {A : Type 0} {x : Text} {n at : ℕ} {w : A} → faulty x n at ≡ reached w → ⊥
 not-reached {x = x} {n = n} {at = at} {w = w} e = let z : _≡_ {A = ℕ} 0 1 = cc in omega arith
 
 -- a text as long as one that is read is read beside the same paper

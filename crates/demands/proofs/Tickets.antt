@@ -1,7 +1,7 @@
 -- What the instructions done tell of the pushes to a component, that tickets rise, and the numbers of a wait for one push.
 -- Assumes nothing.
 use mathlib.Core.Path.{_≡_, refl, sym, ap, ap₂, _∙_, subst⁻¹}
-use mathlib.Core.Bool.{Bool, true, false, not, _||_, or-false, false≢true}
+use mathlib.Core.Bool.{Bool, true, false, not, _||_, or-true, or-false, false≢true}
 use mathlib.Core.List.{List, [], _∷_, _++_, append-nil}
 use mathlib.Core.Logic.{_≢_}
 use lib.ListN.{length}
@@ -167,8 +167,25 @@ queued-is n (suc m) f =
     ap₂ _||_ (queued-is n m f) (sym (or-false (eqb (stampIn (f m)) n)))
     ∙ sym (ap (hasStamp n) (list-snoc m f) ∙ has-more n (listOf m f) (f m ∷ []))
 
+-- at a point reached, what was pushed since the `add` is finished or queued; so what is queued was pushed
+module _ (default : ℕ) (t : Tables) (p : Program) (b : Configuration) (ss : List Step) (i n : ℕ) (small : default ≤ 8) (law : Lawful t p) (may : MayBegin default t p b)
+    (fits : TicketsFit p b) where
+  pushed-is : hasStamp n (pushedTo p i (walk default t p b ss .configuration .done))
+      ≡ (hasStamp n (story default t p i b ss (begun p b i) .finished) || hasStamp n (queueOf (walk default t p b ss .configuration) i))
+  unfolding DoneTells QueuesAreKept
+  pushed-is =
+      ap (hasStamp n) (sym (done-tells default t p b ss i (may .permitted .first) fits) ∙ sym (queues-are-kept default t p b ss i small law may))
+      ∙ has-more n (story default t p i b ss (begun p b i) .finished) (queueOf (walk default t p b ss .configuration) i)
+
+  pub queued-was-pushed : isQueued (walk default t p b ss .configuration) i n ≡ true → hasStamp n (pushedTo p i (walk default t p b ss .configuration .done)) ≡ true
+  unfolding queueOf
+  queued-was-pushed e =
+      let c = walk default t p b ss .configuration in
+      let done = hasStamp n (story default t p i b ss (begun p b i) .finished) in
+      pushed-is ∙ ap (_||_ done) (sym (queued-is n (instance c i .queued) (slot c i)) ∙ e) ∙ or-true done
+
 pub waits-exactly : WaitsExactly
-unfolding WaitsExactly DoneTells QueuesAreKept queueOf stepCheckWith action actionAt instructionAction actionCheck waitCheck
+unfolding WaitsExactly queueOf stepCheckWith action actionAt instructionAction actionCheck waitCheck
 waits-exactly default t p b ss i k small law may fits left is = number
   where
     c : Configuration
@@ -178,9 +195,7 @@ waits-exactly default t p b ss i k small law may fits left is = number
     h = story default t p i b ss (begun p b i)
 
     made : hasStamp (suc k) (pushedTo p i (c .done)) ≡ (hasStamp (suc k) (h .finished) || hasStamp (suc k) (queueOf c i))
-    made =
-        ap (hasStamp (suc k)) (sym (done-tells default t p b ss i (may .permitted .first) fits) ∙ sym (queues-are-kept default t p b ss i small law may))
-        ∙ has-more (suc k) (h .finished) (queueOf c i)
+    made = pushed-is default t p b ss i (suc k) small law may fits
 
     queued : isQueued c i (suc k) ≡ hasStamp (suc k) (queueOf c i)
     queued = queued-is (suc k) (instance c i .queued) (slot c i)

@@ -16,6 +16,7 @@ use Rattle.rules_spec.specs.Action.{Action}
 use Rattle.rules_spec.specs.Walk.{walk}
 use Rattle.start_spec.specs.Paper.{Paper}
 use Rattle.judge_spec.specs.Course.{faulty, reached, outset, course, defaultDepth}
+use Rattle.judge_spec.specs.declared.Verdict.{Verdict}
 use Rattle.judge_spec.specs.Judged.{judged, printed, lentBytes}
 use Rattle.write_spec.specs.Texts.{answerText, ofSteps}
 use Rattle.demands.specs.Safe.{Safe}
@@ -47,9 +48,13 @@ answerSteps a = elim (answer a) [ on y r ↦ stepsOf y | stop n r ↦ [] ]
 abbrev pub AllRead : Paper → List ℕ → Type 0
 AllRead s a = (w : Walked) × (course s a ≡ reached w)
 
+-- the judge's verdict, where the report has room
+abbrev pub verdictOn : Paper → List ℕ → Verdict
+verdictOn s a = judged s a lentBytes .verdict
+
 -- all steps of the answer are allowed
 abbrev pub AllAllowed : Paper → List ℕ → Type 0
-AllAllowed s a = judged s a lentBytes .verdict .refused ≡ 0
+AllAllowed s a = verdictOn s a .refused ≡ 0
 
 -- on the paper s: the walk of some steps, and what component i was pushed and has finished in it
 abbrev pub walkOn : Paper → List Step → Walked
