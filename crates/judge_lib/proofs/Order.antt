@@ -197,10 +197,10 @@ short-of x h = rw (le-leb (length x) 8192 h, shortOf)
 abbrev pub begunBy : Program → Begun → Program
 begunBy p x = begunWith p (x .queue) (x .last)
 
-abbrev asBegun : Program → Whole (Configuration × Begun) → Whole (Program × Configuration)
+abbrev pub asBegun : Program → Whole (Configuration × Begun) → Whole (Program × Configuration)
 asBegun p b = record { refused = b .refused; place = b .place; value = (begunBy p (b .value .1), b .value .0) }
 
-begin-read : (t : Tables) (p : Program) → Lawful t p → p .begun ≡ noneBegun → (g : Beginning) → startLong g ≡ false → {b : Whole (Configuration × Begun)}
+pub begin-read : (t : Tables) (p : Program) → Lawful t p → p .begun ≡ noneBegun → (g : Beginning) → startLong g ≡ false → {b : Whole (Configuration × Begun)}
     → b ≡ beginRead (p .edition) (depthOf defaultDepth t) t g → BeginsAs (outset defaultDepth t p g) g (asBegun p b)
 unfolding beginRead startRead startRun outset read served
 begin-read t p law none nothing l e = rw e (record { faults = λ n. absurd (n refl); up = λ n. absurd (n refl); within = zero-le; reaches = λ _. alone })
@@ -224,7 +224,7 @@ begin-read t p law none (given x) l e =
 
 -- what a sheet says that is read is lawful, and its queues are short in any case
 module _ (s : List ℕ) where
-  sheet-law : length s ≤ 32768 → {r : Whole (Tables × Program)} → r ≡ sheetRead s → r .refused ≡ 0 → Lawful (r .value .0) (r .value .1)
+  pub sheet-law : length s ≤ 32768 → {r : Whole (Tables × Program)} → r ≡ sheetRead s → r .refused ≡ 0 → Lawful (r .value .0) (r .value .1)
   unfolding whole SheetsAreLawful
   sheet-law h is = rw (is, le-leb (length s) 32768 h, whole) (go (sheet s) refl)
     where
@@ -232,7 +232,7 @@ module _ (s : List ℕ) where
       go (on v r) e q = sheets-are-lawful s _ _ _ e
       go (stop n r) e q = let l = sheet-stops s n r e in absurd (omega (arith, q, l .1))
 
-  sheet-none : length s ≤ 32768 → {r : Whole (Tables × Program)} → r ≡ sheetRead s → r .refused ≡ 0 → r .value .1 .begun ≡ noneBegun
+  pub sheet-none : length s ≤ 32768 → {r : Whole (Tables × Program)} → r ≡ sheetRead s → r .refused ≡ 0 → r .value .1 .begun ≡ noneBegun
   unfolding whole
   sheet-none h is = rw (is, le-leb (length s) 32768 h, whole) (go (sheet s) refl)
     where

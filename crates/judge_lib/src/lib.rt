@@ -2,6 +2,7 @@
 // Promised: on any bytes, every field and byte is what crates/judge_spec/specs says, and the line at fault is that very part of its text.
 pub mod next;
 pub mod pairs;
+pub mod papers;
 pub mod parts;
 
 use judge_spec::LENT_BYTES;

@@ -1,4 +1,4 @@
--- The marked cases (Cases), the same reports from a table and from a list (Listed), room for every report (Room), the four shams caught (Shams), no other outcome (Once), where an answer ends as a start (Next).
+-- The marked cases (Cases), the same reports from a table and from a list (Listed), room for every report (Room), the four shams caught (Shams), no other outcome (Once), where an answer ends as a start (Next), a paper alone (Alone).
 pub mod Cases
 pub mod Read
 pub mod Plain
@@ -8,3 +8,4 @@ pub mod Once
 pub mod Listed
 pub mod StartCases
 pub mod Next
+pub mod Alone

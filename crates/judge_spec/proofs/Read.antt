@@ -66,7 +66,7 @@ read-ends {N} low {A} x m s h = go (m s) refl
     go (on a r) e = reaches (r, e)
     go (stop n r) e = let l = h n r e in faults {n = n} (low n (omega arith))
 
-short-start-ends : (g : Beginning) → Ends Numbered (λ _. Unit {0}) (shortStart g)
+pub short-start-ends : (g : Beginning) → Ends Numbered (λ _. Unit {0}) (shortStart g)
 unfolding shortStart
 short-start-ends nothing = reaches tt
 short-start-ends (given x) = by-test (startLengthOk (length x)) (λ e. rw (e, shortStart) (reaches tt)) (λ e. rw (e, shortStart) (faults {n = 1} (low-number 1 (omega arith))))
@@ -81,7 +81,7 @@ unfolding served
 served-ends d t p x r y e =
     by-test (someUnserved t (y .0)) (λ q. rw (q, served) (faults {n = 50} (record { range = inr refl }))) (λ q. rw (q, served) (reaches (up e q)))
 
-begins-ends : (t : Tables) (p : Program) → Lawful t p → (g : Beginning) → Ends Numbered (Begun defaultDepth t p g) (outset defaultDepth t p g)
+pub begins-ends : (t : Tables) (p : Program) → Lawful t p → (g : Beginning) → Ends Numbered (Begun defaultDepth t p g) (outset defaultDepth t p g)
 unfolding outset
 begins-ends t p law nothing = reaches empty
 begins-ends t p law (given x) =

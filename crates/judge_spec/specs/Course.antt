@@ -77,6 +77,15 @@ outset d t p (given x) = do
   y ← read text.Start (startLines (p .edition) (depthOf d t) t) x
   served t p y
 
+-- what a paper alone says, before any answer exists
+unfoldable pub paperCourse : Paper → Course (Tables × Program × Configuration)
+paperCourse s = do
+  short text.Sheet (s .sheet)
+  shortStart (s .beginning)
+  (t, p) ← read text.Sheet sheet (s .sheet)
+  (b, c) ← outset defaultDepth t p (s .beginning)
+  reached (t, b, c)
+
 -- what the texts say, where all are read
 unfoldable pub allUnder : ℕ → Paper → List ℕ → Course (Tables × Program × Configuration × Answer)
 allUnder d s a = do

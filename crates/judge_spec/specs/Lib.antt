@@ -1,5 +1,5 @@
 -- Document 01 as one function (Course, Judged), its marked cases (Cases), what the board asks of it (Room, Shams, Once), and the
--- judge with the old list of connections (Listed).
+-- judge with the old list of connections (Listed); a paper alone (Alone).
 pub mod Course
 pub mod Judged
 pub mod Cases
@@ -10,3 +10,4 @@ pub mod Once
 pub mod Listed
 pub mod StartCases
 pub mod Next
+pub mod Alone
