@@ -1,6 +1,6 @@
-/* compare pairs|plans|hall COUNT FOLDER SEED.. [-- COMMAND..]: makes COUNT cases of each seed, has the command answer them through
-   files in FOLDER, and compares every byte with the answers of the judge beside this file. Without a command the cases go to
-   standard output. Ends with the shares of the numbers; status 1 after a difference or where a number is too rare. */
+/* compare pairs|plans|hall|foretell COUNT FOLDER SEED.. [-- COMMAND..]: makes COUNT cases of each seed, has the command answer
+   them through files in FOLDER, and compares every byte with the answers of the judge beside this file. Without a command the cases go
+   to standard output. Ends with the shares of the numbers; status 1 after a difference or where a number is too rare. */
 #define _POSIX_C_SOURCE 200809L
 
 #include <fcntl.h>
@@ -37,6 +37,7 @@ struct job {
     uint64_t seen_of_start[NUMBERS], seen_of_both[NUMBERS], started, ticketed, both;
     const char *kind;
     bool texts;                       /* whether a case is texts */
+    bool told;                        /* whether it has no answer */
 };
 
 static void fail(const char *what)
@@ -121,6 +122,39 @@ static struct tally append_pair(uint64_t seed, uint64_t index, struct cases *cas
     if (pair.started) snprintf(start, sizeof start, "%zu ", pair.start.length);
     append_input(&cases->input, &pair, "case", start);
     return append_answer(&cases->expected, &pair, judge);
+}
+
+/* The number after `refused=`, in the three lines of a fault or in those of a foretelling. */
+static unsigned told_number(const char *lines)
+{
+    const char *found = strstr(lines, "refused=");
+    return found == NULL ? 0 : (unsigned)strtoul(found + 8, NULL, 10);
+}
+
+/* A sheet and a start, and what is told of them. */
+static struct tally append_told(struct cases *cases, const struct pair *pair, const char *word, telling *tell)
+{
+    static struct told told;
+    char line[LONGEST_RESULT], start[32] = "-";
+    struct texts texts = texts_of(pair);
+    if (pair->started) snprintf(start, sizeof start, "%zu", pair->start.length);
+    append_bytes(&cases->input, line, (size_t)snprintf(line, sizeof line, "%s %zu %s\n", word, pair->sheet.length, start));
+    append_draft(&cases->input, &pair->sheet);
+    if (pair->started) append_draft(&cases->input, &pair->start);
+    memset(&told, 0, sizeof told);
+    tell(&texts, &told);
+    append_bytes(&cases->expected, line, told_line(line, &told));
+    append_bytes(&cases->expected, told.out, told.out_length);
+    append_bytes(&cases->expected, told.err, told.err_length);
+    const char *lines = (const char *)told.out;
+    return (struct tally){ told_number(lines), pair->started, strncmp(lines, "text=start", 10) == 0, pair->ticketed };
+}
+
+static struct tally append_foretold(uint64_t seed, uint64_t index, struct cases *cases)
+{
+    static struct pair pair;
+    generate_program(seed, index, &pair);
+    return append_told(cases, &pair, "foretell", foretell);
 }
 
 static struct tally append_plan(uint64_t seed, uint64_t index, struct cases *cases)
@@ -210,7 +244,7 @@ static size_t first_difference(const struct stream *a, const struct stream *b)
     return at;
 }
 
-/* Where the answer to the case ends that starts at a place: a line, and the bytes that its last number announces. */
+/* Where the answer to the case ends that starts at a place: a line, and the bytes that its last number announces, or both of what is told. */
 static size_t answer_end(const struct job *job, const struct stream *s, size_t start)
 {
     size_t end = start;
@@ -218,6 +252,7 @@ static size_t answer_end(const struct job *job, const struct stream *s, size_t s
     size_t digits = end;
     while (digits > start && s->bytes[digits - 1] >= '0' && s->bytes[digits - 1] <= '9') digits--;
     size_t more = job->texts && end < s->length ? (size_t)strtoul((const char *)s->bytes + digits, NULL, 10) : 0;
+    if (job->told && end < s->length) more += (size_t)strtoul((const char *)s->bytes + start, NULL, 10);
     end += end < s->length;
     return s->length - end < more ? s->length : end + more;
 }
@@ -237,12 +272,12 @@ static void keep_case(const struct job *job, const struct cases *cases, unsigned
     remove(path_of(job, "differs.start"));
     if (!job->texts) return;
     const uint8_t *sheet = (const uint8_t *)memchr(bytes, '\n', length) + 1;
-    size_t sheetlen = strtoul((const char *)bytes + 5, &after, 10), startlen = 0;
-    bool started = job->append == append_pair && after[1] != '-';
+    size_t sheetlen = strtoul(strchr((const char *)bytes, ' '), &after, 10), startlen = 0;
+    bool started = job->append != append_plan && after[1] != '-';
     if (started) startlen = strtoul(after, NULL, 10);
     write_file(path_of(job, "differs.sheet"), sheet, sheetlen);
     if (started) write_file(path_of(job, "differs.start"), sheet + sheetlen, startlen);
-    write_file(path_of(job, "differs.answer"), sheet + sheetlen + startlen, length - (size_t)(sheet - bytes) - sheetlen - startlen);
+    if (!job->told) write_file(path_of(job, "differs.answer"), sheet + sheetlen + startlen, length - (size_t)(sheet - bytes) - sheetlen - startlen);
 }
 
 static bool agree(const struct job *job, const struct cases *cases, uint64_t seed, uint64_t from)
@@ -281,9 +316,10 @@ static bool compare_seed(struct job *job, uint64_t seed)
     return true;
 }
 
-/* The numbers that must occur: of texts 1 to 6, in the hall 7; then the steps', or the actions'. */
+/* The numbers that must occur: of texts 1 to 6, in the hall 7; then the steps', the actions', or those of names alone. */
 static bool due(const struct job *job, unsigned number)
 {
+    if (job->told) return number <= 5 || (number >= 11 && number <= 18);
     if (number >= 1 && number <= 7) return job->texts == (number < 7);
     if (job->append == append_plan) return number == 0 || number >= 60;
     return number == 0 || (number >= 10 && number <= 18) || (number >= 20 && number <= 22) || (number >= 30 && number <= 38);
@@ -301,36 +337,59 @@ static bool share(unsigned number, uint64_t seen, uint64_t total, unsigned many)
 static bool shares_of(const char *kind, uint64_t total, const uint64_t *seen, const unsigned *numbers, unsigned count)
 {
     bool enough = true;
-    if (total > 0) fprintf(stderr, "%" PRIu64 " with %s, whose own numbers are\n", total, kind);
+    if (total > 0) fprintf(stderr, "%" PRIu64 " with %s%s\n", total, kind, count > 0 ? ", whose own numbers are" : "");
     for (unsigned k = 0; total > 0 && k < count; k++) enough = share(numbers[k], seen[numbers[k]], total, 100) && enough;
     return enough;
 }
 
 /* Prints the shares; whether each number that must occur has half a percent, and each of a start, of tickets and of a start with tickets
-   one percent of these. */
+   one percent of these. Where there is no answer, those of a start aren't asked for, and 23 is left open. */
 static bool shares(const struct job *job)
 {
-    static const unsigned of_start[] = { 1, 2, 3, 4, 5, 50 }, of_tickets[] = { 19, 23, 24 }, of_both[] = { 2, 3, 4, 50, 19, 23, 24 };
+    static const unsigned of_start[] = { 1, 2, 3, 4, 5, 50 }, of_tickets[] = { 19, 23, 24 }, of_both[] = { 2, 3, 4, 50, 19, 23, 24 },
+                          of_names[] = { 19, 24 };
     bool enough = true;
     fprintf(stderr, "%" PRIu64 " cases of %s\n", job->total, job->kind);
     for (unsigned number = 0; number < NUMBERS; number++)
         if (due(job, number)) enough = share(number, job->seen[number], job->total, 200) && enough;
+    if (job->told) {
+        enough = shares_of("a start", job->started, job->seen_of_start, of_start, 0) && enough;
+        return shares_of("tickets", job->ticketed, job->seen, of_names, 2) && enough;
+    }
     enough = shares_of("a start", job->started, job->seen_of_start, of_start, 6) && enough;
     enough = shares_of("tickets", job->ticketed, job->seen, of_tickets, 3) && enough;
     return shares_of("a start and tickets", job->both, job->seen_of_both, of_both, 7) && enough;
 }
 
+/* What a case of each kind is. */
+static const struct job kinds[] = {
+    { .kind = "pairs", .append = append_pair, .texts = true },
+    { .kind = "plans", .append = append_plan, .texts = true },
+    { .kind = "hall", .append = append_hall },
+    { .kind = "foretell", .append = append_foretold, .texts = true, .told = true },
+};
+
+static const struct job *kind_of(const char *word)
+{
+    for (unsigned k = 0; k < sizeof kinds / sizeof kinds[0]; k++)
+        if (strcmp(word, kinds[k].kind) == 0) return &kinds[k];
+    return NULL;
+}
+
 int main(int argc, char **argv)
 {
     int seeds = 4;
+    bool same = true;
+    const struct job *kind = argc > 4 ? kind_of(argv[1]) : NULL;
     while (seeds < argc && strcmp(argv[seeds], "--") != 0) seeds++;
-    if (seeds <= 4) {
-        fputs("usage: compare pairs|plans|hall COUNT FOLDER SEED.. [-- COMMAND..]\n", stderr);
+    if (seeds <= 4 || kind == NULL) {
+        fputs("usage: compare pairs|plans|hall|foretell COUNT FOLDER SEED.. [-- COMMAND..]\n", stderr);
         return 2;
     }
-    bool hall = strcmp(argv[1], "hall") == 0, same = true;
-    struct job job = { .append = hall ? append_hall : strcmp(argv[1], "plans") == 0 ? append_plan : append_pair,
-                       .folder = argv[3], .kind = argv[1], .texts = !hall, .command = seeds + 1 < argc ? argv + seeds + 1 : NULL, .count = strtoull(argv[2], NULL, 10) };
+    struct job job = *kind;
+    job.folder = argv[3];
+    job.command = seeds + 1 < argc ? argv + seeds + 1 : NULL;
+    job.count = strtoull(argv[2], NULL, 10);
     for (int k = 4; k < seeds && same; k++) same = compare_seed(&job, strtoull(argv[k], NULL, 10));
     if (!shares(&job) || !same) return 1;
     if (job.command != NULL) printf("%" PRIu64 " cases, no difference\n", job.total);

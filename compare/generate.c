@@ -235,6 +235,42 @@ static unsigned draw_start_aim(struct paper *paper)
     return paper->started ? numbers[pick_weighted(&paper->random, weights, 7)] : 0;
 }
 
+/* The numbers that a program can earn on names alone, and faults of the sheet; then what 20 to 23 leave. */
+static unsigned draw_program_aim(struct random *r, bool ticketed)
+{
+    static const unsigned weights[25] = {
+        [0] = 60, [1] = 8, [2] = 20, [3] = 20, [4] = 10, [5] = 8, [11] = 25, [12] = 25, [13] = 25, [14] = 25, [15] = 25, [16] = 35,
+        [17] = 25, [18] = 30, [19] = 40, [20] = 10, [21] = 10, [22] = 15, [23] = 15, [24] = 40,
+    };
+    unsigned aim = pick_weighted(r, weights, 25);
+    while (!ticketed && (aim == 19 || aim >= 23)) aim = pick_weighted(r, weights, 25);
+    return aim;
+}
+
+static bool of_names(unsigned aim) { return aim < 20 || aim == 24; }
+
+void generate_program(uint64_t seed, uint64_t index, struct pair *pair)
+{
+    static struct paper paper;
+    paper.random = random_of(seed, index);
+    struct random *r = &paper.random;
+    pair->ticketed = chance(r, 34);
+    unsigned aim = draw_program_aim(r, pair->ticketed), walked = aim >= 10 ? aim : 0, start_aim = draw_start_aim(&paper);
+    if (of_names(aim) && chance(r, 60)) draw_by_names(&paper, walked, pair->ticketed);
+    else draw_paper(&paper, walked, pair->ticketed);
+    if (aim == 4)
+        for (unsigned tries = 0; tries < 8 && !damage_tables(r, &paper.tables); tries++) continue;
+    write_sheet(&paper, &pair->sheet);
+    if (aim == 1) damage_length(r, &pair->sheet, LONGEST_TEXT);
+    if (aim == 2) damage_form(r, &pair->sheet);
+    if (aim == 3) damage_number(r, &pair->sheet, &sheet_edges);
+    if (aim == 5) damage_end(r, &pair->sheet);
+    pair->started = paper.started;
+    if (paper.started) write_start(&paper, &pair->start, start_aim);
+    pair->answer.length = 0;
+    cut_to_case(&pair->sheet);
+}
+
 void generate_pair(uint64_t seed, uint64_t index, struct pair *pair)
 {
     static struct paper paper;

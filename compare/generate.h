@@ -34,6 +34,9 @@ struct pair { struct draft sheet, start, answer; bool started, ticketed; size_t 
 void draw_great_type(struct random *random, struct type *type);
 void draw_little_type(struct random *random, struct type *type);
 
+/* Types and depth, in a manner that helps towards the paper's aim. */
+void draw_tables(struct paper *paper);
+
 /* Lawful tables at random and a walk of no steps, in a manner that helps towards the aim. */
 void start_paper(struct paper *paper, unsigned aim, bool ticketed);
 
@@ -51,6 +54,9 @@ void unserve_start(struct paper *paper);
 /* A paper walked to its end, or to a step refused with the aim where one was found; with a start where `started` says so, and
    with tickets where `ticketed` does. */
 void draw_paper(struct paper *paper, unsigned aim, bool ticketed);
+
+/* A program that names alone allow, whatever becomes of queues and tokens, or up to an instruction refused with the aim. */
+void draw_by_names(struct paper *paper, unsigned aim, bool ticketed);
 
 /* A ticket above all that were pushed on an instance, where there is one. */
 unsigned draw_ticket(struct paper *paper, const struct instance *instance);
@@ -76,6 +82,8 @@ size_t draw_room(struct random *r, const struct pair *pair, bool short_room, jud
 void cut_to_case(struct draft *text);
 
 void generate_pair(uint64_t seed, uint64_t index, struct pair *pair);
+/* A sheet and perhaps a start; no answer. */
+void generate_program(uint64_t seed, uint64_t index, struct pair *pair);
 void generate_plan(uint64_t seed, uint64_t index, struct pair *pair);
 void generate_lent(uint64_t seed, uint64_t index, struct lent *lent);
 

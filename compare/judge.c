@@ -187,10 +187,14 @@ static bool read_answer(struct reader *r, struct step *steps, unsigned *count)
     return at_end(r);
 }
 
-/* What the texts say; without a start nothing is up. */
-struct said { struct tables tables; struct program program; struct configuration configuration; struct step step[STEPS]; unsigned steps; };
-
 /* ---- the report ---- */
+
+/* "After 1 to 5 it prints `text=sheet` or `text=answer`, `line=`.., `refused=`", or `text=start` */
+uint8_t *ink_fault(uint8_t *at, const struct result *result)
+{
+    at = ink_word(at, result->text == SHEET ? "text=sheet\n" : result->text == START ? "text=start\n" : "text=answer\n");
+    return ink_line(ink_line(at, "line=", result->line), "refused=", result->refused);
+}
 
 /* C-11: "in a line `port=` after `refused=`; it is `-` for every verdict but 34 and 38" */
 static uint8_t *ink_port(uint8_t *at, unsigned port)
@@ -238,16 +242,23 @@ static bool started(struct bytes start, struct said *said, struct result *result
     return false;
 }
 
-/* "then the lines in that order"; whether all was read, and the result says why not. */
-static bool read_texts(const struct texts *texts, struct said *said, struct result *result)
+/* "then the lines in that order" */
+bool read_paper(const struct texts *texts, struct said *said, struct result *result)
 {
-    struct reader of_sheet = reader_of(texts->sheet), of_answer = reader_of(texts->answer);
+    struct reader of_sheet = reader_of(texts->sheet);
     enum text longer = too_long(texts);
     if (longer != NO_TEXT) *result = after_whole(TOO_LONG, longer);
     else if (!read_sheet(&of_sheet, &said->tables, &said->program)) *result = after_fault(&of_sheet, SHEET);
-    else if (!started(texts->start, said, result)) return false;
-    else if (!read_answer(&of_answer, said->step, &said->steps)) *result = after_fault(&of_answer, ANSWER);
-    else return true;
+    else return started(texts->start, said, result);
+    return false;
+}
+
+static bool read_texts(const struct texts *texts, struct said *said, struct result *result)
+{
+    struct reader of_answer = reader_of(texts->answer);
+    if (!read_paper(texts, said, result)) return false;
+    if (read_answer(&of_answer, said->step, &said->steps)) return true;
+    *result = after_fault(&of_answer, ANSWER);
     return false;
 }
 

@@ -1,0 +1,17 @@
+/* What a program says that reads a sheet and a start and no answer, as bytes of standard output and of standard error. */
+#ifndef TOLD_H
+#define TOLD_H
+
+#include "result.h"
+
+/* Three lines have fewer bytes. */
+enum { LONGEST_TOLD = 128 };
+struct told { uint8_t out[LONGEST_TOLD], err[64]; size_t out_length, err_length; };
+
+/* `texts` has no answer. */
+typedef void telling(const struct texts *texts, struct told *told);
+
+/* C-19: a program checked on names alone. */
+telling foretell;
+
+#endif
