@@ -135,7 +135,7 @@ steps-have-their-text xs s =
     (said, trip .written-is-read (ofSteps xs) (trip .faultless-is-writable (ofSteps xs) fault) fault, ap (λ (k : ℕ). take k (said .steps)) (said-count (ofSteps xs)) ∙ said-back xs s)
 
 -- ---- an answer that is read
-listed : (a : Answer) → a .count ≤ length (a .steps) → answerText a ≡ answerText (ofSteps (stepsOf a))
+pub listed : (a : Answer) → a .count ≤ length (a .steps) → answerText a ≡ answerText (ofSteps (stepsOf a))
 unfolding answerText
 listed a l =
     rw (length-take-le (a .count) (a .steps) l)
