@@ -1,6 +1,7 @@
 /* batch <CASES: judges papers, each a line `case SHEETLEN STARTLEN ANSWERLEN ROOM` (STARTLEN `-`: no start) and the bytes of its texts, or
-   `plan SHEETLEN ANSWERLEN ROOM` of the Aeolus paper; `foretell SHEETLEN STARTLEN` goes through a program on names alone. To measure
-   speed: cc -std=c11 -O2 -static -o batch batch.c judge.c start.c state.c rules.c foretell.c aeolus_judge.c aeolus.c */
+   `plan SHEETLEN ANSWERLEN ROOM` of the Aeolus paper; `foretell SHEETLEN STARTLEN` goes through a program on names alone,
+   `walk SHEETLEN STARTLEN` walks it. To measure speed:
+   cc -std=c11 -O2 -static -o batch batch.c judge.c start.c state.c rules.c foretell.c walk.c aeolus_judge.c aeolus.c */
 #include <string.h>
 
 #include "aeolus.h"
@@ -32,7 +33,8 @@ static bool parse_start(const char **at, char after, struct header *h)
 
 /* A line's first word, and what it asks for. */
 struct word { const char *word; judging *judge; telling *tell; };
-static const struct word words[] = { { "case ", judge, NULL }, { "plan ", judge_plan, NULL }, { "foretell ", NULL, foretell } };
+static const struct word words[] = { { "case ", judge, NULL }, { "plan ", judge_plan, NULL }, { "foretell ", NULL, foretell },
+                                     { "walk ", NULL, walk } };
 
 static const char *parse_word(const char *line, struct header *h)
 {

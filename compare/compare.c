@@ -1,4 +1,4 @@
-/* compare pairs|plans|hall|foretell COUNT FOLDER SEED.. [-- COMMAND..]: makes COUNT cases of each seed, has the command answer
+/* compare pairs|plans|hall|foretell|walks COUNT FOLDER SEED.. [-- COMMAND..]: makes COUNT cases of each seed, has the command answer
    them through files in FOLDER, and compares every byte with the answers of the judge beside this file. Without a command the cases go
    to standard output. Ends with the shares of the numbers; status 1 after a difference or where a number is too rare. */
 #define _POSIX_C_SOURCE 200809L
@@ -23,8 +23,13 @@ struct stream { uint8_t *bytes; size_t length, size; };
 /* The cases of one run of the command, what is expected of it, and where each case starts in both. */
 struct cases { struct stream input, expected; size_t input_at[AT_ONCE + 1], expected_at[AT_ONCE + 1]; unsigned count; };
 
-/* The number of a case, whether it has a start and whether the number is one of the start, and whether its sheet has tickets. */
-struct tally { unsigned number; bool started, of_start, ticketed; };
+/* The number of a case, whether it has a start and whether the number is one of the start, whether its sheet has tickets, and how a
+   walk ends. */
+struct tally { unsigned number; bool started, of_start, ticketed; const char *ending; };
+
+/* How a walk ends, as it is said on standard error. */
+static const char *const endings[] = { "walk=done\n", "walk=cut\n", "walk=stuck\n" };
+enum { ENDINGS = 3 };
 
 /* Appends a case and its answer. */
 typedef struct tally appender(uint64_t seed, uint64_t index, struct cases *cases);
@@ -34,7 +39,7 @@ struct job {
     const char *folder;
     char **command;
     uint64_t count, seen[NUMBERS], total;
-    uint64_t seen_of_start[NUMBERS], seen_of_both[NUMBERS], started, ticketed, both;
+    uint64_t seen_of_start[NUMBERS], seen_of_both[NUMBERS], started, ticketed, both, ended[ENDINGS];
     const char *kind;
     bool texts;                       /* whether a case is texts */
     bool told;                        /* whether it has no answer */
@@ -111,7 +116,7 @@ static struct tally append_answer(struct stream *s, const struct pair *pair, jud
     judge(&texts, report, pair->room, &result);
     append_bytes(s, line, result_line(line, &result));
     append_bytes(s, report, result.length);
-    return (struct tally){ result.refused, pair->started, result.text == START, pair->ticketed };
+    return (struct tally){ result.refused, pair->started, result.text == START, pair->ticketed, "" };
 }
 
 static struct tally append_pair(uint64_t seed, uint64_t index, struct cases *cases)
@@ -146,15 +151,23 @@ static struct tally append_told(struct cases *cases, const struct pair *pair, co
     append_bytes(&cases->expected, line, told_line(line, &told));
     append_bytes(&cases->expected, told.out, told.out_length);
     append_bytes(&cases->expected, told.err, told.err_length);
-    const char *lines = (const char *)told.out;
-    return (struct tally){ told_number(lines), pair->started, strncmp(lines, "text=start", 10) == 0, pair->ticketed };
+    const char *lines = (const char *)(told.out_length > 0 ? told.out : told.err);
+    bool of_start = strncmp(lines, "text=start", 10) == 0;
+    return (struct tally){ told_number(lines), pair->started, of_start, pair->ticketed, (const char *)told.err };
 }
 
 static struct tally append_foretold(uint64_t seed, uint64_t index, struct cases *cases)
 {
     static struct pair pair;
-    generate_program(seed, index, &pair);
+    generate_program(seed, index, &pair, 0);
     return append_told(cases, &pair, "foretell", foretell);
+}
+
+static struct tally append_walk(uint64_t seed, uint64_t index, struct cases *cases)
+{
+    static struct pair pair;
+    generate_program(seed, index, &pair, 60);
+    return append_told(cases, &pair, "walk", walk);
 }
 
 static struct tally append_plan(uint64_t seed, uint64_t index, struct cases *cases)
@@ -186,7 +199,7 @@ static struct tally append_hall(uint64_t seed, uint64_t index, struct cases *cas
     uint8_t *first = make_room(&cases->expected, LONGEST_HALL_ANSWER), *at = ink_number(ink_byte(first, 'c'), (uint32_t)index);
     at = ink_changes(ink_refusal(at, refusal), before, after);
     cases->expected.length += (size_t)(ink_byte(at, '\n') - first);
-    return (struct tally){ refusal.number, false, false, false };
+    return (struct tally){ refusal.number, false, false, false, "" };
 }
 
 static void make_cases(struct job *job, uint64_t seed, uint64_t from, uint64_t count, struct cases *cases)
@@ -201,6 +214,7 @@ static void make_cases(struct job *job, uint64_t seed, uint64_t from, uint64_t c
         job->started += tally.started;
         job->ticketed += tally.ticketed;
         job->both += tally.started && tally.ticketed;
+        for (unsigned e = 0; e < ENDINGS; e++) job->ended[e] += strcmp(tally.ending, endings[e]) == 0;
         job->seen_of_start[tally.number] += tally.of_start;
         job->seen_of_both[tally.number] += tally.started && tally.ticketed && (tally.of_start || tally.number >= 10);
     }
@@ -319,7 +333,7 @@ static bool compare_seed(struct job *job, uint64_t seed)
 /* The numbers that must occur: of texts 1 to 6, in the hall 7; then the steps', the actions', or those of names alone. */
 static bool due(const struct job *job, unsigned number)
 {
-    if (job->told) return number <= 5 || (number >= 11 && number <= 18);
+    if (job->told) return number <= 5 || (job->append == append_foretold && number >= 11 && number <= 18);
     if (number >= 1 && number <= 7) return job->texts == (number < 7);
     if (job->append == append_plan) return number == 0 || number >= 60;
     return number == 0 || (number >= 10 && number <= 18) || (number >= 20 && number <= 22) || (number >= 30 && number <= 38);
@@ -342,6 +356,18 @@ static bool shares_of(const char *kind, uint64_t total, const uint64_t *seen, co
     return enough;
 }
 
+/* Prints how many walks end in each way, and how many have a start and tickets; whether each ending has two percent. */
+static bool ends(const struct job *job)
+{
+    bool enough = true;
+    for (unsigned e = 0; e < ENDINGS; e++) {
+        fprintf(stderr, "%13" PRIu64 " %s", job->ended[e], endings[e]);
+        enough = enough && job->ended[e] * 50 >= job->total;
+    }
+    fprintf(stderr, "%" PRIu64 " with a start, %" PRIu64 " with tickets\n", job->started, job->ticketed);
+    return enough;
+}
+
 /* Prints the shares; whether each number that must occur has half a percent, and each of a start, of tickets and of a start with tickets
    one percent of these. Where there is no answer, those of a start aren't asked for, and 23 is left open. */
 static bool shares(const struct job *job)
@@ -352,6 +378,7 @@ static bool shares(const struct job *job)
     fprintf(stderr, "%" PRIu64 " cases of %s\n", job->total, job->kind);
     for (unsigned number = 0; number < NUMBERS; number++)
         if (due(job, number)) enough = share(number, job->seen[number], job->total, 200) && enough;
+    if (job->append == append_walk) return ends(job) && enough;
     if (job->told) {
         enough = shares_of("a start", job->started, job->seen_of_start, of_start, 0) && enough;
         return shares_of("tickets", job->ticketed, job->seen, of_names, 2) && enough;
@@ -367,6 +394,7 @@ static const struct job kinds[] = {
     { .kind = "plans", .append = append_plan, .texts = true },
     { .kind = "hall", .append = append_hall },
     { .kind = "foretell", .append = append_foretold, .texts = true, .told = true },
+    { .kind = "walks", .append = append_walk, .texts = true, .told = true },
 };
 
 static const struct job *kind_of(const char *word)
@@ -383,7 +411,7 @@ int main(int argc, char **argv)
     const struct job *kind = argc > 4 ? kind_of(argv[1]) : NULL;
     while (seeds < argc && strcmp(argv[seeds], "--") != 0) seeds++;
     if (seeds <= 4 || kind == NULL) {
-        fputs("usage: compare pairs|plans|hall|foretell COUNT FOLDER SEED.. [-- COMMAND..]\n", stderr);
+        fputs("usage: compare pairs|plans|hall|foretell|walks COUNT FOLDER SEED.. [-- COMMAND..]\n", stderr);
         return 2;
     }
     struct job job = *kind;

@@ -2,7 +2,7 @@
 #include "generate.h"
 
 #include "damage.h"
-#include "ink.h"
+#include "lines.h"
 #include "protocol.h"
 
 /* ---- a paper's sheet and answer ---- */
@@ -33,12 +33,6 @@ static uint8_t *ink_type(uint8_t *at, const struct type *type, unsigned number)
     return at;
 }
 
-static uint8_t *ink_numbers(uint8_t *at, const uint8_t *numbers, unsigned count)
-{
-    for (unsigned k = 0; k < count; k++) at = ink_number(ink_byte(at, ','), numbers[k]);
-    return ink_byte(at, '\n');
-}
-
 static uint8_t *ink_instruction(uint8_t *at, const struct instruction *i)
 {
     static const char *const words[INSTRUCTION_VERBS] = { "add", "del", "pushb", "con", "dcon", "wait" };
@@ -46,14 +40,6 @@ static uint8_t *ink_instruction(uint8_t *at, const struct instruction *i)
     uint8_t numbers[] = { i->id, i->number, i->provider, i->provideport };
     if (i->ticketed) numbers[counts[i->verb]] = i->ticket;
     return ink_numbers(ink_word(ink_word(at, "do="), words[i->verb]), numbers, counts[i->verb] + i->ticketed);
-}
-
-static uint8_t *ink_step(uint8_t *at, const struct step *step)
-{
-    static const char *const words[STEP_VERBS] = { "next", "fire", "end", "enter", "finish" };
-    static const unsigned counts[STEP_VERBS] = { 0, 2, 2, 2, 1 };
-    const uint8_t numbers[] = { step->id, step->number };
-    return ink_numbers(ink_word(ink_word(at, "step="), words[step->verb]), numbers, counts[step->verb]);
 }
 
 void write_sheet(const struct paper *paper, struct draft *text)
@@ -68,9 +54,7 @@ void write_sheet(const struct paper *paper, struct draft *text)
 
 void write_answer(const struct paper *paper, struct draft *text)
 {
-    uint8_t *at = ink_line(ink_line(text->bytes, "answer=", 1), "steps=", paper->steps);
-    for (unsigned k = 0; k < paper->steps; k++) at = ink_step(at, &paper->step[k]);
-    text->length = (size_t)(at - text->bytes);
+    text->length = (size_t)(ink_answer(text->bytes, paper->step, paper->steps) - text->bytes);
 }
 
 /* ---- a sheet of an exact length ---- */
@@ -249,13 +233,14 @@ static unsigned draw_program_aim(struct random *r, bool ticketed)
 
 static bool of_names(unsigned aim) { return aim < 20 || aim == 24; }
 
-void generate_program(uint64_t seed, uint64_t index, struct pair *pair)
+void generate_program(uint64_t seed, uint64_t index, struct pair *pair, unsigned sound)
 {
     static struct paper paper;
     paper.random = random_of(seed, index);
     struct random *r = &paper.random;
     pair->ticketed = chance(r, 34);
-    unsigned aim = draw_program_aim(r, pair->ticketed), walked = aim >= 10 ? aim : 0, start_aim = draw_start_aim(&paper);
+    unsigned aim = chance(r, sound) ? 0 : draw_program_aim(r, pair->ticketed), walked = aim >= 10 ? aim : 0;
+    unsigned start_aim = draw_start_aim(&paper);
     if (of_names(aim) && chance(r, 60)) draw_by_names(&paper, walked, pair->ticketed);
     else draw_paper(&paper, walked, pair->ticketed);
     if (aim == 4)

@@ -82,8 +82,8 @@ size_t draw_room(struct random *r, const struct pair *pair, bool short_room, jud
 void cut_to_case(struct draft *text);
 
 void generate_pair(uint64_t seed, uint64_t index, struct pair *pair);
-/* A sheet and perhaps a start; no answer. */
-void generate_program(uint64_t seed, uint64_t index, struct pair *pair);
+/* A sheet and perhaps a start; no answer. So many of a hundred programs have nothing wrong by aim. */
+void generate_program(uint64_t seed, uint64_t index, struct pair *pair, unsigned sound);
 void generate_plan(uint64_t seed, uint64_t index, struct pair *pair);
 void generate_lent(uint64_t seed, uint64_t index, struct lent *lent);
 

@@ -72,7 +72,7 @@ def judged_in_c(folder, case):
 def plans_judged():
     """What the judge in C answers, held to what each case says: refused, accepted, text, line."""
     with tempfile.TemporaryDirectory() as folder:
-        sources = ["batch.c", "judge.c", "start.c", "state.c", "rules.c", "foretell.c", "aeolus_judge.c", "aeolus.c"]
+        sources = ["batch.c", "judge.c", "start.c", "state.c", "rules.c", "foretell.c", "walk.c", "aeolus_judge.c", "aeolus.c"]
         subprocess.run(["cc", "-std=c11", "-O1", "-o", os.path.join(folder, "batch"), *sources], cwd=os.path.join(here, "..", "..", "compare"), check=True)
         for name, sheet, answer, said_so in plans:
             out = judged_in_c(folder, as_plan(sheet, answer))
