@@ -8,7 +8,7 @@ use native.Mathlib.Numerals.{add-one}
 use native.Mathlib.Nat.{pow-suc, zero-min, min-zero, suc-min-suc}
 use native.Mathlib.Omega.{arith}
 use lib.Dec.{eqb, lit<, lit≤}
-use lib.ListN.{length, drop, getD, drop-of-length-le}
+use lib.ListN.{length, length-drop, drop, getD, drop-of-length-le}
 use lib.Seq.{drop-cons}
 use borrow.Author.Tests.{eq-eqb, ne-eqb}
 use Rattle.item_spec.specs.Reader.{Reply, Reader, got, refused, byte, give, _>>_}
@@ -37,6 +37,16 @@ from-end s zero = rw (zero-min (length s))
 from-end [] (suc at) = rw (min-zero (suc at))
 from-end (c ∷ s) (suc at) = rw (suc-min-suc at (length s)) (from-end s at)
 
+-- ---- a text shorter than a key does not have it
+key-few : (k s : List ℕ) → length s < length k → key k s ≡ refused 2
+unfolding key
+key-few [] s h = absurd (omega arith)
+key-few (a ∷ k) [] h = refl
+key-few (a ∷ k) (b ∷ s) h = by-test (eqb b a) (λ t. rw (t, key) (key-few k s (omega arith))) (λ f. rw (f, key))
+
+pub key-short : (k s : List ℕ) (i : ℕ) → length s - i < length k → key k (drop i s) ≡ refused 2
+key-short k s i h = key-few k (drop i s) (rw (length-drop i s) h)
+
 -- ---- a key, of which j bytes have been met, at the place i
 module _ (k s : List ℕ) (j i : ℕ) where
   pub key-same : j < length k → i < length s → getD s i 0 ≡ getD k j 0 → key (drop j k) (drop i s) ≡ key (drop (j + 1) k) (drop (i + 1) s)
@@ -46,10 +56,6 @@ module _ (k s : List ℕ) (j i : ℕ) where
   pub key-other : j < length k → i < length s → (getD s i 0 ≡ getD k j 0 → ⊥) → key (drop j k) (drop i s) ≡ refused 2
   unfolding key
   key-other h g e = rw (from k j h, from s i g) (simp (ne-eqb (getD s i 0) (getD k j 0) e, key))
-
-  pub key-over : j < length k → length s ≤ i → key (drop j k) (drop i s) ≡ refused 2
-  unfolding key
-  key-over h g = rw (from k j h, drop-of-length-le s g)
 
   pub key-done : length k ≤ j → key (drop j k) (drop i s) ≡ got tt (drop i s)
   unfolding key

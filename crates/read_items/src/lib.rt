@@ -75,16 +75,16 @@ pub fn place_in(s: &[u8], at: usize) -> usize
     at
 }
 
-// The bytes due stand at the place at.
+// The bytes due stand at the place at. Whether there are so many is asked once, before the first is looked at.
 pub fn past_key(s: &[u8], at: usize, due: &[u8]) -> Due
     ensures { λ r. ⌜ Reads (now (s .entry)) (dueSays r) (key (now (due .entry)) (drop at (now (s .entry)))) ⌝ }
 {
     let mut i = place_in(s, at);
+    if s.len() - i < due.len() {
+        return Due::Other;
+    }
     let mut j: usize = 0;
     while j < due.len() {
-        if s.len() <= i {
-            return Due::Other;
-        }
         if s[i] != due[j] {
             return Due::Other;
         }

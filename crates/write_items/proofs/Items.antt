@@ -1,19 +1,25 @@
 -- What each item's text is made of, and a loop's turn for it.
 -- Assumes nothing.
-use Prim.Native.Nat.{ℕ, zero, suc, _+_, _-_, _/_, _%_, _≤_, _<_}
+use Prim.Native.Nat.{ℕ, zero, suc, _+_, _-_, _/_, _%_, _^_, _≤_, _<_}
 use mathlib.Core.Path.{_≡_, refl, ap, sym, _∙_}
 use mathlib.Core.List.{List, [], _∷_, _++_, append-assoc, append-nil}
 use mathlib.Core.Bool.{true, false}
+use mathlib.Core.Logic.{_≢_, ⊎-elim}
+use native.Mathlib.Nat.{le-of-suc-le-suc, eq-or-lt-of-le}
 use native.Mathlib.Omega.{arith}
 use native.Mathlib.Numerals.{add-one}
-use lib.ListN.{length, take, getD, set, length-set}
-use lib.Seq.{take-suc, take-suc-set}
+use lib.Count.{trailingZeros, under}
+use lib.ListN.{length, take, getD}
+use lib.Seq.{take-suc}
 use borrow.Author.Tests.{lt-ltb, le-ltb}
 use Rattle.model.specs.View.{listOf}
 use Rattle.model.proofs.View.{list-snoc, list-head}
-use Rattle.sets.specs.Mask.{member}
-use Rattle.item_spec.proofs.Bits.{below-has, below-not}
-use Rattle.item_spec.specs.Write.{digitsIn, numberText, membersBelow, moreText, listText}
+use Rattle.sets.specs.Mask.{member, least, later}
+use Rattle.sets.proofs.Laws.{member-zero, member-suc}
+use Rattle.sets.proofs.Members.{rest-start, least-of, least-lt, later-own, later-other}
+use Rattle.item_spec.proofs.Tests.{by-test}
+use Rattle.item_spec.proofs.Bits.{below-has, below-not, below-same}
+use Rattle.item_spec.specs.Write.{digitsIn, numberText, membersBelow, moreText, listText, maskText}
 
 -- ---- digits
 
@@ -80,33 +86,62 @@ module _ (f : ℕ → ℕ) where
       let d : suc n - 1 ≡ n = omega arith in
       rw (e, d, list-snoc n (λ r. f (suc r))) (more-snoc (listOf n (λ r. f (suc r))) (f (suc n)))
 
--- ---- the members of a mask
+-- ---- the members of a mask, the least first
 
--- the first n of the table l are the members of m below k
-pub record Gathered (m k n : ℕ) (l : List ℕ) : Type 0 where
-  pub few : n ≤ k
-  pub long : length l ≡ 32
-  pub first : take n l ≡ membersBelow k m
+-- none below the least
+least-low : (d m j : ℕ) → j < trailingZeros d m → member j m ≡ false
+unfolding trailingZeros
+least-low zero m j h = absurd (omega arith)
+least-low (suc d) m j h = go (m % 2) refl j h (λ i l. least-low d (m / 2) i l)
+  where
+    go : (r : ℕ) → m % 2 ≡ r → (j : ℕ) → j < under r (trailingZeros d (m / 2)) → ((i : ℕ) → i < trailingZeros d (m / 2) → member i (m / 2) ≡ false) → member j m ≡ false
+    go zero e zero l half = member-zero m ∙ rw e
+    go zero e (suc i) l half = member-suc i m ∙ half i (omega arith)
+    go (suc r) e j l half = absurd (omega arith)
 
-pub gathered-none : (m : ℕ) (l : List ℕ) → length l ≡ 32 → Gathered m 0 0 l
+low-none : (n m : ℕ) → n ≤ least m → membersBelow n m ≡ []
 unfolding membersBelow
-gathered-none m l e = record { few = omega arith; long = e; first = refl }
+low-none zero m h = refl
+low-none (suc n) m h = below-not n m (least-low 32 m n h) ∙ low-none n m (omega arith)
 
-module _ {m k n : ℕ} {l : List ℕ} (g : Gathered m k n l) where
-  pub member-turn : member k m ≡ true → k < 32 → Gathered m (k + 1) (n + 1) (set l n k)
-  member-turn is h = record {
-    few = omega (arith, g .few);
-    long = length-set l n k ∙ g .long;
-    first = rw (add-one n, add-one k, below-has k m is)
-        (take-suc-set l n k (omega (arith, g .few, g .long)) ∙ ap (λ (xs : List ℕ). xs ++ (k ∷ [])) (g .first));
-  }
+module _ (m : ℕ) (some : m ≢ 0) (fits : m < 2 ^ 32) where
+  low-later : membersBelow (least m) (later m) ≡ []
+  low-later =
+      below-same (least m) (later m) m (λ j h. later-other m m (rest-start m fits) some j (λ e. omega arith)) ∙ low-none (least m) m (omega arith)
 
-  pub other-turn : member k m ≡ false → Gathered m (k + 1) n l
-  other-turn is = record { few = omega (arith, g .few); long = g .long; first = rw (add-one k, below-not k m is) (g .first) }
+  least-up : (n : ℕ) → least m < n → membersBelow n m ≡ least m ∷ membersBelow n (later m)
+  least-up zero h = absurd (omega arith)
+  least-up (suc n) h =
+      ⊎-elim
+      (λ e. rw (
+        ← e,
+        below-has (least m) m (least-of m m (rest-start m fits) some),
+        low-none (least m) m (omega arith),
+        below-not (least m) (later m) (later-own m m (rest-start m fits) some),
+        low-later,
+      ))
+      (λ l.
+      let other = later-other m m (rest-start m fits) some n (λ e. omega arith) in
+      by-test (member n m)
+      (λ t. rw (below-has n m t, below-has n (later m) (other ∙ t), least-up n l))
+      (λ f. rw (below-not n m f, below-not n (later m) (other ∙ f)) (least-up n l)))
+      (eq-or-lt-of-le (le-of-suc-le-suc h))
 
--- the first n of a table
-pub table : (n : ℕ) (l : List ℕ) → n ≤ length l → listOf n (λ i. getD l i 0) ≡ take n l
-unfolding listOf
-table zero l h = refl
-table (suc n) [] h = absurd (omega arith)
-table (suc n) (x ∷ l) h = ap (_∷_ x) (table n l (omega arith))
+  members-least : membersBelow 32 m ≡ least m ∷ membersBelow 32 (later m)
+  members-least = least-up 32 (least-lt m m (rest-start m fits) some)
+
+  pub mask-some : maskText m ≡ numberText (least m) ++ moreText (membersBelow 32 (later m))
+  unfolding maskText listText
+  mask-some = ap listText members-least
+
+  pub more-some : moreText (membersBelow 32 m) ≡ (43 ∷ numberText (least m)) ++ moreText (membersBelow 32 (later m))
+  unfolding moreText
+  more-some = ap moreText members-least
+
+pub mask-none : maskText 0 ≡ 45 ∷ []
+unfolding maskText listText membersBelow member
+mask-none = refl
+
+pub more-none : moreText (membersBelow 32 0) ≡ []
+unfolding moreText membersBelow member
+more-none = refl

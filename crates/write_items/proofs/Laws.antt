@@ -1,6 +1,6 @@
 -- Laws of `Written`: nothing written, a byte, one writer after another, a writer in the free part, and where all has room.
 -- Assumes nothing.
-use Prim.Native.Nat.{ℕ, zero, suc, _+_, _-_, _≤_, _<_}
+use Prim.Native.Nat.{ℕ, zero, suc, _+_, _-_, _≤_, _<_, min}
 use mathlib.Core.Path.{_≡_, ap, sym, _∙_, subst}
 use mathlib.Core.List.{List, [], _∷_, _++_, append-assoc, append-nil}
 use mathlib.Core.Logic.{by-cases}
@@ -36,10 +36,23 @@ gone old bytes a b h e = let z : length old - a ≡ 0 = omega arith in rw (z, e)
 pub none : (old : List ℕ) (a : ℕ) → Written old [] old a a
 none old a = record { to-is = omega arith; new-is = rw (take-nil {A = ℕ} (length old - a)) (sym (split old a)) }
 
-module _ (old : List ℕ) (a b : ℕ) where
-  pub byte-past : length old ≤ a → Written old (b ∷ []) old a a
-  byte-past h = record { to-is = omega arith; new-is = sym (gone old (b ∷ []) a a h (omega arith)) }
+pub all-past : (old bytes : List ℕ) (a : ℕ) → length old ≤ a → Written old bytes old a a
+all-past old bytes a h = record { to-is = omega arith; new-is = sym (gone old bytes a a h (omega arith)) }
 
+-- as many as have room are as good as all
+pub as-many : {old bytes new : List ℕ} {a n b : ℕ} → n ≡ min (length bytes) (length old - a) → Written old (take n bytes) new a b → Written old bytes new a b
+as-many {old} {bytes} {new} {a} {n} {b} e w =
+    by-cases (decLt (length bytes) (length old - a))
+    (λ h. rw (take-all n bytes (omega arith)) at w)
+    (λ h.
+    let m : n ≡ length old - a = omega arith in
+    let l : length (take n bytes) ≡ n = length-take n bytes ∙ (let f : min n (length bytes) ≡ n = omega arith in f) in
+    record {
+      to-is = w .to-is ∙ (let f : a + min (length old - a) (length (take n bytes)) ≡ a + min (length old - a) (length bytes) = omega (arith, l) in f);
+      new-is = w .new-is ∙ ap (λ (xs : List ℕ). take a old ++ xs ++ drop b old) (take-all (length old - a) (take n bytes) (omega (arith, l)) ∙ ap (λ (k : ℕ). take k bytes) m);
+    })
+
+module _ (old : List ℕ) (a b : ℕ) where
   pub byte-stored : a < length old → Written old (b ∷ []) (set old a b) a (a + 1)
   byte-stored h = record {
     to-is = omega arith;

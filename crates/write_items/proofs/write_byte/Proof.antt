@@ -1,10 +1,10 @@
 use borrow.Author.Needs.{needs}
-use Rattle.write_items.proofs.Laws.{byte-past, byte-stored}
+use Rattle.write_items.proofs.Laws.{all-past, byte-stored}
 use Rattle.write_items.proofs.write_byte.Statement.{statement}
 use Rattle.write_items.proofs.write_byte.Tie as tie
 
 returns : tie.Need-returns
-returns c = byte-past _ _ _ (c .if1 .taken)
+returns c = all-past _ _ _ (c .if1 .taken)
 
 returns-2 : tie.Need-returns-2
 returns-2 c = byte-stored _ _ _ (c .if1 .left)
