@@ -2,26 +2,34 @@
 -- Assumes nothing.
 use mathlib.Core.Path.{_≡_, refl, sym, ap, _∙_}
 use mathlib.Core.Logic.{_≢_}
-use mathlib.Core.Bool.{Bool, true}
+use mathlib.Core.Bool.{Bool, true, _&&_}
 use Prim.Native.Nat.{ℕ, zero, suc, _-_}
 use native.Mathlib.Omega.{arith}
 use lib.Dec.{eqb, leb}
 use borrow.Author.Tests.{eq-eqb, ne-eqb}
 use Rattle.sets.specs.Test.{tally}
-use Rattle.aeolus_model.specs.Model.{Universe, Configuration}
-use Rattle.aeolus_rules_spec.specs.Correct.{required, provided, asked}
+use Rattle.sets.specs.Mask.{member}
+use Rattle.aeolus_model.specs.Model.{Universe, Configuration, bound}
+use Rattle.aeolus_rules_spec.specs.Correct.{serves, required, provided, asked}
 use Rattle.aeolus_correct.specs.declared.Test.{Test}
 use Rattle.aeolus_correct.specs.Tests.{passes}
+use Rattle.aeolus_correct.proofs.Users.{providers-counted, servers-counted}
 
-module _ (u : Universe) (c : Configuration) (z r : ℕ) where
-  pub none-required : (n : ℕ) → n ≡ 0 → {k : ℕ} → k ≡ tally 32 (passes Test.Provides u c r z) → eqb k 0 ≡ required u c z r n
+module _ (u : Universe) (c : Configuration) (z r n m : ℕ) where
+  -- counted among all deployed components
+  pub none-required : n ≡ 0 → m ≡ c .present → {k : ℕ} → k ≡ tally 32 (λ y. member y m && passes Test.Provides u c r z y) → eqb k 0 ≡ required u c z r n
   unfolding required passes
-  none-required n e f = rw (e, f)
+  none-required e here f = rw (e, f, here, providers-counted u c z r)
 
-  pub some-required : (n : ℕ) → n ≢ 0 → {k : ℕ} → k ≡ tally 32 (passes Test.Serves u c r z) → leb n k ≡ required u c z r n
+  -- counted among those to which z is bound
+  pub some-required : n ≢ 0 → ((y : ℕ) → member y m ≡ bound u c r z y) → {k : ℕ} → k ≡ tally 32 (λ y. member y m && passes Test.Provides u c r z y)
+      → leb n k ≡ required u c z r n
   unfolding required passes
-  some-required zero d f = absurd (d refl)
-  some-required (suc n) d f = rw f
+  some-required d those {k} f = rw (f, servers-counted u c z r m those) (so n d)
+    where
+      so : (n : ℕ) → n ≢ 0 → leb n (tally 32 (serves u c r z)) ≡ required u c z r n
+      so zero d = absurd (d refl)
+      so (suc n) d = refl
 
 module _ (u : Universe) (c : Configuration) (m z r : ℕ) where
   pub nothing-asked : {x : ℕ} → x ≡ 0 → true ≡ asked u c m z r x

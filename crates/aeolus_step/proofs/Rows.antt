@@ -1,10 +1,10 @@
--- Rows of bindings one by one: counted, and freed of a component.
+-- Rows of bindings one by one: counted, joined, and freed of a component.
 -- Assumes nothing.
 use mathlib.Core.Path.{_≡_, refl, sym, ap, ap₂, _∙_}
 use mathlib.Core.Logic.{_≢_, by-cases}
-use mathlib.Core.Bool.{true, false, cond}
+use mathlib.Core.Bool.{Bool, true, false, cond, _||_, true≢false}
 use mathlib.Core.List.{List, [], _∷_}
-use Prim.Native.Nat.{ℕ, zero, suc, _+_, _/_, _%_, _^_, _≤_, _<_}
+use Prim.Native.Nat.{ℕ, zero, suc, _+_, _*_, _/_, _%_, _^_, _≤_, _<_}
 use native.Mathlib.Omega.{arith}
 use native.Mathlib.Nat.{le-step, pow-suc}
 use native.Mathlib.Numerals.{add-one}
@@ -15,8 +15,8 @@ use lib.ListN.{length, getD, set, take, length-set}
 use lib.Seq.{take-all, getD-set-same, getD-set-other, ext-getD}
 use borrow.Author.Tests.{eq-eqb, ne-eqb}
 use Rattle.sets.specs.Test.{tally}
-use Rattle.sets.specs.Mask.{member, without, only}
-use Rattle.sets.proofs.Laws.{member-zero, member-suc}
+use Rattle.sets.specs.Mask.{member, without, only, joined}
+use Rattle.sets.proofs.Laws.{member-zero, member-suc, member-none, member-joined, same-members}
 use Rattle.sets.proofs.Tally.{tally-same, tally-first}
 use Rattle.model.proofs.View.{length-list}
 use Rattle.areas.specs.Area.{word}
@@ -24,7 +24,8 @@ use Rattle.aeolus_model.specs.Model.{Configuration}
 use Rattle.aeolus_model.specs.Words.{configurationIn}
 use Rattle.aeolus_rules_spec.specs.Bind.{sizes}
 use Rattle.aeolus_rules_spec.specs.Del.{freed}
-use Rattle.aeolus_rules_spec.proofs.Bindings.{size, sizes-one, length-freed}
+use Rattle.aeolus_rules_spec.proofs.Bindings.{size, sizes-one, none-size, length-freed}
+use Rattle.aeolus_step.specs.Rows.{EmptyRows, firstSizes}
 use Rattle.aeolus_step.specs.Freed.{withRows, freedAt}
 
 pub rows-long : (ws : List ℕ) → length (configurationIn ws .bound) ≡ 512
@@ -51,11 +52,50 @@ pub sizes-start : (ms : List ℕ) → 0 ≡ sizes (take 0 ms)
 unfolding sizes
 sizes-start ms = refl
 
-pub sizes-more : (ws : List ℕ) (i : ℕ) → i < 512 → sizes (take (i + 1) (configurationIn ws .bound)) ≡ sizes (take i (configurationIn ws .bound)) + size (getD (configurationIn ws .bound) i 0)
-sizes-more ws i h = rw (add-one i) (sizes-one (configurationIn ws .bound) i (rw (rows-long ws) h))
-
 pub sizes-all : (ws : List ℕ) → sizes (take 512 (configurationIn ws .bound)) ≡ sizes (configurationIn ws .bound)
 sizes-all ws = ap sizes (take-all 512 (configurationIn ws .bound) (omega (arith, rows-long ws)))
+
+module _ (ws : List ℕ) (z : ℕ) where
+  pub sizes-more : (j : ℕ) → z * 16 + j < 512
+      → firstSizes (configurationIn ws) (z * 16 + (j + 1)) ≡ firstSizes (configurationIn ws) (z * 16 + j) + size (getD (configurationIn ws .bound) (z * 16 + j) 0)
+  sizes-more j h =
+      let e : z * 16 + (j + 1) ≡ suc (z * 16 + j) = omega arith in
+      rw e (sizes-one (configurationIn ws .bound) (z * 16 + j) (rw (rows-long ws) h))
+
+  -- none in empty rows
+  pub sizes-none-more : (n : ℕ) → z * 16 + n ≤ 512 → EmptyRows (configurationIn ws) z n
+      → firstSizes (configurationIn ws) (z * 16 + n) ≡ firstSizes (configurationIn ws) (z * 16) + 0
+  unfolding EmptyRows
+  sizes-none-more zero h f = let e : z * 16 + 0 ≡ z * 16 = omega arith in rw e (omega arith)
+  sizes-none-more (suc n) h f =
+      let e : suc n ≡ n + 1 = omega arith in
+      rw e (sizes-more n (omega arith)
+      ∙ rw (f n (omega arith)) (omega (arith, none-size 32, sizes-none-more n (omega arith) (λ j l. f j (omega arith)))))
+
+-- ---- rows joined
+
+or-none : (a b : Bool) → (a || b) ≡ false → (a ≡ false) × (b ≡ false)
+or-none false false e = (refl, refl)
+or-none false true e = (refl, e)
+or-none true b e = (e, absurd (true≢false e))
+
+joined-none : (a b : ℕ) → a < 2 ^ 32 → b < 2 ^ 32 → joined a b ≡ 0 → (a ≡ 0) × (b ≡ 0)
+joined-none a b f g e =
+    (same-members 32 a 0 f (omega arith) (λ j h. none j h .0 ∙ sym (member-none j)), same-members 32 b 0 g (omega arith) (λ j h. none j h .1 ∙ sym (member-none j)))
+  where
+    none : (j : ℕ) → j < 32 → (member j a ≡ false) × (member j b ≡ false)
+    none j h = or-none (member j a) (member j b) (sym (member-joined j a b h) ∙ ap (member j) e ∙ member-none j)
+
+pub empty-start : (c : Configuration) (z : ℕ) → EmptyRows c z 0
+unfolding EmptyRows
+empty-start c z j h = absurd (omega arith)
+
+pub empty-more : (c : Configuration) (z j : ℕ) {a b m : ℕ} → a < 2 ^ 32 → b < 2 ^ 32 → (a ≡ 0 → EmptyRows c z j) → b ≡ getD (c .bound) (z * 16 + j) 0
+    → m ≡ joined a b → m ≡ 0 → EmptyRows c z (j + 1)
+unfolding EmptyRows
+empty-more c z j {a} {b} f g before is e none i h =
+    let (x, y) = joined-none a b f g (sym e ∙ none) in
+    by-cases (decLt i j) (λ l. before x i l) (λ l. let q : i ≡ j = omega arith in rw q (sym is ∙ y))
 
 -- ---- freed of z, the first n of them
 

@@ -1,3 +1,4 @@
--- Rows of bindings freed one by one (Freed); no other outcome (Once).
+-- Rows of bindings counted (Rows) and freed (Freed) one by one; no other outcome (Once).
+pub mod Rows
 pub mod Freed
 pub mod Once

@@ -13,6 +13,7 @@ use aeolus_model::state_of;
 use aeolus_model::to_of;
 use rules_spec::refuse_if;
 ghost use mathlib.Core.Path.{_≡_};
+ghost use Prim.Native.Nat.{_+_, _*_, _≤_, _<_};
 ghost use lib.ListN.{getD};
 ghost use Rattle.sets.specs.Test.{tally};
 ghost use Rattle.sets.specs.Mask.{member};
@@ -21,6 +22,7 @@ ghost use Rattle.aeolus_model.specs.Words.{universeIn, configurationIn};
 ghost use Rattle.aeolus_rules_spec.specs.Change.{changeCheck};
 ghost use Rattle.aeolus_rules_spec.specs.Bind.{bindings, bindCheck};
 ghost use Rattle.aeolus_rules_spec.specs.Action.{check};
+ghost use Rattle.aeolus_step.specs.Rows.{EmptyRows, firstSizes};
 
 // How many members a set has.
 pub fn size_of(m: u32) -> u32
@@ -40,15 +42,47 @@ fn row_size(deployed: &Deployed, n: usize) -> u32
     size_of(m)
 }
 
+// The rows of z joined: 0 only where all are empty.
+fn joined_rows(deployed: &Deployed, z: usize) -> u32
+    requires { ⌜ z < 32 ⌝ }
+    ensures { λ m. ⌜ (m ≡ 0 → EmptyRows (configurationIn (now (deployed .entry))) z 16) ⌝ }
+{
+    let mut all: u32 = 0;
+    let mut j: usize = 0;
+    while j < 16 {
+        all = sets::joined(all, bound_row(deployed, z * 16 + j));
+        j += 1;
+    }
+    all
+}
+
+// How many bindings stand in the sixteen rows of z. Where all are empty, none is looked at by itself.
+fn rows_size(deployed: &Deployed, z: usize) -> u32
+    requires { ⌜ z < 32 ⌝ }
+    ensures { λ n. ⌜ (n ≤ 512) × (firstSizes (configurationIn (now (deployed .entry))) (z * 16 + 16)
+        ≡ firstSizes (configurationIn (now (deployed .entry))) (z * 16) + n) ⌝ }
+{
+    if joined_rows(deployed, z) == 0 {
+        return 0;
+    }
+    let mut n: u32 = 0;
+    let mut j: usize = 0;
+    while j < 16 {
+        n += row_size(deployed, z * 16 + j);
+        j += 1;
+    }
+    n
+}
+
 // How many bindings stand.
 pub fn bindings(deployed: &Deployed) -> u32
     ensures { λ n. ⌜ n ≡ bindings (configurationIn (now (deployed .entry))) ⌝ }
 {
     let mut n: u32 = 0;
-    let mut i: usize = 0;
-    while i < 512 {
-        n += row_size(deployed, i);
-        i += 1;
+    let mut z: usize = 0;
+    while z < 32 {
+        n += rows_size(deployed, z);
+        z += 1;
     }
     n
 }

@@ -1,2 +1,3 @@
--- Two tests of a line that may be absent (Tests).
+-- Two tests of a line that may be absent (Tests), names that have no line (Names).
 pub mod Tests
+pub mod Names

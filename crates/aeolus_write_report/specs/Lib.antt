@@ -1,2 +1,3 @@
--- What a run came to, as the rules say it (Ran).
+-- What a run came to, as the rules say it (Ran), and the next name for which there are bindings (Names).
 pub mod Ran
+pub mod Names

@@ -4,8 +4,10 @@ use aeolus_correct::is_deployed;
 use aeolus_model::Deployed;
 use aeolus_model::Universe;
 use aeolus_model::bound_at;
+use aeolus_model::interfaces_of;
 use aeolus_model::kind_of;
 use aeolus_model::lists;
+use aeolus_model::name_of;
 use aeolus_model::place_of;
 use aeolus_model::present;
 use aeolus_model::state_of;
@@ -16,13 +18,16 @@ use write_items::write_byte;
 use write_items::write_key;
 use write_items::write_number;
 use write_report::write_count;
+ghost use mathlib.Core.Path.{_≡_};
 ghost use mathlib.Core.List.{_++_};
+ghost use Prim.Native.Nat.{_<_};
 ghost use Rattle.sets.specs.Mask.{member};
 ghost use Rattle.item_spec.specs.Write.{onlyIf, inTurn, threeText};
 ghost use Rattle.write_items.specs.Written.{Written};
 ghost use Rattle.aeolus_model.specs.Words.{universeIn, configurationIn};
 ghost use Rattle.aeolus_judge_spec.specs.Report.{bindingText, componentAt, providersText, bindingsAt, headPart, componentsPart, bindingsPart, report};
 ghost use Rattle.aeolus_write_report.specs.Ran.{ran};
+ghost use Rattle.aeolus_write_report.specs.Names.{InUse, Next};
 
 // A key and three numbers.
 fn write_three(t: &mut [u8], key: &[u8], a: u32, b: u32, c: u32) -> usize
@@ -112,15 +117,64 @@ fn write_requirers(t: &mut [u8], universe: &Universe, deployed: &Deployed, r: u3
     used
 }
 
+// The name of interface j of z, where z has bindings for it and it lies from `from` on and before `next`; else `next`.
+fn nearer(universe: &Universe, deployed: &Deployed, z: u32, j: u32, from: u32, next: u32) -> u32
+    ensures { λ n. ⌜ Next (universeIn (now (universe .entry))) (configurationIn (now (deployed .entry))) from next n (λ y i. (y ≡ z) × (i ≡ j)) ⌝ }
+{
+    if bound_at(deployed, z, j) == 0 {
+        return next;
+    }
+    let r = name_of(universe, kind_of(deployed, z), j);
+    if r < from {
+        return next;
+    }
+    if next <= r {
+        return next;
+    }
+    r
+}
+
+fn next_of(universe: &Universe, deployed: &Deployed, z: u32, from: u32, best: u32) -> u32
+    ensures { λ n. ⌜ Next (universeIn (now (universe .entry))) (configurationIn (now (deployed .entry))) from best n
+        (λ y i. (y ≡ z) × InUse (universeIn (now (universe .entry))) (configurationIn (now (deployed .entry))) y i) ⌝ }
+{
+    if !is_deployed(deployed, z) {
+        return best;
+    }
+    let most = interfaces_of(universe, kind_of(deployed, z));
+    let mut next = best;
+    let mut j: u32 = 0;
+    while j < most {
+        next = nearer(universe, deployed, z, j, from, next);
+        j += 1;
+    }
+    next
+}
+
+// The first name from `from` on for which there are bindings, 256 where there is none.
+fn next_name(universe: &Universe, deployed: &Deployed, from: u32) -> u32
+    ensures { λ n. ⌜ Next (universeIn (now (universe .entry))) (configurationIn (now (deployed .entry))) from 256 n
+        (λ y i. (y < 32) × InUse (universeIn (now (universe .entry))) (configurationIn (now (deployed .entry))) y i) ⌝ }
+{
+    let mut next: u32 = 256;
+    let mut z: u32 = 0;
+    while z < 32 {
+        next = next_of(universe, deployed, z, from, next);
+        z += 1;
+    }
+    next
+}
+
+// Only names for which there are bindings are looked at.
 fn write_binding_lines(t: &mut [u8], universe: &Universe, deployed: &Deployed) -> usize
     ensures { λ n. ⌜ Written (now (t .entry))
         (inTurn (λ r. inTurn (bindingsAt (universeIn (now (universe .entry))) (configurationIn (now (deployed .entry))) r) 32) 256) (now (t .exit)) 0 n ⌝ }
 {
     let mut used: usize = 0;
-    let mut r: u32 = 0;
+    let mut r = next_name(universe, deployed, 0);
     while r < 256 {
         used += write_requirers(&mut t[used..], universe, deployed, r);
-        r += 1;
+        r = next_name(universe, deployed, r + 1);
     }
     used
 }

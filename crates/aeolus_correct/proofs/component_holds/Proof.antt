@@ -1,14 +1,18 @@
-use borrow.Author.Tests.{not-true, not-false}
-use Rattle.aeolus_rules_spec.specs.Correct.{componentHolds}
+use Rattle.aeolus_correct.proofs.Users.{users-are}
+use Rattle.aeolus_model.specs.Words.{universeIn, configurationIn}
 use borrow.Author.Needs.{needs}
 use Rattle.aeolus_correct.proofs.component_holds.Statement.{statement}
 use Rattle.aeolus_correct.proofs.component_holds.Tie as tie
 
+ports-hold-requires : tie.Need-ports-hold-requires
+ports-hold-requires c κs = λ e. absurd (c .if1 .taken e)
+
+ports-hold-requires-2 : tie.Need-ports-hold-requires-2
+ports-hold-requires-2 c κs =
+    let pre = c .before .before .pre in
+    let a = c .before .before .args in
+    λ e. users-are (universeIn (a .universe .now)) (configurationIn (a .deployed .now)) (a .z) (a .targets .now) _ (pre .0) (pre .1 e) (c .users-of .ensures)
+
 pub component-holds-spec : {M : Type 1} → statement M
-unfolding componentHolds
 component-holds-spec =
-    tie.close
-    (tie.spec
-    (λ c κs. search needs) (λ c κs. search needs)
-    (λ c. rw (← c .before .is-deployed .ensures, c .if1 .taken))
-    (λ c. rw (← c .before .before .is-deployed .ensures, c .before .if1 .left) (c .ports-hold .ensures)))
+    tie.close (tie.spec ports-hold-requires (λ c. c .ports-hold .ensures) (λ c κs. search needs) ports-hold-requires-2 (λ c. c .ports-hold2 .ensures))

@@ -9,11 +9,7 @@ returns c = rw (c .before .enum-told .given .1) (c .provides .ensures)
 
 returns-2 : tie.Need-returns-2
 unfolding passes
-returns-2 c = rw (c .before .enum-told2 .given .1) (c .serves .ensures)
-
-returns-3 : tie.Need-returns-3
-unfolding passes
-returns-3 c = rw (c .before .enum-told3 .given .1) (c .employs .ensures)
+returns-2 c = rw (c .before .enum-told2 .given .1) (c .employs .ensures)
 
 pub passes-spec : {M : Type 1} → statement M
-passes-spec = tie.close (tie.spec (λ c. search needs) (λ c κs. search needs) (λ c. search needs) (λ c κs. search needs) (λ c. search needs) (λ c κs. search needs) returns returns-2 returns-3)
+passes-spec = tie.close (tie.spec (λ c. search needs) (λ c κs. search needs) (λ c. search needs) (λ c κs. search needs) returns returns-2)

@@ -11,13 +11,16 @@ use Rattle.aeolus_correct.proofs.ports_hold.Statement.{statement}
 use Rattle.aeolus_correct.proofs.ports_hold.Tie as tie
 
 abbrev Inv-loop : tie.InvT-loop
-Inv-loop universe deployed m z n j₀ j = (j ≤ n) × (allBelow j (portHolds (universeIn universe) (configurationIn deployed) m z) ≡ true)
+Inv-loop universe deployed m z users n j₀ j = (j ≤ n) × (allBelow j (portHolds (universeIn universe) (configurationIn deployed) m z) ≡ true)
 
 abbrev μ-loop : tie.MeasureT-loop
-μ-loop universe deployed m z n j₀ j = n - j
+μ-loop universe deployed m z users n j₀ j = n - j
 
 loop-holds : tie.Need-loop-holds Inv-loop μ-loop
 loop-holds c = (search needs, all-start _)
+
+port-holds-requires : tie.Need-port-holds-requires Inv-loop μ-loop
+port-holds-requires c κs = c .before .before .before .before .pre
 
 returns : tie.Need-returns Inv-loop μ-loop
 returns c =
@@ -37,4 +40,4 @@ returns-2 c =
     ∙ ap (λ (n : ℕ). allBelow n (portHolds (universeIn (a .universe .now)) (configurationIn (a .deployed .now)) (a .m) (a .z))) (rw (← l .before .before .kind-of .ensures) (l .before .interfaces-of .ensures))
 
 pub ports-hold-spec : {M : Type 1} → statement M
-ports-hold-spec = tie.close (tie.spec Inv-loop μ-loop (λ c κs. search needs) (λ c κs. search needs) loop-holds (λ c κs. search needs) returns (λ c. search needs) (λ c. search needs) loop-again returns-2)
+ports-hold-spec = tie.close (tie.spec Inv-loop μ-loop (λ c κs. search needs) (λ c κs. search needs) loop-holds port-holds-requires returns (λ c. search needs) (λ c. search needs) loop-again returns-2)

@@ -1,3 +1,4 @@
+use mathlib.Core.Path.{_∙_}
 use Rattle.aeolus_rules_spec.specs.Action.{reachedCheck}
 use borrow.Author.Needs.{needs}
 use Rattle.aeolus_correct.proofs.reached_check.Statement.{statement}
@@ -9,4 +10,4 @@ reached-check-spec =
     tie.close
     (tie.spec
     (λ c κs. search needs) (λ c κs. search needs) (λ c κs. search needs) (λ c κs. search needs)
-    (λ c. rw (← c .before .before .before .holds .ensures, ← c .before .before .holds2 .ensures, ← c .before .refuse-if .ensures) (c .refuse-if2 .ensures)))
+    (λ c. c .refuse-if2 .ensures ∙ rw (c .before .refuse-if .ensures, c .before .before .holds2 .ensures, c .before .before .before .holds .ensures)))
