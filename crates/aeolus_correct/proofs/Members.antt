@@ -2,12 +2,14 @@
 -- Assumes nothing.
 use mathlib.Core.Path.{_≡_, refl, sym, ap, _∙_}
 use mathlib.Core.Logic.{_≢_, by-cases}
-use mathlib.Core.Bool.{Bool, true, false, not, _&&_, _||_, and-false}
+use mathlib.Core.Bool.{Bool, true, false, not, _&&_, _||_, and-true, and-false}
 use Prim.Native.Nat.{ℕ, suc, _^_, _<_}
 use native.Mathlib.Decide.{ℕ-discrete}
+use lib.Dec.{eqb}
+use borrow.Author.Tests.{eq-eqb, ne-eqb}
 use Rattle.sets.specs.Test.{allBelow, tally}
-use Rattle.sets.specs.Mask.{member, least, later}
-use Rattle.sets.proofs.Laws.{member-none, all-of, all-same, all-miss}
+use Rattle.sets.specs.Mask.{member, without, least, later}
+use Rattle.sets.proofs.Laws.{member-none, member-without, all-of, all-same, all-miss}
 use Rattle.sets.proofs.Tally.{tally-none, tally-same, tally-one}
 use Rattle.sets.proofs.Members.{rest-start, least-of, least-lt, later-own, later-other}
 use Rattle.item_spec.proofs.Tests.{by-test}
@@ -63,3 +65,18 @@ pub among-all : (m : ℕ) (p : ℕ → Bool) → ((y : ℕ) → y < 32 → p y �
 among-all m p f =
     tally-same 32 (λ y. member y m && p y) p
     (λ y h. by-test (p y) (λ t. rw (f y h t, t)) (λ t. rw t (and-false (member y m))))
+
+-- all of a set, or those of another set among them where m is 0
+module _ (m r used z : ℕ) where
+  pub asked-all : {here : ℕ} → r ≡ here → m ≢ 0 → member z r ≡ (member z here && (not (eqb m 0) || member z used))
+  asked-all {here} e d = rw (ne-eqb m 0 d, e) (sym (and-true (member z here)))
+
+  pub asked-used : (all : ℕ) {here : ℕ} → z < 32 → all ≡ here → m ≡ 0 → r ≡ without all (without all used) → member z r ≡ (member z here && (not (eqb m 0) || member z used))
+  asked-used all {here} h e d f =
+      rw (f, eq-eqb m 0 d, ← e)
+      (member-without z all (without all used) h ∙ rw (member-without z all used h) (go (member z all) (member z used)))
+    where
+      go : (a b : Bool) → (a && not (a && not b)) ≡ (a && b)
+      go true true = refl
+      go true false = refl
+      go false b = refl

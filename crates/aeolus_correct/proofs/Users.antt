@@ -1,26 +1,26 @@
 -- Those that have a component as a target are all that can employ it; those that a component is bound to, all that can serve it.
 -- Assumes nothing.
 use mathlib.Core.Path.{_≡_, refl, sym, ap, _∙_}
-use mathlib.Core.Bool.{Bool, true, false, not, _&&_, _||_, and-comm, true≢false, false≢true}
+use mathlib.Core.Bool.{Bool, true, false, not, _&&_, _||_, and-comm, or-true, true≢false, false≢true}
 use mathlib.Core.Logic.{_≢_, by-cases}
 use mathlib.Core.List.{List}
-use Prim.Native.Nat.{ℕ, _+_, _^_, _<_}
+use Prim.Native.Nat.{ℕ, zero, suc, _+_, _^_, _<_}
 use native.Mathlib.Omega.{arith}
 use native.Mathlib.Numerals.{add-one}
 use native.Mathlib.Decide.{ℕ-discrete}
 use lib.Dec.{eqb, ltb}
 use lib.ListN.{length, getD, set, length-set}
 use lib.Seq.{getD-set-same, getD-set-other}
-use borrow.Author.Tests.{ltb-true}
+use borrow.Author.Tests.{eqb-true, ltb-true, le-leb}
 use Rattle.sets.specs.Test.{allBelow, anyBelow, tally}
 use Rattle.sets.specs.Mask.{member, collect, joined, least, later}
-use Rattle.sets.proofs.Laws.{any-hit, member-none, member-collect, collect-is, collect-same}
-use Rattle.sets.proofs.Tally.{tally-same}
+use Rattle.sets.proofs.Laws.{any-hit, all-of, all-same, member-none, member-joined, member-collect, collect-is, collect-same}
+use Rattle.sets.proofs.Tally.{tally-none, tally-same}
 use Rattle.sets.proofs.Members.{rest-start, later-other}
 use Rattle.item_spec.proofs.Tests.{by-test}
 use Rattle.aeolus_model.specs.Model.{Universe, Configuration, typeOf, placeOf, kindOf, deployed, isActive, provision, weak, strong, boundAt, bound}
-use Rattle.aeolus_rules_spec.specs.Correct.{provides, serves, employs, portHolds, componentHolds, holds}
-use Rattle.aeolus_correct.specs.Users.{targetsOf, Targets, Users}
+use Rattle.aeolus_rules_spec.specs.Correct.{provides, serves, employs, provided, asked, portHolds, componentHolds, holds}
+use Rattle.aeolus_correct.specs.Users.{targetsOf, Targets, Used, Users}
 use Rattle.aeolus_correct.proofs.Members.{allPass, among-all}
 use Rattle.aeolus_correct.proofs.Places.{employs-by}
 
@@ -90,28 +90,69 @@ module _ (u : Universe) (c : Configuration) (z r : ℕ) where
 abbrev pub portsHold : Universe → Configuration → ℕ → ℕ → Bool
 portsHold u c m z = allBelow (typeOf u (kindOf c z) .interfaces) (portHolds u c m z)
 
-pub all-hold : (u : Universe) (c : Configuration) (m r : ℕ) → r ≡ c .present → allPass (portsHold u c m) r ≡ holds u c m
+module _ (u : Universe) (c : Configuration) (used : ℕ) (all : Used u c used) where
+  -- nothing is asked of a component that nobody uses
+  no-user : (z p : ℕ) → z < 32 → member z used ≡ false → tally 32 (employs u c p z) ≡ 0
+  unfolding Used
+  no-user z p h off =
+      tally-same 32 (employs u c p z) (λ _. false)
+      (λ y l. by-test (employs u c p z y)
+      (λ t. let (here, aim) = employer u c z p y h t in absurd (true≢false (sym (all y z l h here aim) ∙ off)))
+      (λ f. f))
+      ∙ tally-none 32 (λ _. false) (λ _. refl)
+
+  unasked : (z r x : ℕ) → z < 32 → member z used ≡ false → asked u c provision z r x ≡ true
+  unfolding asked provided
+  unasked z r zero h off = refl
+  unasked z r (suc n) h off = rw (no-user z r h off) (le-leb 0 n (omega arith))
+
+  unused : (z : ℕ) → z < 32 → member z used ≡ false → portsHold u c provision z ≡ true
+  unfolding portHolds
+  unused z h off = all-of _ _ (λ j l. unasked z _ _ h off)
+
+pub all-hold : (u : Universe) (c : Configuration) (m r used : ℕ) → ((z : ℕ) → z < 32 → member z r ≡ (deployed c z && (not (eqb m 0) || member z used)))
+    → (m ≡ 0 → Used u c used) → allPass (portsHold u c m) r ≡ holds u c m
 unfolding holds componentHolds
-all-hold u c m r e = rw e refl
+all-hold u c m r used is all =
+    all-same 32 (λ z. not (member z r) || portsHold u c m z) (λ z. not (deployed c z) || portsHold u c m z)
+    (λ z h. rw (is z h)
+    (by-test (deployed c z)
+    (λ d. rw d
+    (by-test (eqb m 0)
+    (λ e. rw e
+    (by-test (member z used) (λ t. rw t) (λ f. rw f (sym (rw (eqb-true m 0 e) (unused u c used (all (eqb-true m 0 e)) z h f))))))
+    (λ e. rw e)))
+    (λ d. rw d)))
 
 -- ---- the table of targets, filled for those that are no more in the rest r
 
-pub record Filled (u : Universe) (c : Configuration) (r : ℕ) (all : List ℕ) : Type 0 where
-  pub long : length all ≡ 32
-  pub told : (y : ℕ) → y < 32 → deployed c y ≡ true → member y r ≡ false → getD all y 0 ≡ targetsOf u c y
+pub record Filled (u : Universe) (c : Configuration) (r : ℕ) (targets : List ℕ) (used : ℕ) : Type 0 where
+  pub long : length targets ≡ 32
+  pub told : (y : ℕ) → y < 32 → deployed c y ≡ true → member y r ≡ false → getD targets y 0 ≡ targetsOf u c y
+  pub all : (y z : ℕ) → y < 32 → z < 32 → deployed c y ≡ true → member y r ≡ false → member z (targetsOf u c y) ≡ true → member z used ≡ true
 
-module _ (u : Universe) (c : Configuration) (r : ℕ) (all : List ℕ) where
-  pub filled-none : length all ≡ 32 → r ≡ c .present → Filled u c r all
-  filled-none l e = record { long = l; told = λ y h d f. absurd (true≢false (sym d ∙ ap (member y) (sym e) ∙ f)) }
+module _ (u : Universe) (c : Configuration) (r : ℕ) (targets : List ℕ) (used : ℕ) where
+  pub filled-none : length targets ≡ 32 → r ≡ c .present → Filled u c r targets used
+  filled-none l e = record { long = l; told = λ y h d f. absurd (none y d f); all = λ y z h k d f. absurd (none y d f) }
+    where
+      none : (y : ℕ) → deployed c y ≡ true → member y r ≡ false → ⊥
+      none y d f = true≢false (sym d ∙ ap (member y) (sym e) ∙ f)
 
-  pub filled-more : Filled u c r all → r < 2 ^ 32 → r ≢ 0 → {y x : ℕ} → y ≡ least r → x ≡ targetsOf u c y → Filled u c (later r) (set all y x)
+  pub filled-more : Filled u c r targets used → r < 2 ^ 32 → r ≢ 0 → {y x : ℕ} → y ≡ least r → x ≡ targetsOf u c y
+      → Filled u c (later r) (set targets y x) (joined used x)
   filled-more g fits some {y} {x} at is = record {
-    long = length-set all y x ∙ g .long;
-    told = λ z h d f. by-cases (ℕ-discrete z y)
-        (λ e. rw e (getD-set-same all y x 0 (omega (arith, g .long)) ∙ is))
-        (λ n. getD-set-other all y z x 0 n ∙ g .told z h d (sym (later-other r r (rest-start r fits) some z (λ e. n (e ∙ sym at))) ∙ f));
+    long = length-set targets y x ∙ g .long;
+    told = λ i h d f. by-cases (ℕ-discrete i y)
+        (λ e. rw e (getD-set-same targets y x 0 (omega (arith, g .long)) ∙ is))
+        (λ n. getD-set-other targets y i x 0 n ∙ g .told i h d (still i n f));
+    all = λ i z h k d f e. member-joined z used x k ∙ by-cases (ℕ-discrete i y)
+        (λ q. rw (is, ← q, e) (or-true (member z used)))
+        (λ n. rw (g .all i z h k d (still i n f) e));
   }
+    where
+      still : (i : ℕ) → i ≢ y → member i (later r) ≡ false → member i r ≡ false
+      still i n f = sym (later-other r r (rest-start r fits) some i (λ e. n (e ∙ sym at))) ∙ f
 
-  pub filled-all : r ≡ 0 → Filled u c r all → Targets u c all
-  unfolding Targets
-  filled-all e g = λ y h d. g .told y h d (rw e (member-none y))
+  pub filled-all : r ≡ 0 → Filled u c r targets used → Targets u c targets × Used u c used
+  unfolding Targets Used
+  filled-all e g = (λ y h d. g .told y h d (rw e (member-none y)), λ y z h k d. g .all y z h k d (rw e (member-none y)))

@@ -17,6 +17,10 @@ targetsOf u c y = collect 32 (λ z. anyBelow (typeOf u (kindOf c y) .interfaces)
 unfoldable pub Targets : Universe → Configuration → List ℕ → Type 0
 Targets u c targets = (y : ℕ) → y < 32 → deployed c y ≡ true → getD targets y 0 ≡ targetsOf u c y
 
+-- every target of a deployed component is one of these
+unfoldable pub Used : Universe → Configuration → ℕ → Type 0
+Used u c used = (y z : ℕ) → y < 32 → z < 32 → deployed c y ≡ true → member z (targetsOf u c y) ≡ true → member z used ≡ true
+
 -- whoever requires anything of z now, and is bound to z for it, is one of these
 unfoldable pub Users : Universe → Configuration → ℕ → ℕ → Type 0
 Users u c z users = (p y : ℕ) → y < 32 → employs u c p z y ≡ true → member y users ≡ true

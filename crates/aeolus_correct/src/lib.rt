@@ -24,7 +24,7 @@ ghost use Rattle.aeolus_rules_spec.specs.Correct.{provides, employs, required, 
 ghost use Rattle.aeolus_rules_spec.specs.Action.{reachedCheck};
 ghost use Rattle.aeolus_rules_spec.specs.Run.{lastCheck};
 ghost use Rattle.aeolus_correct.specs.Tests.{passes};
-ghost use Rattle.aeolus_correct.specs.Users.{targetsOf, Targets, Users};
+ghost use Rattle.aeolus_correct.specs.Users.{targetsOf, Targets, Used, Users};
 
 // What is counted among the components other than one: those that provide an interface now, and those that require it of that one now.
 pub enum Test {
@@ -143,23 +143,15 @@ fn provided(universe: &Universe, deployed: &Deployed, z: u32, p: u32, n: u32, us
 }
 
 // What a map asks of an interface; x is one more than its number, 0 where it is not active.
-fn asked(
-    universe: &Universe,
-    deployed: &Deployed,
-    m: u32,
-    z: u32,
-    r: u32,
-    x: u32,
-    users: u32,
-) -> bool
-    requires { ⌜ (m ≡ 0 → Users (universeIn (now universe)) (configurationIn (now deployed)) z users) ⌝ }
+fn asked(universe: &Universe, deployed: &Deployed, m: u32, z: u32, r: u32, x: u32, who: u32) -> bool
+    requires { ⌜ (m ≡ 0 → Users (universeIn (now universe)) (configurationIn (now deployed)) z who) ⌝ }
     ensures { λ b. ⌜ b ≡ asked (universeIn (now (universe .entry))) (configurationIn (now (deployed .entry))) m z r x ⌝ }
 {
     if x == 0 {
         return true;
     }
     if m == 0 {
-        return provided(universe, deployed, z, r, x - 1, users);
+        return provided(universe, deployed, z, r, x - 1, who);
     }
     required(universe, deployed, z, r, x - 1)
 }
@@ -204,30 +196,59 @@ fn targets_of(universe: &Universe, deployed: &Deployed, y: u32) -> u32
     all
 }
 
-// The same of every deployed component. Only provisions ask for it.
-fn all_targets(universe: &Universe, deployed: &Deployed, m: u32) -> [u32; 32]
-    ensures { λ r. ⌜ (m ≡ 0 → Targets (universeIn (now (universe .entry))) (configurationIn (now (deployed .entry))) r) ⌝ }
+// A set for each component.
+type Sets = [u32; 32];
+
+// The targets of each deployed component, and all of them.
+struct Reach {
+    targets: Sets,
+    used: u32,
+}
+
+// Only provisions ask for it.
+fn reach_of(universe: &Universe, deployed: &Deployed, m: u32) -> Reach
+    ensures { λ r. ⌜ (m ≡ 0 → Targets (universeIn (now (universe .entry))) (configurationIn (now (deployed .entry))) (r .targets)
+        × Used (universeIn (now (universe .entry))) (configurationIn (now (deployed .entry))) (r .used)) ⌝ }
 {
-    let mut all = [0u32; 32];
+    let mut targets = [0u32; 32];
+    let mut used: u32 = 0;
     if m != 0 {
-        return all;
+        return Reach { targets, used };
     }
     let mut rest = present(deployed);
     while rest != 0 {
         let y = sets::least(rest);
-        all[y as usize] = targets_of(universe, deployed, y);
+        let own = targets_of(universe, deployed, y);
+        targets[y as usize] = own;
+        used = sets::joined(used, own);
         rest = sets::later(rest);
     }
-    all
+    Reach { targets, used }
 }
 
-// The deployed components that have z as a target.
-fn users_of(deployed: &Deployed, targets: &[u32; 32], z: u32) -> u32
-    ensures { λ m. ⌜ m ≡ collect 32 (λ y. isDeployed (configurationIn (now (deployed .entry))) y && member z (getD (now (targets .entry)) y 0)) ⌝ }
+// Of whom the map m can ask anything: provisions only of those that are used.
+fn asked_of(deployed: &Deployed, m: u32, used: u32) -> u32
+    ensures { λ r. ⌜ ((z : ℕ) → z < 32
+        → member z r ≡ (isDeployed (configurationIn (now (deployed .entry))) z && (not (eqb m 0) || member z used))) ⌝ }
 {
-    let m = present(deployed);
+    let all = present(deployed);
+    if m != 0 {
+        return all;
+    }
+    sets::without(all, sets::without(all, used))
+}
+
+// The deployed components that have z as a target. Only provisions ask for them.
+fn users_of(deployed: &Deployed, targets: &Sets, m: u32, z: u32) -> u32
+    ensures { λ r. ⌜ (m ≡ 0
+        → r ≡ collect 32 (λ y. isDeployed (configurationIn (now (deployed .entry))) y && member z (getD (now (targets .entry)) y 0))) ⌝ }
+{
+    if m != 0 {
+        return 0;
+    }
+    let all = present(deployed);
     let mut users: u32 = 0;
-    let mut rest = m;
+    let mut rest = all;
     while rest != 0 {
         let y = sets::least(rest);
         if sets::member(targets[y as usize], z) {
@@ -238,29 +259,21 @@ fn users_of(deployed: &Deployed, targets: &[u32; 32], z: u32) -> u32
     users
 }
 
-fn component_holds(
-    universe: &Universe,
-    deployed: &Deployed,
-    m: u32,
-    z: u32,
-    targets: &[u32; 32],
-) -> bool
+fn component_holds(universe: &Universe, deployed: &Deployed, m: u32, z: u32, targets: &Sets) -> bool
     requires { ⌜ (z < 32) × (m ≡ 0 → Targets (universeIn (now universe)) (configurationIn (now deployed)) (now targets)) ⌝ }
     ensures { λ b. ⌜ b ≡ allBelow (typeOf (universeIn (now (universe .entry))) (kindOf (configurationIn (now (deployed .entry))) z) .interfaces)
         (portHolds (universeIn (now (universe .entry))) (configurationIn (now (deployed .entry))) m z) ⌝ }
 {
-    if m != 0 {
-        return ports_hold(universe, deployed, m, z, 0);
-    }
-    ports_hold(universe, deployed, m, z, users_of(deployed, targets, z))
+    ports_hold(universe, deployed, m, z, users_of(deployed, targets, m, z))
 }
 
 // What the map m asks of all components holds.
 fn holds(universe: &Universe, deployed: &Deployed, m: u32) -> bool
     ensures { λ b. ⌜ b ≡ holds (universeIn (now (universe .entry))) (configurationIn (now (deployed .entry))) m ⌝ }
 {
-    let targets = all_targets(universe, deployed, m);
-    let mut rest = present(deployed);
+    let reach = reach_of(universe, deployed, m);
+    let targets = reach.targets;
+    let mut rest = asked_of(deployed, m, reach.used);
     while rest != 0 {
         if !component_holds(universe, deployed, m, sets::least(rest), &targets) {
             return false;

@@ -21,11 +21,10 @@ use write_report::write_count;
 ghost use mathlib.Core.Path.{_≡_};
 ghost use mathlib.Core.List.{_++_};
 ghost use Prim.Native.Nat.{_<_};
-ghost use Rattle.sets.specs.Mask.{member};
-ghost use Rattle.item_spec.specs.Write.{onlyIf, inTurn, threeText};
+ghost use Rattle.item_spec.specs.Write.{inTurn, threeText};
 ghost use Rattle.write_items.specs.Written.{Written};
 ghost use Rattle.aeolus_model.specs.Words.{universeIn, configurationIn};
-ghost use Rattle.aeolus_judge_spec.specs.Report.{bindingText, componentAt, providersText, bindingsAt, headPart, componentsPart, bindingsPart, report};
+ghost use Rattle.aeolus_judge_spec.specs.Report.{componentAt, providersText, bindingsAt, headPart, componentsPart, bindingsPart, report};
 ghost use Rattle.aeolus_write_report.specs.Ran.{ran};
 ghost use Rattle.aeolus_write_report.specs.Names.{InUse, Next};
 
@@ -66,24 +65,16 @@ fn write_component_lines(t: &mut [u8], deployed: &Deployed) -> usize
     used
 }
 
-// binding=interface,requirer,provider, nothing where y is not among these providers
-fn write_provider(t: &mut [u8], r: u32, z: u32, m: u32, y: u32) -> usize
-    ensures { λ n. ⌜ Written (now (t .entry)) (onlyIf (member y m) (bindingText r z y)) (now (t .exit)) 0 n ⌝ }
-{
-    if !sets::member(m, y) {
-        return 0;
-    }
-    write_three(t, b"binding=", r, z, y)
-}
-
+// binding=interface,requirer,provider for each of these providers, the least of the rest at each turn
 fn write_providers(t: &mut [u8], r: u32, z: u32, m: u32) -> usize
     ensures { λ n. ⌜ Written (now (t .entry)) (providersText 32 r z m) (now (t .exit)) 0 n ⌝ }
 {
     let mut used: usize = 0;
-    let mut y: u32 = 0;
-    while y < 32 {
-        used += write_provider(&mut t[used..], r, z, m, y);
-        y += 1;
+    let mut rest = m;
+    while rest != 0 {
+        let y = sets::least(rest);
+        used += write_three(&mut t[used..], b"binding=", r, z, y);
+        rest = sets::later(rest);
     }
     used
 }

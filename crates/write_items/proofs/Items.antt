@@ -127,7 +127,7 @@ module _ (m : ℕ) (some : m ≢ 0) (fits : m < 2 ^ 32) where
       (λ f. rw (below-not n m f, below-not n (later m) (other ∙ f)) (least-up n l)))
       (eq-or-lt-of-le (le-of-suc-le-suc h))
 
-  members-least : membersBelow 32 m ≡ least m ∷ membersBelow 32 (later m)
+  pub members-least : membersBelow 32 m ≡ least m ∷ membersBelow 32 (later m)
   members-least = least-up 32 (least-lt m m (rest-start m fits) some)
 
   pub mask-some : maskText m ≡ numberText (least m) ++ moreText (membersBelow 32 (later m))

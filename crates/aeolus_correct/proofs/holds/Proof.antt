@@ -20,17 +20,17 @@ abbrev μ-loop : tie.MeasureT-loop
 μ-loop universe deployed m targets rest₀ rest = left rest
 
 loop-holds : tie.Need-loop-holds Inv-loop μ-loop
-loop-holds c = (rest-start (c .present .result) (c .present .ok), refl)
+loop-holds c = (rest-start (c .asked-of .result) (c .asked-of .ok), refl)
 
 component-holds-requires : tie.Need-component-holds-requires Inv-loop μ-loop
 component-holds-requires c κs =
     let t = c .before .before in
     let l = t .before in
-    (rw (c .before .least .ensures) (least-lt _ (l .loop .rest) (l .loop .inv .0) (t .loop-test .taken)), l .before .before .all-targets .ensures)
+    (rw (c .before .least .ensures) (least-lt _ (l .loop .rest) (l .loop .inv .0) (t .loop-test .taken)), λ e. l .before .before .before .reach-of .ensures e .0)
 
 -- whether the component looked at holds
 own : (e : tie.After-component-holds Inv-loop μ-loop) (b : Bool) → e .component-holds .result ≡ b
-    → (let a = e .before .before .before .before .before .before .before .args in
+    → (let a = e .before .before .before .before .before .before .before .before .args in
     portsHold (universeIn (a .universe .now)) (configurationIn (a .deployed .now)) (a .m) (least (e .before .before .before .before .loop .rest))) ≡ b
 own e b h = rw (← e .before .before .least .ensures) (sym (e .component-holds .ensures) ∙ h)
 
@@ -39,9 +39,9 @@ returns c =
     let e = c .before in
     let t = e .before .before .before in
     let l = t .before in
-    let a = l .before .before .before .args in
+    let a = l .before .before .before .before .args in
     sym (all-missed (portsHold (universeIn (a .universe .now)) (configurationIn (a .deployed .now)) (a .m)) (l .loop .rest) (l .loop .inv .0 .fits) (t .loop-test .taken)
-    (own e false (not-true (e .component-holds .result) (c .if1 .taken)))) ∙ l .loop .inv .1 ∙ all-hold (universeIn (a .universe .now)) (configurationIn (a .deployed .now)) (a .m) _ (l .before .present .ensures)
+    (own e false (not-true (e .component-holds .result) (c .if1 .taken)))) ∙ l .loop .inv .1 ∙ all-hold (universeIn (a .universe .now)) (configurationIn (a .deployed .now)) (a .m) _ _ (l .before .asked-of .ensures) (λ e. l .before .before .before .reach-of .ensures e .1)
 
 loop-less : tie.Need-loop-less Inv-loop μ-loop
 loop-less c =
@@ -53,7 +53,7 @@ loop-again c =
     let e = c .before .before in
     let t = e .before .before .before in
     let l = t .before in
-    let a = l .before .before .before .args in
+    let a = l .before .before .before .before .args in
     let some = t .loop-test .taken in
     rw (c .later .ensures) (
       rest-later _ (l .loop .rest) (l .loop .inv .0) some,
@@ -64,9 +64,9 @@ loop-again c =
 returns-2 : tie.Need-returns-2 Inv-loop μ-loop
 returns-2 c =
     let l = c .before in
-    let a = l .before .before .before .args in
+    let a = l .before .before .before .before .args in
     sym (all-none-left (portsHold (universeIn (a .universe .now)) (configurationIn (a .deployed .now)) (a .m)) (l .loop .rest) (c .loop-test .left))
-    ∙ l .loop .inv .1 ∙ all-hold (universeIn (a .universe .now)) (configurationIn (a .deployed .now)) (a .m) _ (l .before .present .ensures)
+    ∙ l .loop .inv .1 ∙ all-hold (universeIn (a .universe .now)) (configurationIn (a .deployed .now)) (a .m) _ _ (l .before .asked-of .ensures) (λ e. l .before .before .before .reach-of .ensures e .1)
 
 pub holds-spec : {M : Type 1} → statement M
 holds-spec =
