@@ -2,12 +2,14 @@
 -- Assumes nothing.
 use Prim.Native.Nat.{ℕ, zero, suc, _+_, _-_, _≤_, _<_}
 use mathlib.Core.List.{List, [], _∷_, _++_, append-assoc, append-nil}
-use mathlib.Core.Bool.{Bool, true, false, cond}
+use mathlib.Core.Bool.{Bool, true, false, not, _||_, cond, true≢false, or-true, or-false}
 use mathlib.Core.Path.{_≡_, refl, sym, ap, _∙_}
+use mathlib.Core.Logic.{_≢_}
 use native.Mathlib.Omega.{arith}
 use native.Mathlib.Numerals.{add-one}
 use lib.Dec.{eqb}
-use lib.ListN.{length, take, drop, getD, set, replicate, drop-of-length-le}
+use lib.ListN.{length, take, drop, getD, set, replicate, length-drop, drop-of-length-le}
+use borrow.Author.Tests.{eq-eqb, ne-eqb}
 use lib.Seq.{take-suc, take-all, length-take-le, getD-append-seam}
 use Rattle.item_spec.specs.Reader.{Reply, got, refused}
 use Rattle.item_spec.specs.Read.{key}
@@ -15,7 +17,7 @@ use Rattle.item_spec.proofs.Tests.{by-test}
 use Rattle.read_items.proofs.Laws.{from}
 use Rattle.write_items.specs.Written.{Written}
 use Rattle.write_items.proofs.Laws.{none, then}
-use Rattle.form_cells.specs.Cells.{gap, stands, firstAfter, commasAfter, linesFrom, unmarked, linesOf, cellByte, cellsOf}
+use Rattle.form_cells.specs.Cells.{gap, stands, firstAfter, commasAfter, linesFrom, unmarked, letter, separatorOf, noteAfter, commaFor, plainFrom, linesBy, linesOf, cellByte, cellsOf}
 
 pub one-comma : (n c : ℕ) → replicate (n + 1) c ≡ replicate n c ++ (c ∷ [])
 one-comma n c = rw (add-one n) (go n)
@@ -38,36 +40,113 @@ few-commas : (n c : ℕ) → commasAfter n c ≤ n + 1
 unfolding commasAfter
 few-commas n c = by-test (eqb c 44) (λ e. rw e (omega arith)) (λ e. by-test (eqb c 13) (λ f. rw (e, f) (omega arith)) (λ f. rw (e, f) (omega arith)))
 
+-- ---- a byte of a row or of a note
+module _ (m first : Bool) (commas c : ℕ) where
+  abbrev pub part : List ℕ
+  part = cond m [] (stands first commas c)
+
+  abbrev pub firstThen : Bool
+  firstThen = cond m first (firstAfter first commas c)
+
+  abbrev pub commasThen : ℕ
+  commasThen = cond m commas (commasAfter commas c)
+
+  part-few : commasThen ≤ commas + 1
+  part-few = by-test m (λ e. rw e (omega arith)) (λ e. rw e (few-commas commas c))
+
+plain-next : (d : ℕ) (noted first : Bool) (commas c : ℕ) (s : List ℕ) → let m = noteAfter noted c in let b = commaFor d c in
+    linesFrom first commas (plainFrom d noted (c ∷ s)) ≡ part m first commas b ++ linesFrom (firstThen m first commas b) (commasThen m first commas b) (plainFrom d m s)
+unfolding linesFrom plainFrom
+plain-next d noted first commas c s = by-test (noteAfter noted c) (λ e. rw e) (λ e. rw e)
+
 -- ---- the rows up to byte i
-module _ (s old : List ℕ) where
-  pub record Evened (i : ℕ) (first : Bool) (commas at : ℕ) (new : List ℕ) : Type 0 where
+module _ (s old : List ℕ) (d : ℕ) where
+  pub record Evened (i : ℕ) (noted first : Bool) (commas at : ℕ) (new : List ℕ) : Type 0 where
     pub few : commas ≤ i
     pub far : i ≤ length s
     pub so-far : List ℕ
     pub written : Written old so-far new 0 at
-    pub whole : so-far ++ linesFrom first commas (drop i s) ≡ linesOf s
+    pub whole : so-far ++ linesFrom first commas (plainFrom d noted (drop i s)) ≡ linesOf s
 
-  pub evened-none : (i : ℕ) → i ≤ length s → drop i s ≡ unmarked s → Evened i true 0 0 old
+  pub evened-none : (i : ℕ) → i ≤ length s → drop i s ≡ unmarked s → d ≡ separatorOf (take (length s - i) (drop i s)) → Evened i false true 0 0 old
   unfolding linesOf
-  evened-none i l e = record { few = omega arith; far = l; so-far = []; written = none old 0; whole = ap (linesFrom true 0) e }
+  evened-none i l e q =
+      let all : take (length s - i) (drop i s) ≡ drop i s = take-all (length s - i) (drop i s) (omega (arith, length-drop i s)) in
+      let by : d ≡ separatorOf (unmarked s) = q ∙ ap separatorOf (all ∙ e) in
+      record { few = omega arith; far = l; so-far = []; written = none old 0; whole = rw (by, e) }
 
-  pub evened-more : (i commas at : ℕ) (first : Bool) (new end : List ℕ) (next : ℕ) (after : Bool) (left : ℕ) → Evened i first commas at new → i < length s
-      → Written new (stands first commas (getD s i 0)) end at next → after ≡ firstAfter first commas (getD s i 0) → left ≡ commasAfter commas (getD s i 0)
-      → Evened (i + 1) after left next end
-  unfolding linesFrom
-  evened-more i commas at first new end next after left w l v e f = record {
-    few = omega (arith, f, few-commas commas (getD s i 0), w .few);
-    far = omega arith;
-    so-far = w .so-far ++ stands first commas (getD s i 0);
-    written = then (w .written) v;
-    whole = rw (e, f) (append-assoc (w .so-far) (stands first commas (getD s i 0)) _ ∙ ap (_++_ (w .so-far)) (sym (ap (linesFrom first commas) (from s i l))) ∙ w .whole);
-  }
+  pub evened-more : (i commas at : ℕ) (noted first : Bool) (new end : List ℕ) (next : ℕ) (after : Bool) (left : ℕ) (m : Bool) (b : ℕ) → Evened i noted first commas at new
+      → i < length s → m ≡ noteAfter noted (getD s i 0) → b ≡ commaFor d (getD s i 0)
+      → Written new (part m first commas b) end at next → after ≡ firstThen m first commas b → left ≡ commasThen m first commas b
+      → Evened (i + 1) m after left next end
+  evened-more i commas at noted first new end next after left m b w l n q v e f =
+      let c = getD s i 0 in
+      record {
+        few = omega (arith, f, part-few m first commas b, w .few);
+        far = omega arith;
+        so-far = w .so-far ++ part m first commas b;
+        written = then (w .written) v;
+        whole =
+            rw (e, f) (append-assoc (w .so-far) (part m first commas b) _
+            ∙ ap (_++_ (w .so-far)) (rw (n, q) (sym (plain-next d noted first commas c (drop (i + 1) s))) ∙ sym (ap (λ (x : List ℕ). linesFrom first commas (plainFrom d noted x)) (from s i l)))
+            ∙ w .whole);
+      }
 
-  pub evened-all : (i commas at : ℕ) (first : Bool) (new : List ℕ) → Evened i first commas at new → length s ≤ i → Written old (linesOf s) new 0 at
-  unfolding linesFrom
-  evened-all i commas at first new w l =
-      let e : w .so-far ≡ linesOf s = sym (append-nil (w .so-far)) ∙ ap (_++_ (w .so-far)) (sym (ap (linesFrom first commas) (drop-of-length-le s {i = i} l))) ∙ w .whole in
+  pub evened-all : (i commas at : ℕ) (noted first : Bool) (new : List ℕ) → Evened i noted first commas at new → length s ≤ i → Written old (linesOf s) new 0 at
+  unfolding linesFrom plainFrom
+  evened-all i commas at noted first new w l =
+      let e : w .so-far ≡ linesOf s
+      = sym (append-nil (w .so-far)) ∙ ap (_++_ (w .so-far)) (sym (ap (λ (x : List ℕ). linesFrom first commas (plainFrom d noted x)) (drop-of-length-le s {i = i} l))) ∙ w .whole in
       rw (← e) (w .written)
+
+-- ---- the separator
+pub not-on : (b : Bool) → not b ≡ true → b ≡ false
+not-on true e = absurd (true≢false (sym e))
+not-on false e = refl
+
+pub not-off : (b : Bool) → not b ≡ false → b ≡ true
+not-off true e = refl
+not-off false e = absurd (true≢false e)
+
+module _ (s : List ℕ) (i : ℕ) where
+  pub separator-found : i < length s → letter (getD s i 0) ≡ false → separatorOf (drop i s) ≡ cond (eqb (getD s i 0) 59 || eqb (getD s i 0) 9) (getD s i 0) 44
+  unfolding separatorOf
+  separator-found l e = ap separatorOf (from s i l) ∙ rw e
+
+  pub separator-later : i < length s → letter (getD s i 0) ≡ true → separatorOf (drop i s) ≡ separatorOf (drop (i + 1) s)
+  unfolding separatorOf
+  separator-later l e = ap separatorOf (from s i l) ∙ rw e
+
+  pub separator-none : length s ≤ i → separatorOf (drop i s) ≡ 44
+  unfolding separatorOf
+  separator-none l = ap separatorOf (drop-of-length-le s {i = i} l)
+
+-- ---- notes, and the separator's place
+module _ (noted : Bool) (c : ℕ) where
+  pub note-ends : c ≡ 10 → false ≡ noteAfter noted c
+  unfolding noteAfter
+  note-ends e = rw (eq-eqb c 10 e)
+
+  pub note-begins : c ≢ 10 → c ≡ 35 → true ≡ noteAfter noted c
+  unfolding noteAfter
+  note-begins a e = rw (ne-eqb c 10 a, eq-eqb c 35 e) (sym (or-true noted))
+
+  pub note-goes-on : c ≢ 10 → c ≢ 35 → noted ≡ noteAfter noted c
+  unfolding noteAfter
+  note-goes-on a e = rw (ne-eqb c 10 a, ne-eqb c 35 e) (sym (or-false noted))
+
+module _ (d c : ℕ) where
+  pub separates : c ≡ d → 44 ≡ commaFor d c
+  unfolding commaFor
+  separates e = rw (eq-eqb c d e)
+
+  pub separates-not : c ≢ d → c ≡ 44 → d ≡ commaFor d c
+  unfolding commaFor
+  separates-not a e = rw (ne-eqb c d a, eq-eqb c 44 e)
+
+  pub stays : c ≢ d → c ≢ 44 → c ≡ commaFor d c
+  unfolding commaFor
+  stays a e = rw (ne-eqb c d a, ne-eqb c 44 e)
 
 -- ---- the mark
 pub marked : (s : List ℕ) {u : Unit {0}} {r : List ℕ} → got u r ≡ key (239 ∷ 187 ∷ 191 ∷ []) s → r ≡ unmarked s

@@ -1,15 +1,17 @@
 // Rows of cells, as a spreadsheet saves them, and the lines that they stand for.
-// Promised: every byte of the lent buffer, for all bytes: `linesOf` and `cellsOf` of specs/Cells.
+// Promised: every byte of the lent buffer, for all bytes: `linesOf` and `cellsOf` of specs/Cells; of `looked_at` the count, by `lookedAt`.
 use read_items::Due;
 use write_items::write_byte;
 ghost use mathlib.Core.Path.{_≡_};
-ghost use mathlib.Core.Bool.{cond};
+ghost use mathlib.Core.Bool.{cond, _||_};
+ghost use lib.Dec.{eqb};
 ghost use mathlib.Core.List.{[], _∷_, _++_};
 ghost use Prim.Native.Nat.{_≤_, _<_};
 ghost use lib.ListN.{length, take, drop, replicate};
 ghost use Rattle.io.specs.Counts.{Counts};
 ghost use Rattle.write_items.specs.Written.{Written};
-ghost use Rattle.form_cells.specs.Cells.{gap, stands, firstAfter, commasAfter, unmarked, linesOf, cellByte, cellsOf};
+ghost use Rattle.form_cells.specs.Cells.{gap, stands, firstAfter, commasAfter, unmarked, letter, separatorOf, noteAfter, commaFor};
+ghost use Rattle.form_cells.specs.Cells.{linesOf, lookedAt, cellByte, cellsOf};
 
 // How far a row is: whether no comma was written in it yet, how many are not written yet, and where the next byte goes.
 struct Row {
@@ -102,22 +104,119 @@ fn past_mark(rows: &[u8]) -> usize
     start
 }
 
+fn is_letter(c: u8) -> bool
+    ensures { λ r. ⌜ r ≡ letter c ⌝ }
+{
+    if c < b'a' {
+        return false;
+    }
+    if b'z' < c {
+        return false;
+    }
+    true
+}
+
+// What separates cells where this byte stands after the first key.
+fn separator_at(c: u8) -> u8
+    ensures { λ r. ⌜ r ≡ cond (eqb c 59 || eqb c 9) c 44 ⌝ }
+{
+    if c == b';' {
+        return c;
+    }
+    if c == b'\t' {
+        return c;
+    }
+    b','
+}
+
+fn separator(rows: &[u8]) -> u8
+    ensures { λ r. ⌜ r ≡ separatorOf (now (rows .entry)) ⌝ }
+{
+    let mut i: usize = 0;
+    while i < rows.len() {
+        let c = rows[i];
+        if !is_letter(c) {
+            return separator_at(c);
+        }
+        i += 1;
+    }
+    b','
+}
+
+fn note_after(noted: bool, c: u8) -> bool
+    ensures { λ r. ⌜ r ≡ noteAfter noted c ⌝ }
+{
+    if c == b'\n' {
+        return false;
+    }
+    if c == b'#' {
+        return true;
+    }
+    noted
+}
+
+fn comma_for(separator: u8, c: u8) -> u8
+    ensures { λ r. ⌜ r ≡ commaFor separator c ⌝ }
+{
+    if c == separator {
+        return b',';
+    }
+    if c == b',' {
+        return separator;
+    }
+    c
+}
+
+// One byte of a row, or of a note.
+fn take_cell(out: &mut [u8], row: Row, noted: bool, c: u8) -> Row
+    requires { ⌜ row .commas < 18446744073709551615 ⌝ }
+    ensures bytes { λ r. ⌜ Written (now (out .entry)) (cond noted [] (stands (row .first) (row .commas) c)) (now (out .exit)) (row .at) (r .at) ⌝ }
+    ensures first { λ r. ⌜ r .first ≡ cond noted (row .first) (firstAfter (row .first) (row .commas) c) ⌝ }
+    ensures commas { λ r. ⌜ r .commas ≡ cond noted (row .commas) (commasAfter (row .commas) c) ⌝ }
+{
+    if noted {
+        return row;
+    }
+    take_byte(out, row, c)
+}
+
 // The lines that rows of cells stand for, cut at the buffer's end, and the bytes used.
 pub fn write_lines(rows: &[u8], out: &mut [u8]) -> usize
     ensures bytes { λ r. ⌜ Written (now (out .entry)) (linesOf (now (rows .entry))) (now (out .exit)) 0 r ⌝ }
     ensures counts { λ r. ⌜ Counts r (now (out .exit)) ⌝ }
 {
+    let mut i = past_mark(rows);
+    let separator = separator(&rows[i..]);
     let mut row = Row {
         first: true,
         commas: 0,
         at: 0,
     };
-    let mut i = past_mark(rows);
+    let mut noted = false;
     while i < rows.len() {
-        row = take_byte(out, row, rows[i]);
+        noted = note_after(noted, rows[i]);
+        row = take_cell(out, row, noted, comma_for(separator, rows[i]));
         i += 1;
     }
     row.at
+}
+
+// How many bytes of lines are looked at: all but empty lines at the end.
+pub fn looked_at(lines: &[u8]) -> usize
+    ensures { λ r. ⌜ r ≡ length (lookedAt (now (lines .entry))) ⌝ }
+{
+    let mut n = lines.len();
+    while 1 < n {
+        let last = n - 1;
+        if lines[last] != b'\n' {
+            return n;
+        }
+        if lines[last - 1] != b'\n' {
+            return n;
+        }
+        n = last;
+    }
+    n
 }
 
 fn cell_byte(c: u8) -> u8

@@ -2,5 +2,9 @@
 use form_lib::Draft;
 
 fn main() {
-    form_lib::run(Draft::Form, b"read-sheet: standard input", b"text=sheet\n");
+    form_lib::run(
+        Draft::Form,
+        b"form-from-sheet: standard input",
+        b"text=sheet\n",
+    );
 }

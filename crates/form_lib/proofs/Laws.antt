@@ -2,7 +2,7 @@
 -- Assumes nothing.
 use Prim.Native.Nat.{ℕ, zero, suc, _+_, _≤_, _<_}
 use mathlib.Core.List.{List, [], _∷_}
-use mathlib.Core.Bool.{Bool, true}
+use mathlib.Core.Bool.{Bool, true, false}
 use mathlib.Core.Path.{_≡_, refl, sym, ap, _∙_}
 use mathlib.Core.Logic.{_≢_}
 use native.Mathlib.Omega.{arith}
@@ -19,14 +19,14 @@ use Rattle.model.specs.Empty.{noTables, noProgram}
 use Rattle.read_spec.specs.Place.{lineNumber}
 use Rattle.read_chain.specs.Whole.{Whole, beside}
 use Rattle.read_chain.specs.declared.Place.{Place}
-use Rattle.read_sheet.specs.Form.{formRead}
 use Rattle.judge_spec.specs.Judged.{over}
 use Rattle.write_items.specs.Written.{Written}
 use Rattle.write_items.proofs.Laws.{fits-all}
-use Rattle.form_cells.specs.Cells.{gap, stands, firstAfter, commasAfter, linesFrom, unmarked, linesOf}
+use Rattle.form_cells.specs.Cells.{gap, stands, firstAfter, commasAfter, linesFrom, unmarked, separatorOf, noteAfter, plainFrom, linesOf, lookedAt}
+use Rattle.form_cells.proofs.Looked.{looked-first}
 use Rattle.write_spec.specs.Texts.{sheetFault}
 use Rattle.write_spec.specs.Buffer.{Penned}
-use Rattle.form_spec.specs.Said.{Said, lineAtFault, said, formSaid}
+use Rattle.form_spec.specs.Said.{Said, lineAtFault, said, linesSaid, formSaid}
 use Rattle.form_spec.specs.Drafts.{drafting, sheetOfForm, formOfSheet}
 use Rattle.form_lib.specs.declared.Draft.{Draft}
 use Rattle.form_lib.specs.declared.Draft.the-variants.{Sheet, Form}
@@ -63,15 +63,31 @@ past-key [] s t l = l
 past-key (a ∷ k) [] t l = omega arith
 past-key (a ∷ k) (b ∷ s) t l = by-test (eqb b a) (λ e. rw (e, key) (past-key k s t (omega arith))) (λ e. rw (e, key) (omega arith))
 
+plain-short : (d : ℕ) (noted : Bool) (s : List ℕ) → length (plainFrom d noted s) ≤ length s
+unfolding plainFrom
+plain-short d noted [] = omega arith
+plain-short d noted (c ∷ s) =
+    by-test (noteAfter noted c) (λ e. rw e (omega (arith, plain-short d true s))) (λ e. rw e (omega (arith, plain-short d false s)))
+
 pub lines-short : (s : List ℕ) → length (linesOf s) ≤ length s
 unfolding linesOf unmarked
-lines-short s = omega (arith, lines-from true 0 (unmarked s), past-key (239 ∷ 187 ∷ 191 ∷ []) s s (omega arith))
+lines-short s =
+    let d = separatorOf (unmarked s) in
+    omega (arith, lines-from true 0 (plainFrom d false (unmarked s)), plain-short d false (unmarked s), past-key (239 ∷ 187 ∷ 191 ∷ []) s s (omega arith))
 
 -- so a buffer of one byte more holds them all
 pub lines-are : (s old new : List ℕ) (n : ℕ) → Written old (linesOf s) new 0 n → length s ≤ length old → take n new ≡ linesOf s
 lines-are s old new n w l =
     let (all, is) = fits-all w (omega (arith, lines-short s)) in
     ap (take n) is ∙ take-at (linesOf s) (drop (length (linesOf s)) old) n (sym all)
+
+-- so many bytes of lines are looked at
+module _ (s : List ℕ) (n : ℕ) (e : n ≡ length (lookedAt s)) where
+  pub looked-is : take n s ≡ lookedAt s
+  looked-is = ap (λ (k : ℕ). take k s) e ∙ looked-first s
+
+  pub looked-long : n ≡ length (take n s)
+  looked-long = e ∙ ap length (sym looked-is)
 
 -- ---- the line at fault
 module _ (n at : ℕ) (s : List ℕ) where
@@ -94,7 +110,7 @@ pub form-long : (s : List ℕ) {t : Tables} {p : Program} → 32768 < length s �
 unfolding formSaid
 form-long s l e f = rw (lt-leb (length s) 32768 l, formSaid, e, f)
 
-pub form-said : (s : List ℕ) {x : Said} → length s ≤ 32768 → x ≡ said (linesOf s) (formRead (linesOf s)) → x ≡ formSaid s
+pub form-said : (s : List ℕ) {x : Said} → length s ≤ 32768 → x ≡ linesSaid (lookedAt (linesOf s)) → x ≡ formSaid s
 unfolding formSaid
 form-said s l e = rw (le-leb (length s) 32768 l, formSaid) e
 

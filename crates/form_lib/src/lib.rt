@@ -13,11 +13,10 @@ ghost use Prim.Native.Nat.{_≤_};
 ghost use lib.ListN.{length};
 ghost use Rattle.io.specs.Counts.{Counts};
 ghost use Rattle.words.specs.Words.{tablesIn, programIn};
-ghost use Rattle.read_sheet.specs.Form.{formRead};
-ghost use Rattle.form_cells.specs.Cells.{linesOf};
+ghost use Rattle.form_cells.specs.Cells.{linesOf, lookedAt};
 ghost use Rattle.write_spec.specs.Texts.{sheetFault};
 ghost use Rattle.write_spec.specs.Buffer.{Penned};
-ghost use Rattle.form_spec.specs.Said.{said, formSaid, sheetSaid};
+ghost use Rattle.form_spec.specs.Said.{linesSaid, formSaid, sheetSaid};
 ghost use Rattle.form_lib.specs.Drafts.{faultAt, saying, saidFor, textFor, Drafts};
 
 // What is written: a sheet from a form, or a form from a sheet.
@@ -50,6 +49,14 @@ fn fault_of(text: &[u8], refused: u8, place: usize) -> Fault
     Fault { refused, line }
 }
 
+fn read_lines(text: &[u8], tables: &mut TableWords, program: &mut ProgramWords) -> Fault
+    ensures { λ r. ⌜ saying r (tablesIn (now (tables .exit)), programIn (now (program .exit))) ≡ linesSaid (lookedAt (now (text .entry))) ⌝ }
+{
+    let n = form_cells::looked_at(text);
+    let read = read_sheet::fill_form(&text[..n], tables, program);
+    fault_of(&text[..n], read.refused, read.place)
+}
+
 // Rows by way of their lines, which have room in the lent text.
 fn read_rows(
     rows: &[u8],
@@ -58,12 +65,10 @@ fn read_rows(
     program: &mut ProgramWords,
 ) -> Fault
     requires { ⌜ length (now rows) ≤ length (now text) ⌝ }
-    ensures { λ r. ⌜ saying r (tablesIn (now (tables .exit)), programIn (now (program .exit)))
-        ≡ said (linesOf (now (rows .entry))) (formRead (linesOf (now (rows .entry)))) ⌝ }
+    ensures { λ r. ⌜ saying r (tablesIn (now (tables .exit)), programIn (now (program .exit))) ≡ linesSaid (lookedAt (linesOf (now (rows .entry)))) ⌝ }
 {
     let used = form_cells::write_lines(rows, text);
-    let read = read_sheet::fill_form(&text[..used], tables, program);
-    fault_of(&text[..used], read.refused, read.place)
+    read_lines(&text[..used], tables, program)
 }
 
 fn read_form(rows: &[u8], tables: &mut TableWords, program: &mut ProgramWords) -> Fault

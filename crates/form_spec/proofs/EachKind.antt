@@ -20,7 +20,7 @@ use Rattle.form_spec.proofs.Rows.{plain, plains, plains-append, Cell, R
 -- ---- numbers and lists
 digit-plain : (x : ℕ) → x < 10 → plain (48 + x) ≡ true
 unfolding plain
-digit-plain x h = rw (ne-eqb (48 + x) 10 (λ e. omega (arith, e)), ne-eqb (48 + x) 13 (λ e. omega (arith, e)), ne-eqb (48 + x) 44 (λ e. omega (arith, e)), ne-eqb (48 + x) 61 (λ e. omega (arith, e)))
+digit-plain x h = rw (ne-eqb (48 + x) 10 (λ e. omega (arith, e)), ne-eqb (48 + x) 13 (λ e. omega (arith, e)), ne-eqb (48 + x) 44 (λ e. omega (arith, e)), ne-eqb (48 + x) 61 (λ e. omega (arith, e)), ne-eqb (48 + x) 35 (λ e. omega (arith, e)))
 
 one-plain : (x : ℕ) → x < 10 → plains ((48 + x) ∷ []) ≡ true
 unfolding plains

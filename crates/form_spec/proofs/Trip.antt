@@ -20,7 +20,7 @@ use Rattle.read_spec.proofs.Rests.{run-stops, run-gives}
 use Rattle.read_spec.proofs.Lawful.{sheet-stops}
 use Rattle.read_chain.specs.Whole.{whole}
 use Rattle.read_sheet.specs.Form.{form, formRead}
-use Rattle.form_cells.specs.Cells.{linesOf}
+use Rattle.form_cells.specs.Cells.{linesOf, lookedAt}
 use Rattle.form_cells.proofs.Laws.{cells-length}
 use Rattle.write_spec.specs.Texts.{sheetText, sheetFault}
 use Rattle.write_spec.specs.Buffer.{writeNumber, penned}
@@ -28,11 +28,11 @@ use Rattle.write_spec.specs.Cleared.{cleared, clearedProgram}
 use Rattle.write_spec.specs.Round.{aSheet, RoundTrips, SheetsRoundTrip}
 use Rattle.write_spec.proofs.Trips.{sheets-round-trip}
 use Rattle.write_texts.specs.Form.{formLines, formText}
-use Rattle.form_spec.specs.Said.{said, lineAtFault, formSaid, sheetSaid}
+use Rattle.form_spec.specs.Said.{lineAtFault, linesSaid, formSaid, sheetSaid}
 use Rattle.form_spec.specs.Drafts.{writing, sheetOfForm, formOfSheet}
 use Rattle.form_spec.specs.Round.{FormsGiveTheirSheets, FormsAreShorter, FormsAreLawful}
 use Rattle.form_spec.proofs.LawfulForm.{runs-form}
-use Rattle.form_spec.proofs.WholeForm.{faultless, lines-back, form-read}
+use Rattle.form_spec.proofs.WholeForm.{faultless, lines-back, all-looked-at, form-read}
 use Rattle.form_spec.proofs.Shorter.{form-shorter}
 
 trips : RoundTrips aSheet
@@ -82,12 +82,12 @@ read-as s z =
 pub forms-are-lawful : FormsAreLawful
 unfolding FormsAreLawful formSaid
 forms-are-lawful s z =
-    by-test (lengthOk (length s)) (λ l. rw (l, formSaid) (lines (rw (l, formSaid) at z))) (λ l. absurd (let q : _≡_ {A = ℕ} 1 0 = rw (l, formSaid) at z in omega arith))
+    by-test (lengthOk (length s)) (λ l. rw (l, formSaid) (lines (lookedAt (linesOf s)) (rw (l, formSaid) at z))) (λ l. absurd (let q : _≡_ {A = ℕ} 1 0 = rw (l, formSaid) at z in omega arith))
   where
-    lines : formRead (linesOf s) .refused ≡ 0 → Lawful (formRead (linesOf s) .value .0) (formRead (linesOf s) .value .1)
-    lines q =
-        let w = whole-read form (linesOf s) (λ n r e. run-stops runs-form (linesOf s) n r e .1) q in
-        rw (w .is) (run-gives runs-form (linesOf s) (w .value) (w .rest) (w .goes))
+    lines : (x : List ℕ) → formRead x .refused ≡ 0 → Lawful (formRead x .value .0) (formRead x .value .1)
+    lines x q =
+        let w = whole-read form x (λ n r e. run-stops runs-form x n r e .1) q in
+        rw (w .is) (run-gives runs-form x (w .value) (w .rest) (w .goes))
 
 -- a text that has room
 fits : (n : ℕ) (x : List ℕ) (room : ℕ) → n ≡ 0 → length x ≤ 32768 → length x ≤ room → (writeNumber n x room ≡ 0) × (penned n x room ≡ x)
@@ -110,7 +110,7 @@ module _ (s : List ℕ) (t : Tables) (p : Program) (h : ReadAs s t p) where
   unfolding formText
   lines-short = omega (arith, cells-length (formLines t p), shorter, h .short)
 
-  lines-said : said (formLines t p) (formRead (formLines t p)) ≡ record { refused = 0; line = 0; value = (t, p) }
+  lines-said : linesSaid (formLines t p) ≡ record { refused = 0; line = 0; value = (t, p) }
   unfolding whole lineAtFault
   lines-said =
       rw (le-leb (length (formLines t p)) 32768 lines-short, whole, form-read t p (faultless t p (h .none)) (trips .faultless-is-writable (t, p) (h .none)), h .back)
@@ -119,7 +119,7 @@ module _ (s : List ℕ) (t : Tables) (p : Program) (h : ReadAs s t p) where
   unfolding formSaid
   form-said =
       rw (le-leb (length (formText t p)) 32768 (omega (arith, shorter, h .short)), formSaid)
-      (ap (λ (l : List ℕ). said l (formRead l)) (lines-back t p (faultless t p (h .none))) ∙ lines-said)
+      (ap linesSaid (ap lookedAt (lines-back t p (faultless t p (h .none))) ∙ all-looked-at t p (faultless t p (h .none))) ∙ lines-said)
 
 module _ (s : List ℕ) (t : Tables) (p : Program) (h : ReadAs s t p) (room : ℕ) (l : length s ≤ room) where
   the-form : formOfSheet s room ≡ record { refused = 0; line = 0; text = formText t p }

@@ -21,7 +21,7 @@ use Rattle.read_spec.specs.Fill.{headed, programOf}
 use Rattle.read_spec.specs.Texts.{instructionAt}
 use Rattle.report_spec.specs.Report.{countText}
 use Rattle.read_sheet.specs.Form.{linesWith, counted, typeForm, editionForm, form}
-use Rattle.form_cells.specs.Cells.{linesFrom, unmarked, linesOf, cellsOf}
+use Rattle.form_cells.specs.Cells.{linesFrom, unmarked, letter, separatorOf, plainFrom, linesBy, linesOf, lookedAt, cellsOf}
 use Rattle.write_spec.specs.Kinds.{limitFault, editionFault, doText, doFault}
 use Rattle.write_spec.specs.Texts.{firstOf, instructionRow, typeFault, sheetFault}
 use Rattle.write_spec.specs.Cleared.{cleared, clearedProgram}
@@ -31,7 +31,7 @@ use Rattle.write_spec.proofs.Says.{says-line}
 use Rattle.write_spec.proofs.Written.{says-edition, says-count}
 use Rattle.write_spec.proofs.Sheet.{tablesTo, head-is, program-says}
 use Rattle.write_texts.specs.Form.{editionRow, formFirst, formLines, formText}
-use Rattle.form_spec.proofs.Rows.{Row, Cells, cells-both, turn-cells, turn-counted, turn-yes, turn-no, turn-stop}
+use Rattle.form_spec.proofs.Rows.{linesIn, looked-none, Row, Cells, cells-none, cells-both, turn-cells, turn-counted, turn-yes, turn-no, turn-stop}
 use Rattle.form_spec.proofs.EachKind.{edition-row, depth-row, do-row}
 use Rattle.form_spec.proofs.TypeForm.{goes, counted-as, Next, Clean, clean, typeRowsOf, type-opens, type-cells, type-counted, type-read}
 
@@ -98,8 +98,7 @@ module _ (t : Tables) (p : Program) (c : Faultless t p) where
 
   -- ---- the rows of cells stand for the lines
   first-cells : Cells first
-  unfolding cellsOf
-  first-cells = by-test (eqb (p .edition) 1) (λ q. rw q (λ s. refl)) (λ q. rw q (edition-row (p .edition) .cells))
+  first-cells = by-test (eqb (p .edition) 1) (λ q. rw q cells-none) (λ q. rw q (edition-row (p .edition) .cells))
 
   lines-cells : Cells (formLines t p)
   unfolding formLines formFirst
@@ -113,10 +112,20 @@ module _ (t : Tables) (p : Program) (c : Faultless t p) where
   unfolding unmarked formText formLines formFirst countText cellsOf key
   not-marked = by-test (eqb (p .edition) 1) (λ q. rw q) (λ q. rw q)
 
+  -- its first row is `sheet,` or `depth,`
+  by-commas : separatorOf (formText t p) ≡ 44
+  unfolding separatorOf letter formText formLines formFirst countText cellsOf
+  by-commas = by-test (eqb (p .edition) 1) (λ q. rw q) (λ q. rw q)
+
   pub lines-back : linesOf (formText t p) ≡ formLines t p
-  unfolding linesOf formText linesFrom
+  unfolding linesOf formText linesFrom plainFrom
   lines-back =
-      ap (linesFrom true 0) (not-marked ∙ sym (append-nil (formText t p))) ∙ lines-cells [] ∙ append-nil (formLines t p)
+      ap (λ (u : List ℕ). linesBy (separatorOf u) u) not-marked
+      ∙ ap (λ (d : ℕ). linesBy d (formText t p)) by-commas
+      ∙ ap (linesIn true 0) (sym (append-nil (formText t p))) ∙ lines-cells .lines [] ∙ append-nil (formLines t p)
+
+  pub all-looked-at : lookedAt (formLines t p) ≡ formLines t p
+  all-looked-at = ap lookedAt (sym (append-nil (formLines t p))) ∙ lines-cells .looked [] looked-none .whole ∙ append-nil (formLines t p)
 
   -- ---- how many there are
   program-next : Next (program ++ [])

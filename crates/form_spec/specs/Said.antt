@@ -15,7 +15,7 @@ use Rattle.read_spec.specs.Place.{lfs, lineNumber}
 use Rattle.read_chain.specs.Whole.{Whole}
 use Rattle.read_sheet.specs.Sheet.{sheetRead}
 use Rattle.read_sheet.specs.Form.{formRead}
-use Rattle.form_cells.specs.Cells.{linesFrom, linesOf}
+use Rattle.form_cells.specs.Cells.{unmarked, separatorOf, linesBy, linesOf, lookedAt}
 
 pub record Said : Type 0 where
   pub refused : ℕ
@@ -30,9 +30,17 @@ lineAtFault n at s = cond (leb n tooLong) 0 (lineNumber s at)
 abbrev pub said : List ℕ → Whole (Tables × Program) → Said
 said s w = record { refused = w .refused; line = lineAtFault (w .refused) (w .place) s; value = w .value }
 
+-- of the lines l of a form
+abbrev pub linesSaid : List ℕ → Said
+linesSaid l = said l (formRead l)
+
 -- docs/FORM.md: "A form has at most 32,768 bytes"; "a row's own line would be refused with the same number", and has the row's number
 unfoldable pub formSaid : List ℕ → Said
-formSaid s = elim (lengthOk (length s)) [ true ↦ said (linesOf s) (formRead (linesOf s)) | false ↦ record { refused = tooLong; line = 0; value = (noTables, noProgram) } ]
+formSaid s =
+    elim (lengthOk (length s)) [
+      | true ↦ linesSaid (lookedAt (linesOf s))
+      | false ↦ record { refused = tooLong; line = 0; value = (noTables, noProgram) }
+    ]
 
 -- 01, the sheet: its numbers and lines as its reader gives them
 unfoldable pub sheetSaid : List ℕ → Said
@@ -42,4 +50,6 @@ sheetSaid s = said s (sheetRead s)
 -- of the others
 unfoldable pub RowsKeepTheirNumbers : Type 0
 RowsKeepTheirNumbers =
-    (a b : List ℕ) → (linesOf (a ++ bytes "\n" ++ b) ≡ linesOf (a ++ bytes "\n") ++ linesFrom true 0 b) × (lfs (linesOf (a ++ bytes "\n")) ≡ lfs (a ++ bytes "\n"))
+    (a b : List ℕ)
+    → (linesOf (a ++ bytes "\n" ++ b) ≡ linesOf (a ++ bytes "\n") ++ linesBy (separatorOf (unmarked a)) b)
+    × (lfs (linesOf (a ++ bytes "\n")) ≡ lfs (a ++ bytes "\n"))

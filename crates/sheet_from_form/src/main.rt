@@ -2,5 +2,9 @@
 use form_lib::Draft;
 
 fn main() {
-    form_lib::run(Draft::Sheet, b"write-sheet: standard input", b"text=form\n");
+    form_lib::run(
+        Draft::Sheet,
+        b"sheet-from-form: standard input",
+        b"text=form\n",
+    );
 }
