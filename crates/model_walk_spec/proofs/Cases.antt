@@ -39,12 +39,12 @@ use Rattle.judge_spec.specs.Course.{short, shortStart, served, outset, read, pa
 use Rattle.report_spec.specs.Report.{countText}
 use Rattle.write_spec.specs.Kinds.{stepText}
 use Rattle.write_spec.specs.Texts.{answerText}
+use Rattle.done_spec.specs.Done.{allDone}
 use Rattle.model_walk_spec.specs.Order.{run, stepsOn, stepsBelow, inOrder}
-use Rattle.model_walk_spec.specs.AtEnd.{atEnd}
 use Rattle.model_walk_spec.specs.Walk.{firstOf, modelFrom, modelEnding}
 use Rattle.model_walk_spec.specs.OnTexts.{modelText}
 use Rattle.model_walk_spec.specs.Cases.{CasesModelled}
 
 pub cases-modelled : CasesModelled
-unfolding CasesModelled paperCourse stepsOn stepsBelow inOrder firstOf modelFrom atEnd modelEnding modelText countText stepText answerText member collect allBelow anyBelow noTables noneBegun noProgram noAnswer start isServed entries inTable listOf queueOf put withQueue withServers withDone key digit numberFrom membersFrom list oneForm twoForm threeForm fourForm listForm listsForm digitsIn numberText membersBelow moreText listText maskText inTurn oneText twoText threeText fourText headed withType withTransition withPort programOf withInstruction answerOf withStep editionLine dueLine countLineIn initialLine tranLine behaviorLine group portLine doId doNumber doEnds doTicketed doWait doLine stepId stepNumber stepLine each upToLf lfs lineNumber lineStart tranAt behaviorAt portAt typeLines instructionAt sheet stepAt answer instructionAction moveAction actionCheck effect concern addCheck added down closed zeroed renewed isOf isUsePort isProvidePort conCheck connected sameConnection dconCheck disconnected namedBy delCheck deleted endCheck endTo enterRow enterCheck enterTo mayLeave finishRow finishCheck finished fireRow fireCheck fireTo active current endsAt leaving entering fired endedBy entered withQueued wouldLeave wouldEnter refusing serves blocks employs failsUnconnected failsUnserved failsRefusing failsInUse portCheck lowest concerned pushbCheck pushed stamped begunTo goesOn pushedTo notAbove hasStamp actionAt action stepCheckWith stepTo step waitCheck oneMore walk short read items itemsIn itemThen lastForm plainQueue ticketQueue slotsOf itemsOk risesTo instanceLine pushedAll placed withRow portIn startConnectionLine startInstanceAt startConnectionAt startLines failsStill someUnserved served shortStart outset
+unfolding CasesModelled paperCourse stepsOn stepsBelow inOrder firstOf modelFrom allDone modelEnding modelText countText stepText answerText member collect allBelow anyBelow noTables noneBegun noProgram noAnswer start isServed entries inTable listOf queueOf put withQueue withServers withDone key digit numberFrom membersFrom list oneForm twoForm threeForm fourForm listForm listsForm digitsIn numberText membersBelow moreText listText maskText inTurn oneText twoText threeText fourText headed withType withTransition withPort programOf withInstruction answerOf withStep editionLine dueLine countLineIn initialLine tranLine behaviorLine group portLine doId doNumber doEnds doTicketed doWait doLine stepId stepNumber stepLine each upToLf lfs lineNumber lineStart tranAt behaviorAt portAt typeLines instructionAt sheet stepAt answer instructionAction moveAction actionCheck effect concern addCheck added down closed zeroed renewed isOf isUsePort isProvidePort conCheck connected sameConnection dconCheck disconnected namedBy delCheck deleted endCheck endTo enterRow enterCheck enterTo mayLeave finishRow finishCheck finished fireRow fireCheck fireTo active current endsAt leaving entering fired endedBy entered withQueued wouldLeave wouldEnter refusing serves blocks employs failsUnconnected failsUnserved failsRefusing failsInUse portCheck lowest concerned pushbCheck pushed stamped begunTo goesOn pushedTo notAbove hasStamp actionAt action stepCheckWith stepTo step waitCheck oneMore walk short read items itemsIn itemThen lastForm plainQueue ticketQueue slotsOf itemsOk risesTo instanceLine pushedAll placed withRow portIn startConnectionLine startInstanceAt startConnectionAt startLines failsStill someUnserved served shortStart outset
 cases-modelled = ((refl, refl), ((refl, refl), ((refl, refl), ((refl, refl), ((refl, refl), ((refl, refl), ((refl, refl), ((refl, refl), ((refl, refl), ((refl, refl), ((refl, refl), tt)))))))))))

@@ -7,12 +7,12 @@ use native.Mathlib.Omega.{arith}
 use lib.Dec.{leb}
 use lib.ListN.{length}
 use borrow.Author.Tests.{lt-leb}
+use Rattle.done_spec.specs.Done.{allDone}
 use Rattle.foretell_spec.specs.Names.{foretold}
 use Rattle.foretell_spec.specs.Foretold.{NumbersForetold}
 use Rattle.foretell_spec.proofs.Foretold.{numbers-foretold-holds, never-past}
 use Rattle.model_walk_spec.specs.declared.Ending.{Ending}
 use Rattle.model_walk_spec.specs.declared.Ending.the-variants.{NoEnding, Done, Cut, Stuck}
-use Rattle.model_walk_spec.specs.AtEnd.{atEnd}
 use Rattle.model_walk_spec.specs.Walk.{mostSteps, modelSteps, modelReached, modelEnding}
 use Rattle.model_walk_spec.specs.NotDone.{ForetoldIsNotDone}
 
@@ -28,7 +28,7 @@ cut-or-stuck true = refl
 cut-or-stuck false = refl
 
 pub foretold-is-not-done : ForetoldIsNotDone
-unfolding ForetoldIsNotDone NumbersForetold modelEnding atEnd isDone
+unfolding ForetoldIsNotDone NumbersForetold modelEnding allDone isDone
 foretold-is-not-done default t p c z n e =
     let far = never-past default t p c (modelSteps default t p c) z in
     let l = numbers-foretold-holds t p c z .one n .0 in

@@ -10,10 +10,10 @@ use Rattle.model.specs.declared.Step.{Step}
 use Rattle.model.specs.declared.Configuration.{Configuration}
 use Rattle.rules_spec.specs.Step.{stepCheck, stepTo}
 use Rattle.rules_spec.specs.Walk.{walk}
+use Rattle.done_spec.specs.Done.{allDone}
 use Rattle.model_walk_spec.specs.declared.Ending.{Ending}
 use Rattle.model_walk_spec.specs.declared.Ending.the-variants.{Done, Cut, Stuck}
 use Rattle.model_walk_spec.specs.Order.{inOrder}
-use Rattle.model_walk_spec.specs.AtEnd.{atEnd}
 
 -- the step that is taken, or none
 pub data Turn : Type 0 where
@@ -40,7 +40,7 @@ modelSteps default t p c = modelFrom default t p mostSteps c
 
 -- "done (program at its end, all queues empty, at whatever length), cut (1,024 steps and not done), or stuck (fewer, and not done)"
 abbrev pub ending : Program → ℕ → Configuration → Ending
-ending p n c = cond (atEnd p c) Done (cond (leb mostSteps n) Cut Stuck)
+ending p n c = cond (allDone p c) Done (cond (leb mostSteps n) Cut Stuck)
 
 -- where the model walk from c comes to, and how it ends
 abbrev pub modelReached : ℕ → Tables → Program → Configuration → Configuration

@@ -5,7 +5,7 @@ use borrow.Author.Needs.{needs}
 use Rattle.words.specs.Words.{tablesIn, programFrom, stateIn, answerIn}
 use Rattle.step_walk.specs.Fits.{PortsFit}
 use Rattle.write_spec.proofs.Trips.{penned-within}
-use Rattle.model_walk_spec.specs.AtEnd.{atEnd}
+use Rattle.done_spec.specs.Done.{allDone}
 use Rattle.model_walk_spec.specs.OnTexts.{Said}
 use Rattle.model_walk_lib.proofs.Onward.{answer-full}
 use Rattle.model_walk_lib.proofs.Texted.{Holds, held-so, refused-so, written-so, counted}
@@ -34,7 +34,7 @@ returns c =
     )
 
 returns-2 : tie.Need-returns-2
-unfolding atEnd
+unfolding allDone
 returns-2 c =
     let w = c .before .before .before .before in
     let g = w .before .before .before in

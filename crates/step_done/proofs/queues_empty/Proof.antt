@@ -10,8 +10,8 @@ use Rattle.sets.specs.Test.{allBelow}
 use Rattle.sets.proofs.Laws.{all-start, all-more, all-miss, all-end}
 use Rattle.model.specs.View.{instance}
 use Rattle.words.specs.Words.{stateIn}
-use Rattle.model_walk_lib.proofs.endings.queues_empty.Statement.{statement}
-use Rattle.model_walk_lib.proofs.endings.queues_empty.Tie as tie
+use Rattle.step_done.proofs.queues_empty.Statement.{statement}
+use Rattle.step_done.proofs.queues_empty.Tie as tie
 
 abbrev Inv-loop : tie.InvT-loop
 Inv-loop state i₀ i = (i ≤ 32) × (allBelow i (λ j. eqb (instance (stateIn state) j .queued) 0) ≡ true)

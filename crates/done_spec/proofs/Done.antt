@@ -5,11 +5,11 @@ use lib.Dec.{eqb, leb}
 use Rattle.item_spec.proofs.Tests.{and-left, and-right}
 use Rattle.sets.proofs.Laws.{all-at, all-of}
 use Rattle.model.specs.View.{instance}
-use Rattle.model_walk_spec.specs.AtEnd.{atEnd, AtEndExactly}
+use Rattle.done_spec.specs.Done.{allDone, DoneExactly}
 
-pub at-end-exactly : AtEndExactly
-unfolding AtEndExactly atEnd
-at-end-exactly p c = (
+pub done-exactly : DoneExactly
+unfolding DoneExactly allDone
+done-exactly p c = (
   λ e. record {
     program = leb-true (p .count) (c .done) (and-left (leb (p .count) (c .done)) _ e);
     queues = λ i h. eqb-true (instance c i .queued) 0 (all-at 32 (λ j. eqb (instance c j .queued) 0) (and-right (leb (p .count) (c .done)) _ e) i h);

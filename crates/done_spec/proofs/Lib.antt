@@ -1,0 +1,2 @@
+-- The test in other words (Done).
+pub mod Done

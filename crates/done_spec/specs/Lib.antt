@@ -1,0 +1,2 @@
+-- When all of a paper is done (Done).
+pub mod Done
