@@ -1,0 +1,2 @@
+-- What the words say is what the texts come to (Outcomes).
+pub mod Outcomes

@@ -1,0 +1,2 @@
+-- The outcome for each case of how far the texts came (Came).
+pub mod Came
