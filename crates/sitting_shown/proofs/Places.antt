@@ -8,7 +8,7 @@ use Rattle.model.specs.declared.Text.the-variants as text
 use Rattle.report_spec.proofs.Widths.{number-le}
 use Rattle.sitting_shown.specs.Place.{whichText, placeText, PlacesFit}
 
-which-short : (x : Text) → length (whichText x) ≤ 6
+pub which-short : (x : Text) → length (whichText x) ≤ 6
 which-short text.Neither = omega arith
 which-short text.Sheet = omega arith
 which-short text.Answer = omega arith

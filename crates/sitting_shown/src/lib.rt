@@ -1,5 +1,6 @@
-// What a marker is shown: a candidate's bytes as printable ASCII, every other byte and the backslash as `\xNN` in lower case; and the place of a line.
-// Promised: every byte of the lent buffer, by `sitting_shown` and `placeText`. What is shown is always printable, and no two texts look alike (specs/Readable).
+// What is shown of a candidate: bytes at a line's end, in markup, in a cell of a table, what isn't plain there as `\xNN` in lower case; and the place of a line.
+// Promised: every byte of the lent buffer, by `shown`, `cell` and `placeText`. What is shown is always printable, nothing of it means more where it stands,
+// and no two texts look alike (specs/Readable).
 // Beside it stands how the programs that show many texts read each of them.
 use judge_spec::Place;
 use libc::STDOUT_FILENO;
@@ -9,21 +10,106 @@ ghost use mathlib.Core.List.{_++_};
 ghost use Prim.Native.Nat.{_<_, min};
 ghost use lib.ListN.{length};
 ghost use Rattle.write_items.specs.Written.{Written};
-ghost use Rattle.sitting_shown.specs.Shown.{plain, hexDigit, shownByte, shown};
+ghost use Rattle.sitting_shown.specs.Shown.{plain, quote, markup, separator, formula, more, itself, hexDigit, shownByte, shown, cell};
 ghost use Rattle.io.specs.Counts.{Counts};
 ghost use Rattle.sitting_shown.specs.Place.{whichText, placeText};
 
-// A byte that stands for itself: from the blank to the tilde, the backslash aside.
+// Where a candidate's bytes are shown: alone at a line's end, within markup, or in a cell of a table, as its first byte or a later one.
+pub enum Among {
+    Line,
+    Markup,
+    Head,
+    Cell,
+}
+
+// From the exclamation mark to the tilde, the backslash aside.
 fn is_plain(b: u8) -> bool
     ensures { λ r. ⌜ r ≡ plain b ⌝ }
 {
-    if b < b' ' {
+    if b < b'!' {
         return false;
     }
     if b'~' < b {
         return false;
     }
     b != b'\\'
+}
+
+fn is_quote(b: u8) -> bool
+    ensures { λ r. ⌜ r ≡ quote b ⌝ }
+{
+    if b == b'"' {
+        return true;
+    }
+    b == b'\''
+}
+
+// A byte that a browser may take for more than itself.
+fn is_markup(b: u8) -> bool
+    ensures { λ r. ⌜ r ≡ markup b ⌝ }
+{
+    if b == b'&' {
+        return true;
+    }
+    if b == b'<' {
+        return true;
+    }
+    if b == b'>' {
+        return true;
+    }
+    is_quote(b)
+}
+
+fn is_separator(b: u8) -> bool
+    ensures { λ r. ⌜ r ≡ separator b ⌝ }
+{
+    if b == b',' {
+        return true;
+    }
+    if b == b';' {
+        return true;
+    }
+    is_markup(b)
+}
+
+// A byte with which a cell begins that a spreadsheet would work out.
+fn is_formula(b: u8) -> bool
+    ensures { λ r. ⌜ r ≡ formula b ⌝ }
+{
+    if b == b'=' {
+        return true;
+    }
+    if b == b'+' {
+        return true;
+    }
+    if b == b'-' {
+        return true;
+    }
+    if b == b'@' {
+        return true;
+    }
+    is_separator(b)
+}
+
+fn means_more(among: Among, b: u8) -> bool
+    ensures { λ r. ⌜ r ≡ more among b ⌝ }
+{
+    match among {
+        Among::Line => false,
+        Among::Markup => is_markup(b),
+        Among::Head => is_formula(b),
+        Among::Cell => is_separator(b),
+    }
+}
+
+// A byte that stands for itself there.
+fn stands(among: Among, b: u8) -> bool
+    ensures { λ r. ⌜ r ≡ itself among b ⌝ }
+{
+    if is_plain(b) {
+        return !means_more(among, b);
+    }
+    false
 }
 
 fn hex_digit(d: u8) -> u8
@@ -36,10 +122,10 @@ fn hex_digit(d: u8) -> u8
     b'a' + (d - 10)
 }
 
-fn show_byte(t: &mut [u8], at: usize, b: u8) -> usize
-    ensures { λ r. ⌜ Written (now (t .entry)) (shownByte b) (now (t .exit)) at r ⌝ }
+fn show_byte(t: &mut [u8], at: usize, among: Among, b: u8) -> usize
+    ensures { λ r. ⌜ Written (now (t .entry)) (shownByte among b) (now (t .exit)) at r ⌝ }
 {
-    if is_plain(b) {
+    if stands(among, b) {
         return write_items::write_byte(t, at, b);
     }
     let p = write_items::write_key(t, at, b"\\x");
@@ -48,16 +134,27 @@ fn show_byte(t: &mut [u8], at: usize, b: u8) -> usize
 }
 
 // A candidate's bytes, at a position of a lent buffer; what has no room is cut.
-pub fn show(t: &mut [u8], at: usize, text: &[u8]) -> usize
-    ensures { λ r. ⌜ Written (now (t .entry)) (shown (now (text .entry))) (now (t .exit)) at r ⌝ }
+pub fn show(t: &mut [u8], at: usize, among: Among, text: &[u8]) -> usize
+    ensures { λ r. ⌜ Written (now (t .entry)) (shown among (now (text .entry))) (now (t .exit)) at r ⌝ }
 {
     let mut p = at;
     let mut i: usize = 0;
     while i < text.len() {
-        p = show_byte(t, p, text[i]);
+        p = show_byte(t, p, among, text[i]);
         i += 1;
     }
     p
+}
+
+// A name as a cell of a table, which no spreadsheet works out.
+pub fn show_cell(t: &mut [u8], at: usize, text: &[u8]) -> usize
+    ensures { λ r. ⌜ Written (now (t .entry)) (cell (now (text .entry))) (now (t .exit)) at r ⌝ }
+{
+    if text.len() == 0 {
+        return at;
+    }
+    let p = show_byte(t, at, Among::Head, text[0]);
+    show(t, p, Among::Cell, &text[1..])
 }
 
 fn write_which(t: &mut [u8], at: usize, text: Text) -> usize
@@ -72,19 +169,26 @@ fn write_which(t: &mut [u8], at: usize, text: Text) -> usize
     }
 }
 
-// `place=TEXT,START,SIZE` and its LF, which 32 bytes have room for.
+// `place=TEXT,START,SIZE` and its LF.
+pub fn write_place(t: &mut [u8], at: usize, place: Place) -> usize
+    ensures { λ r. ⌜ Written (now (t .entry)) (placeText place) (now (t .exit)) at r ⌝ }
+{
+    let text = place.text;
+    let a = write_items::write_key(t, at, b"place=");
+    let b = write_which(t, a, text);
+    let c = write_items::write_byte(t, b, b',');
+    let d = write_items::write_number(t, c, place.start);
+    let e = write_items::write_byte(t, d, b',');
+    let f = write_items::write_number(t, e, place.size);
+    write_items::write_byte(t, f, b'\n')
+}
+
+// The same alone, which 32 bytes have room for.
 pub fn show_place(place: Place, out: &mut [u8; 32]) -> usize
     ensures written { λ r. ⌜ Written (now (out .entry)) (placeText place) (now (out .exit)) 0 r ⌝ }
     ensures counts { λ r. ⌜ Counts r (now (out .exit)) ⌝ }
 {
-    let text = place.text;
-    let a = write_items::write_key(out, 0, b"place=");
-    let b = write_which(out, a, text);
-    let c = write_items::write_byte(out, b, b',');
-    let d = write_items::write_number(out, c, place.start);
-    let e = write_items::write_byte(out, d, b',');
-    let f = write_items::write_number(out, e, place.size);
-    write_items::write_byte(out, f, b'\n')
+    write_place(out, 0, place)
 }
 
 // NAME and what its file's name ends in, cut where the path has no room.

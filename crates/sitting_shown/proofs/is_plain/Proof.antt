@@ -8,6 +8,6 @@ pub is-plain-spec : {M : Type 1} → statement M
 unfolding plain
 is-plain-spec =
     tie.close
-    (tie.spec (λ c. rw (lt-leb 32 (c .before .args .b) (omega arith)))
-    (λ c. let b = c .before .before .args .b in rw (le-leb 32 b (omega arith), lt-leb b 126 (omega arith)))
-    (λ c. let b = c .before .before .args .b in rw (le-leb 32 b (omega arith), le-leb b 126 (omega arith))))
+    (tie.spec (λ c. rw (lt-leb 33 (c .before .args .b) (omega arith)))
+    (λ c. let b = c .before .before .args .b in rw (le-leb 33 b (omega arith), lt-leb b 126 (omega arith)))
+    (λ c. let b = c .before .before .args .b in rw (le-leb 33 b (omega arith), le-leb b 126 (omega arith))))

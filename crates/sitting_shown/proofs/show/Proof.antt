@@ -12,10 +12,10 @@ use Rattle.sitting_shown.proofs.show.Statement.{statement}
 use Rattle.sitting_shown.proofs.show.Tie as tie
 
 abbrev Inv-loop : tie.InvT-loop
-Inv-loop t₀ at text p₀ i₀ t p i = (i ≤ length text) × Written t₀ (shown (take i text)) t at p
+Inv-loop t₀ at a text p₀ i₀ t p i = (i ≤ length text) × Written t₀ (shown a (take i text)) t at p
 
 abbrev μ-loop : tie.MeasureT-loop
-μ-loop t₀ at text p₀ i₀ t p i = length text - i
+μ-loop t₀ at a text p₀ i₀ t p i = length text - i
 
 pub show-spec : {M : Type 1} → statement M
 unfolding shown
@@ -25,5 +25,5 @@ show-spec =
     (λ c.
     let k = c .before .before .before .before .before in
     let w = then (k .before .loop .inv .1) (c .before .before .show-byte .ensures) in
-    (omega arith, rw (shown-more _ _ (k .loop-test .taken)) w))
+    (omega arith, rw (shown-more _ _ _ (k .loop-test .taken)) w))
     (λ c. length-written (c .before .loop .inv .1)) (λ c. rw (take-all _ _ (c .loop-test .left)) at (c .before .loop .inv .1)))

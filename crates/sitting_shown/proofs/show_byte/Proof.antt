@@ -12,7 +12,7 @@ returns-2 c =
     let high = low .before .before .before .before .before in
     let key = high .before .before .before .before .before in
     let test = key .before .before .before in
-    let plain-is = sym (test .before .is-plain .ensures) ∙ test .if1 .left in
+    let plain-is = sym (test .before .stands .ensures) ∙ test .if1 .left in
     rw (plain-is, shownByte, ← high .before .hex-digit .ensures, ← low .before .hex-digit2 .ensures)
     (then (then (key .write-key .ensures) (high .write-byte2 .ensures)) (low .write-byte3 .ensures))
 
@@ -24,6 +24,6 @@ show-byte-spec =
     (λ c.
     let d = c .before .before in
     let test = d .before .before in
-    rw (sym (test .before .is-plain .ensures) ∙ test .if1 .taken, shownByte) (d .write-byte .ensures))
+    rw (sym (test .before .stands .ensures) ∙ test .if1 .taken, shownByte) (d .write-byte .ensures))
     (λ c. search needs) (λ c κs. search needs) (λ c κs. search needs) (λ c κs. search needs) (λ c κs. search needs) (λ c κs. search needs)
     (λ c. length-written (returns-2 c)) returns-2)
