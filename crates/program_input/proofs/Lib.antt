@@ -1,0 +1,2 @@
+-- A path's bytes one after the other (Laws).
+pub mod Laws

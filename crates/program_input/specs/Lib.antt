@@ -1,0 +1,2 @@
+-- What a path's last part is (Last).
+pub mod Last
