@@ -29,7 +29,7 @@ use Rattle.write_spec.proofs.Trips.{sheets-round-trip}
 use Rattle.foretell_spec.specs.Lines.{instructionLine, lineText, LinesSayInstructions}
 
 -- ---- lines
-lfs-append : (s t : List ℕ) → lfs (s ++ t) ≡ lfs s + lfs t
+pub lfs-append : (s t : List ℕ) → lfs (s ++ t) ≡ lfs s + lfs t
 unfolding lfs
 lfs-append [] t = omega arith
 lfs-append (c ∷ s) t =
@@ -106,7 +106,7 @@ digits-plain (suc n) v =
     (λ q. rw (q, digitsIn, ne-eqb (48 + v) 10 (λ z. omega (arith, z)), lfs) refl)
     (λ q. rw (q, digitsIn, lfs-append (digitsIn n (v / 10)) _, digits-plain n (v / 10), ne-eqb (48 + v % 10) 10 (λ z. omega (arith, z)), lfs) refl)
 
-number-plain : (v : ℕ) → lfs (numberText v) ≡ 0
+pub number-plain : (v : ℕ) → lfs (numberText v) ≡ 0
 unfolding numberText
 number-plain v = digits-plain 20 v
 

@@ -1,307 +1,190 @@
-// A marker's aid: the sheet from sheet.txt and the start, where there is one, from start.txt in the current folder, and for each answer file that an argument
-// names, in order, `candidate=` and its name, what `judge` prints, `place=` and `offending=` with the line at fault; or `unreadable=1`; at the end
-// `candidates=` and how many there were. A candidate's bytes are shown as `sitting_shown` promises: `\xNN`, lower case. Each candidate is one write, and the
-// first write that fails ends the sitting. Called as `sitting -0 SHEET START`, as bin/sitting calls it, it takes the paths from there and the names, each
-// ended by a NUL, from standard input, shows them whole, and tells on descriptor 3 that all was written, and whether every answer was read.
-mod blocks;
+// A marker's aid: called as `sitting -0 SHEET START TIMES`, as bin/sitting calls it, it takes the answers' names from standard input (program_input) and
+// writes for each what sitting_lib promises: `candidate=` and the name, and its block, or `unreadable=1`; at the end `candidates=` and how many there
+// were. A fault of the sheet, of the start or of the times is the paper's: it is said, and nothing is written. Each candidate is one write, and the first
+// write that fails ends it. On descriptor 3 it tells that all was written, and whether every answer was read.
+use libc::STDOUT_FILENO;
+use model::Text;
+use program_input::argument;
+use program_input::at_most;
+use program_input::next_part;
+use sitting_lib::LONGEST;
 
-use blocks::LONGEST;
-use blocks::at_most;
-use blocks::print;
-use blocks::print_count;
-use blocks::say_unreadable;
-use blocks::write_candidate;
-use blocks::write_unreadable;
-use libc::STDIN_FILENO;
-use read_items::Due;
-ghost use Prim.Native.Nat.{_≤_};
-ghost use lib.ListN.{length};
-ghost use Rattle.io.specs.Counts.{Counts};
-
-// How a sitting went so far: how many candidates, whether something could not be read, whether all was written; of the names on standard input, whether
-// they have ended, and how many bytes there are of the next.
+// How many candidates there were, whether something could not be read, and whether all was written.
 struct Went {
-    candidates: u64,
+    candidates: usize,
     unread: bool,
     written: bool,
-    ended: bool,
-    size: usize,
 }
 
-// Argument i; of one that is longer than any path, its first bytes, by which no file can be opened.
-fn name_of(i: usize, name: &mut [u8]) -> usize
-    ensures { λ r. ⌜ Counts r (now (name .exit)) ⌝ }
-{
-    let size = os::arg(i, name);
-    if os::errno() == libc::ENAMETOOLONG {
-        return io::count(isize::MAX, name);
-    }
-    size
-}
-
-// Where the name begins that is shown: past the first `/./`, so that a script can put the folder in front, or at the start.
-fn shown_from(name: &[u8]) -> usize
-    ensures { λ r. ⌜ r ≤ length (now (name .entry)) ⌝ }
-{
-    let mut i: usize = 0;
-    while i < name.len() {
-        if let Due::Past(after) = read_items::past_key(name, i, b"/./") {
-            return after;
-        }
-        i += 1;
-    }
-    0
+fn print(block: &[u8], used: usize) -> bool {
+    let n = at_most(used, block);
+    io::write_all(STDOUT_FILENO, &block[..n])
 }
 
 fn one_more(went: Went, unread: bool, written: bool) -> Went {
     Went {
-        candidates: std::num::wrapping_add_u64(went.candidates, 1),
+        candidates: std::num::wrapping_add_usize(went.candidates, 1),
         unread: went.unread || unread,
         written,
-        ended: went.ended,
-        size: 0,
     }
 }
 
-// The candidate whose answer stands in `path`, shown by this name.
+fn run_unread(block: &mut [u8], name: &[u8], went: Went) -> Went {
+    program_input::say_unreadable(b"sitting", name);
+    let used = sitting_lib::write_unread(block, name);
+    one_more(went, true, print(block, used))
+}
+
 fn run_answer(
     block: &mut [u8],
     sheet: &[u8],
     given: bool,
     start: &[u8],
-    path: &[u8],
     name: &[u8],
     went: Went,
 ) -> Went {
     let mut answer = [0u8; 32769];
-    let read = program_io::read_named(path, &mut answer);
+    let read = program_io::read_named(name, &mut answer);
     let size = read.size;
     if read.failed {
-        say_unreadable(block, name);
-        let used = write_unreadable(block, name);
-        return one_more(went, true, print(block, used));
+        return run_unread(block, name, went);
     }
-    let used = write_candidate(block, name, sheet, given, start, &answer[..size]);
+    let used = sitting_lib::write_candidate(block, name, sheet, given, start, &answer[..size]);
     one_more(went, false, print(block, used))
 }
 
-fn run_path(
-    block: &mut [u8],
-    sheet: &[u8],
-    given: bool,
-    start: &[u8],
-    path: &[u8],
-    went: Went,
-) -> Went {
-    let from = shown_from(path);
-    run_answer(block, sheet, given, start, path, &path[from..], went)
-}
-
-fn run_argument(
-    block: &mut [u8],
-    sheet: &[u8],
-    given: bool,
-    start: &[u8],
-    i: usize,
-    went: Went,
-) -> Went {
-    let mut path = [0u8; 4096];
-    let size = name_of(i, &mut path);
-    run_path(block, sheet, given, start, &path[..size], went)
-}
-
-fn none_yet() -> Went {
-    Went {
-        candidates: 0,
-        unread: false,
-        written: true,
-        ended: false,
-        size: 0,
-    }
-}
-
-fn run_arguments(block: &mut [u8], sheet: &[u8], given: bool, start: &[u8]) -> Went {
-    let count = os::arg_count();
-    let mut went = none_yet();
-    let mut i: usize = 1;
-    while i < count && went.written {
-        went = run_argument(block, sheet, given, start, i, went);
-        i += 1;
-    }
-    went
-}
-
-// A name has ended.
+// A name after its mark.
 fn run_name(
     block: &mut [u8],
     sheet: &[u8],
     given: bool,
     start: &[u8],
-    name: &[u8],
+    marked: &[u8],
     went: Went,
 ) -> Went {
-    let n = at_most(went.size, name);
-    run_answer(block, sheet, given, start, &name[..n], &name[..n], went)
+    if marked.len() == 0 {
+        return run_unread(block, marked, went);
+    }
+    if marked[0] != b'+' {
+        return run_unread(block, &marked[1..], went);
+    }
+    run_answer(block, sheet, given, start, &marked[1..], went)
 }
 
-// A name's next byte, or the NUL that ends it. Of a name longer than any path the first bytes are kept, by which no file can be opened.
-fn take_byte(
+// The next name, or none.
+fn run_part(
     block: &mut [u8],
     sheet: &[u8],
     given: bool,
     start: &[u8],
-    name: &mut [u8],
-    b: u8,
+    there: bool,
+    marked: &[u8],
     went: Went,
 ) -> Went {
-    if b == 0 {
-        return run_name(block, sheet, given, start, name, went);
-    }
-    Went {
-        candidates: went.candidates,
-        unread: went.unread,
-        written: went.written,
-        ended: went.ended,
-        size: write_items::write_byte(name, went.size, b),
-    }
-}
-
-fn take_bytes(
-    block: &mut [u8],
-    sheet: &[u8],
-    given: bool,
-    start: &[u8],
-    name: &mut [u8],
-    bytes: &[u8],
-    went: Went,
-) -> Went {
-    let mut so_far = went;
-    let mut i: usize = 0;
-    while i < bytes.len() && so_far.written {
-        so_far = take_byte(block, sheet, given, start, name, bytes[i], so_far);
-        i += 1;
-    }
-    so_far
-}
-
-fn names_ended(went: Went, unread: bool) -> Went {
-    Went {
-        candidates: went.candidates,
-        unread: went.unread || unread,
-        written: went.written,
-        ended: true,
-        size: 0,
-    }
-}
-
-// The last name may lack its NUL.
-fn last_name(
-    block: &mut [u8],
-    sheet: &[u8],
-    given: bool,
-    start: &[u8],
-    name: &[u8],
-    went: Went,
-) -> Went {
-    if went.size == 0 {
-        return names_ended(went, false);
-    }
-    names_ended(run_name(block, sheet, given, start, name, went), false)
-}
-
-fn next_names(
-    block: &mut [u8],
-    sheet: &[u8],
-    given: bool,
-    start: &[u8],
-    name: &mut [u8],
-    bytes: &mut [u8],
-    went: Went,
-) -> Went {
-    let read = program_io::read_some(STDIN_FILENO, bytes);
-    let size = read.size;
-    if read.failed {
-        os::fail(b"sitting: standard input");
-        return names_ended(went, true);
-    }
-    if size == 0 {
-        return last_name(block, sheet, given, start, name, went);
-    }
-    take_bytes(block, sheet, given, start, name, &bytes[..size], went)
-}
-
-fn run_names(
-    block: &mut [u8],
-    sheet: &[u8],
-    given: bool,
-    start: &[u8],
-    name: &mut [u8],
-    bytes: &mut [u8],
-) -> Went {
-    let mut went = none_yet();
-    // A loop that is proved ends, so it counts its turns down.
-    let mut turns = u64::MAX;
-    while 0 < turns && went.written && !went.ended {
-        went = next_names(block, sheet, given, start, name, bytes, went);
-        turns -= 1;
+    if there {
+        return run_name(block, sheet, given, start, marked, went);
     }
     went
 }
 
-// The last line, and whether all was written.
-fn print_last(block: &mut [u8], went: Went) -> bool {
-    if !went.written {
-        return false;
-    }
-    print_count(block, went.candidates)
-}
-
-// Each text has room for a byte more than it may have, so that a longer one still gets 1. A missing sheet counts as empty.
-fn sit(block: &mut [u8]) {
-    let mut sheet = [0u8; 32769];
-    let n = program_io::read_named(b"sheet.txt", &mut sheet).size;
-    let mut start = [0u8; 8193];
-    let begun = program_io::read_start(b"start.txt", &mut start);
-    let b = begun.size;
-    let went = run_arguments(block, &sheet[..n], begun.given, &start[..b]);
-    print_last(block, went);
-}
-
-fn sit_for_script(block: &mut [u8]) {
-    let mut path = [0u8; 4096];
-    let k = name_of(2, &mut path);
-    let mut sheet = [0u8; 32769];
-    let n = program_io::read_named(&path[..k], &mut sheet).size;
-    let j = name_of(3, &mut path);
-    let mut start = [0u8; 8193];
-    let begun = program_io::read_start(&path[..j], &mut start);
-    let b = begun.size;
-    let mut name = [0u8; 4096];
+fn run_names(block: &mut [u8], sheet: &[u8], given: bool, start: &[u8]) -> Went {
+    let mut name = [0u8; 4097];
     let mut bytes = [0u8; 65536];
-    let went = run_names(
-        block,
-        &sheet[..n],
-        begun.given,
-        &start[..b],
-        &mut name,
-        &mut bytes,
-    );
-    if print_last(block, went) {
+    let mut names = program_input::no_parts_yet();
+    let mut went = Went {
+        candidates: 0,
+        unread: false,
+        written: true,
+    };
+    // A loop that is proved ends, so it counts its turns down.
+    let mut turns = u64::MAX;
+    while 0 < turns && went.written && !names.ended {
+        let next = next_part(&mut bytes, &mut name, names, 0);
+        let left = next.parts;
+        names = left;
+        let size = next.size;
+        let so_far = went;
+        went = run_part(
+            block,
+            sheet,
+            given,
+            start,
+            next.there,
+            &name[..size],
+            so_far,
+        );
+        turns -= 1;
+    }
+    Went {
+        candidates: went.candidates,
+        unread: went.unread || names.failed,
+        written: went.written,
+    }
+}
+
+fn sit(block: &mut [u8], sheet: &[u8], given: bool, start: &[u8]) {
+    let went = run_names(block, sheet, given, start);
+    let used = write_report::write_count(block, b"candidates=", went.candidates);
+    if went.written && print(block, used) {
         program_io::tell_of(went.unread, false);
     }
 }
 
-fn called_by_script() -> bool {
-    let mut word = [0u8; 3];
-    os::arg(1, &mut word);
-    word[0] == b'-' && word[1] == b'0' && word[2] == 0
+// Which argument names the text at fault.
+fn argument_of(text: Text) -> usize {
+    match text {
+        Text::Start => 3,
+        Text::Times => 4,
+        _ => 2,
+    }
 }
 
+// Where the paper is refused, that is said, and nobody is judged.
+fn is_refused(text: Text, line: usize, refused: u8) -> bool {
+    if refused == 0 {
+        return false;
+    }
+    let mut path = [0u8; 4096];
+    let size = argument(argument_of(text), &mut path);
+    program_input::say_paper(b"sitting", &path[..size], line, refused);
+    program_io::tell_of(false, true);
+    true
+}
+
+fn paper_refused(sheet: &[u8], given: bool, start: &[u8], timed: bool, times: &[u8]) -> bool {
+    if sitting_lib::is_aeolus(sheet) {
+        let verdict = sitting_lib::plans::paper_verdict(sheet);
+        let text = verdict.text;
+        return is_refused(text, verdict.line, verdict.refused);
+    }
+    let verdict = outcome_lib::paper_verdict(sheet, given, start, timed, times);
+    let text = verdict.text;
+    is_refused(text, verdict.line, verdict.refused)
+}
+
+// Each text has room for a byte more than it may have, so that a longer one still gets its number.
 fn main() {
     let mut block = [0u8; LONGEST];
-    if called_by_script() {
-        sit_for_script(&mut block);
-    } else {
-        sit(&mut block);
+    let mut path = [0u8; 4096];
+    let mut sheet = [0u8; 32769];
+    let k = argument(2, &mut path);
+    let n = program_io::read_named(&path[..k], &mut sheet).size;
+    let mut start = [0u8; 8193];
+    let l = argument(3, &mut path);
+    let begun = program_io::read_start(&path[..l], &mut start);
+    let b = begun.size;
+    let mut times = [0u8; 32769];
+    let m = argument(4, &mut path);
+    let timed = program_io::read_start(&path[..m], &mut times);
+    let t = timed.size;
+    let refused = paper_refused(
+        &sheet[..n],
+        begun.given,
+        &start[..b],
+        timed.given,
+        &times[..t],
+    );
+    if !refused {
+        sit(&mut block, &sheet[..n], begun.given, &start[..b]);
     }
 }

@@ -1,0 +1,2 @@
+-- What is written of a candidate has room (Room).
+pub mod Room
