@@ -1,0 +1,3 @@
+-- Rows that are split again (Split), and the cells' first bytes (Cells).
+pub mod Cells
+pub mod Split
