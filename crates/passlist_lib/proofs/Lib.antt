@@ -1,0 +1,2 @@
+-- Cells of a row one after the other (Laws).
+pub mod Laws

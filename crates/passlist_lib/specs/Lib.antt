@@ -1,0 +1,2 @@
+-- What each case of an enum says (Says).
+pub mod Says
