@@ -1,0 +1,3 @@
+-- Pieces written one after the other (Pieces), and a line by its first bytes (FirstBytes).
+pub mod Pieces
+pub mod FirstBytes
