@@ -18,7 +18,7 @@ use aeolus_model::{
 use rules_spec::refuse_if;
 
 // What is counted among the components other than one: those that provide an interface now, and those that require it of that one now.
-#[derive(Drop)]
+#[derive(Clone, Copy)]
 pub enum Test {
     Provides,
     Employs,
@@ -192,7 +192,7 @@ fn targets_of(universe: &Universe, deployed: &Deployed, y: u32) -> u32
 type Sets = [u32; 32];
 
 // The targets of each deployed component, and all of them.
-#[derive(Drop)]
+#[derive(Clone, Copy)]
 struct Reach {
     targets: Sets,
     used: u32,

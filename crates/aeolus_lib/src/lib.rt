@@ -40,7 +40,7 @@ fn read_both(sheet: &[u8], answer: &[u8], universe: &mut Universe, plan: &mut Pl
 }
 
 // How far the two texts came, and the run where both are read.
-#[derive(Drop)]
+#[derive(Clone, Copy)]
 struct Came {
     outcome: Outcome,
     passed: Passed,

@@ -17,7 +17,7 @@ pub type Plan = [u32; 4097];
 pub type Deployed = [u32; 577];
 
 // 0 new,id,type; 1 del,id; 2 change,id,from,to; 3 bind,interface,requirer,provider; 4 unbind, the same three.
-#[derive(Drop)]
+#[derive(Clone, Copy)]
 pub struct Step {
     pub verb: u32,
     pub first: u32,

@@ -16,7 +16,7 @@ use read_items::numbers::{Four, Limits, Numbers};
 use read_items::{Digits, Due, Number, OneList};
 
 // The initial state of a type, an interface, and of a state where it may change to and a row.
-#[derive(Drop)]
+#[derive(Clone, Copy)]
 pub enum Kind {
     Initial,
     Interface,

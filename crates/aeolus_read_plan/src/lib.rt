@@ -32,7 +32,7 @@ const BIND: u32 = 3;
 const UNBIND: u32 = 4;
 
 // A step and the bytes that its line used, or the number of the refusal.
-#[derive(Drop)]
+#[derive(Clone, Copy)]
 pub enum StepLine {
     Got(Step, usize),
     Refused(u8),

@@ -15,7 +15,7 @@ use changes::carry_out;
 use checks::own_check;
 
 // How far a run came: the actions allowed, and 0 or the number.
-#[derive(Drop)]
+#[derive(Clone, Copy)]
 pub struct Passed {
     pub accepted: u32,
     pub refused: u32,

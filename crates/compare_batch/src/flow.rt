@@ -11,7 +11,7 @@ const ENOUGH: usize = 49000;
 
 // The bytes of the input from `at` to `to` are still to be read, and the first `used` of the output still to be written.
 // `ended` is 1 once no case follows, else 0: as wide as the rest, so that no padding is copied for each case.
-#[derive(Drop)]
+#[derive(Clone, Copy)]
 pub(crate) struct Flow {
     pub at: usize,
     pub to: usize,

@@ -13,7 +13,7 @@ pub(crate) const HEADER: usize = 29;
 
 // What a header says, and how many bytes it has itself; 0 where no header stands there. `plan` is whether the texts are the Aeolus paper's, `given` whether
 // there is a start.
-#[derive(Drop)]
+#[derive(Clone, Copy)]
 pub(crate) struct Header {
     pub plan: bool,
     pub given: bool,
@@ -39,7 +39,7 @@ fn no_header() -> Header
 }
 
 // What a header says of the paper.
-#[derive(Drop)]
+#[derive(Clone, Copy)]
 struct Paper {
     plan: bool,
     given: bool,

@@ -37,7 +37,7 @@ pub struct Foreseen {
 }
 
 // How many instructions the names allow, and the number of the one after them.
-#[derive(Drop)]
+#[derive(Clone, Copy)]
 struct Told {
     next: u32,
     refused: u32,

@@ -10,7 +10,7 @@ use read_items::Due;
 use write_items::write_byte;
 
 // How far a row is: whether no comma was written in it yet, how many are not written yet, and where the next byte goes.
-#[derive(Drop)]
+#[derive(Clone, Copy)]
 struct Row {
     first: bool,
     commas: usize,

@@ -17,21 +17,21 @@ use words::{ProgramWords, TableWords};
 use write_texts::Written;
 
 // What is written: a sheet from a form, or a form from a sheet.
-#[derive(Drop)]
+#[derive(Clone, Copy)]
 pub enum Draft {
     Sheet,
     Form,
 }
 
 // The number of the refusal, or 0, and the number of the line at fault, 0 where it is none's.
-#[derive(Drop)]
+#[derive(Clone, Copy)]
 struct Fault {
     refused: u8,
     line: usize,
 }
 
 // The same, and the bytes written.
-#[derive(Drop)]
+#[derive(Clone, Copy)]
 pub struct Drafted {
     pub refused: u8,
     pub line: usize,

@@ -19,13 +19,13 @@ use words::{ProgramWords, StateWords, TableWords};
 const LIMIT_BROKEN: u32 = 7;
 
 // A configuration as it is lent: its words.
-#[derive(Drop)]
+#[derive(Clone, Copy)]
 pub struct LentConfiguration {
     pub words: StateWords,
 }
 
 // What the step by value answers: the number and the use port concerned, and the configuration after it.
-#[derive(Drop)]
+#[derive(Clone, Copy)]
 pub struct Moved {
     pub answered: Answered,
     pub configuration: LentConfiguration,

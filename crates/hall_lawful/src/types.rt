@@ -13,7 +13,7 @@ use words::tables::{
 };
 
 // The rows that a type has.
-#[derive(Drop)]
+#[derive(Clone, Copy)]
 pub enum Part {
     Transition,
     Behavior,

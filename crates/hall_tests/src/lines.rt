@@ -4,7 +4,7 @@ ghost use Rattle.std.specs.Prelude.{◌<◌};
 use super::lent::BYTES;
 
 // Where the next byte stands; after the last one the line is done, bad, or there is none left.
-#[derive(Drop)]
+#[derive(Clone, Copy)]
 pub enum Part {
     Name,
     Place,
@@ -15,7 +15,7 @@ pub enum Part {
 }
 
 // The bytes of the name so far, the place, whether a number is begun, and the number.
-#[derive(Drop)]
+#[derive(Clone, Copy)]
 pub struct Line {
     pub part: Part,
     pub size: usize,

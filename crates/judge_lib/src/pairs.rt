@@ -27,7 +27,7 @@ use words::state::clear_state;
 use words::{AnswerWords, BegunWords, ProgramWords, StateWords, TableWords};
 
 // A text is refused with a number at a place of it, or all are read.
-#[derive(Drop)]
+#[derive(Clone, Copy)]
 pub enum Outcome {
     InSheet(u8, usize),
     InStart(u8, usize),
@@ -170,7 +170,7 @@ fn walk_words(
 }
 
 // How far the texts came, and how far the walk, where all are read.
-#[derive(Drop)]
+#[derive(Clone, Copy)]
 pub(crate) struct Came {
     pub outcome: Outcome,
     pub passed: Passed,

@@ -21,7 +21,7 @@ pub struct Verdict {
 }
 
 // A part of the sheet or of the answer: where it starts, and how many bytes it has.
-#[derive(Drop)]
+#[derive(Clone, Copy)]
 pub struct Place {
     pub text: Text,
     pub start: usize,

@@ -4,7 +4,7 @@
 ghost use Rattle.std.specs.Prelude.{◌≡◌, ◌≤◌, ◌<◌, min, get_or};
 
 // How many places a type has, which are initial, and how many transitions, behaviors and ports it has.
-#[derive(Drop)]
+#[derive(Clone, Copy)]
 pub struct ComponentType {
     pub places: u8,
     pub initial: u32,
@@ -14,14 +14,14 @@ pub struct ComponentType {
 }
 
 // The ends of every type's transitions, 32 places for each type.
-#[derive(Drop)]
+#[derive(Clone, Copy)]
 pub struct Transitions {
     pub source: [u8; 512],
     pub destination: [u8; 512],
 }
 
 // Every type's ports, 16 places for each type: 1 for a use port and 0 for a provide port, and the group.
-#[derive(Drop)]
+#[derive(Clone, Copy)]
 pub struct Ports {
     pub uses: [u8; 256],
     pub places: [u32; 256],
@@ -42,7 +42,7 @@ pub struct Tables {
 // 0 add,id,type; 1 del,id; 2 pushb,id,behavior; 3 con,user,useport,provider,provideport; 4 dcon, the same four; 5 wait,id; 6 pushb,id,behavior,ticket;
 // 7 wait,id,ticket. `id` is the user of `con` and `dcon`, `number` the type, the behavior, the use port or the ticket of a `wait`, `provider` the
 // ticket of a push too.
-#[derive(Drop)]
+#[derive(Clone, Copy)]
 pub struct Instruction {
     pub verb: u8,
     pub id: u8,
@@ -68,21 +68,21 @@ pub struct Program {
 }
 
 // 0 next; 1 fire,id,place; 2 end,id,transition; 3 enter,id,place; 4 finish,id
-#[derive(Drop)]
+#[derive(Clone, Copy)]
 pub struct Step {
     pub verb: u8,
     pub id: u8,
     pub number: u8,
 }
 
-#[derive(Drop)]
+#[derive(Clone, Copy)]
 pub struct Answer {
     pub steps: [Step; 1024],
     pub count: usize,
 }
 
 // `kind` is the number of its type; `queued` is how many behaviors its queue holds.
-#[derive(Drop)]
+#[derive(Clone, Copy)]
 pub struct Instance {
     pub present: bool,
     pub kind: u8,
@@ -92,7 +92,7 @@ pub struct Instance {
     pub queued: u8,
 }
 
-#[derive(Drop)]
+#[derive(Clone, Copy)]
 pub struct Connection {
     pub user: u8,
     pub useport: u8,
@@ -111,7 +111,7 @@ pub struct Configuration {
 }
 
 // The use port that a verdict is about: the lowest that failed, for 34 and 38 alone.
-#[derive(Drop)]
+#[derive(Clone, Copy)]
 pub enum Concerned {
     NoPort,
     UsePort(u8),
@@ -135,7 +135,7 @@ pub struct Walked {
 }
 
 // Which text a verdict or a place speaks of; the judge reads no times.
-#[derive(Drop)]
+#[derive(Clone, Copy)]
 pub enum Text {
     Neither,
     Sheet,

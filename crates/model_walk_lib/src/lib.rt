@@ -24,7 +24,7 @@ use words::answer::{put_step, put_steps};
 use words::{AnswerWords, BegunWords, ProgramWords, StateWords, TableWords};
 
 // `refused` is 0 or the number, 1 to 6 or 50, with the text at fault and its line; beside a refusal the others are 0 and NoEnding.
-#[derive(Drop)]
+#[derive(Clone, Copy)]
 pub struct Modelled {
     pub refused: u8,
     pub text: Text,

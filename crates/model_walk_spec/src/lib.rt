@@ -2,7 +2,7 @@
 
 // "done (program at its end, all queues empty, at whatever length), cut (1,024 steps and not done), or stuck (fewer, and not done)"
 // NoEnding stands beside a refusal.
-#[derive(Drop)]
+#[derive(Clone, Copy)]
 pub enum Ending {
     NoEnding,
     Done,

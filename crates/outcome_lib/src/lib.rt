@@ -24,7 +24,7 @@ use words::{AnswerWords, BegunWords, ProgramWords, StateWords, TableWords};
 use write_items::write_key;
 
 // An outcome, and how many instructions the sheet's program has.
-#[derive(Drop)]
+#[derive(Clone, Copy)]
 pub struct Told {
     pub outcome: Outcome,
     pub program: u32,

@@ -3,7 +3,7 @@
 
 // `Done`: nothing is refused, the program is at its end, every queue is empty. `Unfinished`: nothing is refused, and it isn't done. `Refused`: a step is.
 // `Fault`: the answer's text is. `OfPaper`: the sheet or the start is, which is no candidate's fault.
-#[derive(Drop)]
+#[derive(Clone, Copy)]
 pub enum Outcome {
     Done,
     Unfinished,

@@ -15,7 +15,7 @@ const LONGEST: usize = 294912;
 
 // Whether the paper has a start and times; whether the candidates are counted or written, and how many were; whether something could not be read, and whether
 // all was written.
-#[derive(Drop)]
+#[derive(Clone, Copy)]
 struct Sat {
     given: bool,
     marked: bool,

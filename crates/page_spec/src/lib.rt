@@ -3,7 +3,7 @@
 
 // What a page says of an answer beside the texts: `group` is the refusal's number, 0 where it is done, 39 unfinished, 40 unreadable; `line` is where the answer
 // is looked at, from 1; then the instructions done, how many the program has, and the mark, where the paper has times.
-#[derive(Drop)]
+#[derive(Clone, Copy)]
 pub struct Found {
     pub group: usize,
     pub line: usize,

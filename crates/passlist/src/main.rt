@@ -12,7 +12,7 @@ use write_items::write_byte;
 const LONGEST: usize = 8192;
 
 // Whether a read failed, and whether all was written.
-#[derive(Drop)]
+#[derive(Clone, Copy)]
 struct Went {
     failed: bool,
     written: bool,

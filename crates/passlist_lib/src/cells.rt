@@ -11,14 +11,14 @@ use passlist_spec::{Cell, Mark, Said, Standing};
 use read_items::{Digits, Due, Number, one_number, past_key};
 
 // What the outcome's cell says, and the place past its comma.
-#[derive(Drop)]
+#[derive(Clone, Copy)]
 pub(crate) enum SaidRead {
     Got(Said, usize),
     Fault,
 }
 
 // What the last cell says, and the place past the line's end.
-#[derive(Drop)]
+#[derive(Clone, Copy)]
 pub(crate) enum MarkRead {
     Got(Mark, usize),
     Fault,

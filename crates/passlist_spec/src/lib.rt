@@ -3,28 +3,28 @@
 // that the register writes stands so exactly when its answer is done and its mark is not below; what is no register is refused.
 
 // The pass line: a mark, or for a paper without times none.
-#[derive(Drop)]
+#[derive(Clone, Copy)]
 pub enum Pass {
     AtLeast(u32),
     NoTimes,
 }
 
 // The word PASS: a pass line, or none.
-#[derive(Drop)]
+#[derive(Clone, Copy)]
 pub enum PassRead {
     Got(Pass),
     Fault,
 }
 
 // A cell whose bytes are looked at one by one: the name, or a number or nothing.
-#[derive(Drop)]
+#[derive(Clone, Copy)]
 pub enum Cell {
     Name,
     Number,
 }
 
 // What a row's second cell says: the candidate is absent, or the outcome.
-#[derive(Drop)]
+#[derive(Clone, Copy)]
 pub enum Said {
     Done,
     Unfinished,
@@ -34,7 +34,7 @@ pub enum Said {
 }
 
 // A row's last cell.
-#[derive(Drop)]
+#[derive(Clone, Copy)]
 pub enum Mark {
     Empty,
     Of(u32),
@@ -42,7 +42,7 @@ pub enum Mark {
 
 // `Below`: done, with a mark below the pass line. `OtherKind`: the pass line is a mark and the row has none, or the other way round. `NoRow`: it is no row,
 // nor the head where that is due. `Head`: it is.
-#[derive(Drop)]
+#[derive(Clone, Copy)]
 pub enum Standing {
     Passed,
     Below,
@@ -56,7 +56,7 @@ pub enum Standing {
 }
 
 // Why no list is made: the text is no register, or the pass line is of the other kind.
-#[derive(Drop)]
+#[derive(Clone, Copy)]
 pub enum Wrong {
     Nothing,
     Register,

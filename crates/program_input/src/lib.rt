@@ -14,7 +14,7 @@ use write_items::{write_byte, write_key};
 const LONGEST: usize = 16600;
 
 // Of the bytes that the last read gave, so many are taken; `ended` where there are no more to come, `failed` where that is because of a read.
-#[derive(Drop)]
+#[derive(Clone, Copy)]
 pub struct Parts {
     pub taken: usize,
     pub size: usize,
@@ -23,7 +23,7 @@ pub struct Parts {
 }
 
 // The next part has so many bytes, and was ended by its byte or by the input's end; or it isn't there, since all have been taken.
-#[derive(Drop)]
+#[derive(Clone, Copy)]
 pub struct Part {
     pub there: bool,
     pub whole: bool,
@@ -32,7 +32,7 @@ pub struct Part {
 }
 
 // A byte, or none.
-#[derive(Drop)]
+#[derive(Clone, Copy)]
 struct Taken {
     there: bool,
     byte: u8,

@@ -8,7 +8,7 @@ use libc::{STDERR_FILENO, STDIN_FILENO, STDOUT_FILENO};
 const HEARD: i32 = 3;
 
 // A read that failed, or how many bytes it gave.
-#[derive(Drop)]
+#[derive(Clone, Copy)]
 pub struct Read {
     pub failed: bool,
     pub size: usize,
@@ -60,7 +60,7 @@ pub fn read_named(name: &[u8], text: &mut [u8]) -> Read
 }
 
 // A start: whether there is one, and how many bytes of it. "no file: nothing up": one that can't be opened counts as empty.
-#[derive(Drop)]
+#[derive(Clone, Copy)]
 pub struct Start {
     pub given: bool,
     pub size: usize,

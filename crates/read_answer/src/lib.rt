@@ -33,7 +33,7 @@ const ENTER: u32 = 3;
 const FINISH: u32 = 4;
 
 // Verb, id and number, 0 for those that the line has not, and the bytes that the line used; or the number of the refusal.
-#[derive(Drop)]
+#[derive(Clone, Copy)]
 pub enum StepLine {
     Got(u32, u32, u32, usize),
     Refused(u8),

@@ -13,21 +13,21 @@ use read_items::{Digits, Due};
 use read_lines::{LONGEST, Limit, Line, Went};
 
 // Whether a run of lines went on, and the place of the next line or of the line at fault.
-#[derive(Drop)]
+#[derive(Clone, Copy)]
 pub struct LinesRead {
     pub went: Went,
     pub at: usize,
 }
 
 // The same, and the one number of the last line, or its list as a set; 0 where the reading stopped.
-#[derive(Drop)]
+#[derive(Clone, Copy)]
 pub struct NumberRead {
     pub read: LinesRead,
     pub number: u32,
 }
 
 // The number of a text's refusal, or 0, and the place of the line at fault, or the text's end.
-#[derive(Drop)]
+#[derive(Clone, Copy)]
 pub struct Place {
     pub refused: u8,
     pub place: usize,

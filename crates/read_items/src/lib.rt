@@ -10,48 +10,48 @@ ghost use Rattle.read_items.specs.Keyed.{keyed};
 ghost use Rattle.read_items.specs.Turn.{Small, TakesDigit, TakesMember, Turns};
 
 // How many digits a number may have: five in the two texts. Seven are for a text of times.
-#[derive(Drop)]
+#[derive(Clone, Copy)]
 pub enum Digits {
     Five,
     Seven,
 }
 
 // What is due stands here: the place past it. Or something else does.
-#[derive(Drop)]
+#[derive(Clone, Copy)]
 pub enum Due {
     Past(usize),
     Other,
 }
 
 // A number, and the place past the byte that ends it.
-#[derive(Drop)]
+#[derive(Clone, Copy)]
 pub enum Number {
     Got(u32, usize),
     Fault,
 }
 
 // A list: its members below 32 as a mask, and one more than its greatest member, 0 where it is empty. Then the place.
-#[derive(Drop)]
+#[derive(Clone, Copy)]
 pub enum OneList {
     Got(u32, u32, usize),
     Fault,
 }
 
-#[derive(Drop)]
+#[derive(Clone, Copy)]
 pub enum TwoLists {
     Got(u32, u32, u32, u32, usize),
     Fault,
 }
 
 // The value with one digit more.
-#[derive(Drop)]
+#[derive(Clone, Copy)]
 enum Digit {
     More(u32),
     Other,
 }
 
 // A list of which a part has been read: its whole members, and the digits of the next.
-#[derive(Drop)]
+#[derive(Clone, Copy)]
 struct SoFar {
     mask: u32,
     top: u32,
@@ -59,13 +59,13 @@ struct SoFar {
     value: u32,
 }
 
-#[derive(Drop)]
+#[derive(Clone, Copy)]
 enum Member {
     Added(u32, u32),
     Other,
 }
 
-#[derive(Drop)]
+#[derive(Clone, Copy)]
 enum Turn {
     On(SoFar),
     End(u32, u32),

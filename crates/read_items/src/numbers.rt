@@ -8,7 +8,7 @@ use crate::{Digits, Number, number_then};
 use item_spec::{BAD_FORM, BEYOND_LIMIT};
 
 // How many numbers a line has, and what each lies below.
-#[derive(Drop)]
+#[derive(Clone, Copy)]
 pub enum Limits {
     One(u32),
     Two(u32, u32),
@@ -17,7 +17,7 @@ pub enum Limits {
 }
 
 // The numbers of a line, 0 for those that it has not.
-#[derive(Drop)]
+#[derive(Clone, Copy)]
 pub struct Four {
     pub first: u32,
     pub second: u32,
@@ -25,14 +25,14 @@ pub struct Four {
     pub fourth: u32,
 }
 
-#[derive(Drop)]
+#[derive(Clone, Copy)]
 pub enum Numbers {
     Got(Four, usize),
     Refused(u8),
 }
 
 // The same limits in one row: a number that the line has not is 0, and so below 1.
-#[derive(Drop)]
+#[derive(Clone, Copy)]
 struct Held {
     count: usize,
     first: u32,

@@ -29,18 +29,18 @@ pub enum Limit {
 }
 
 // The least number and the greatest.
-#[derive(Drop)]
+#[derive(Clone, Copy)]
 struct Range(u32, u32);
 
 // The one number of a line, or its list as a set, and the place past the line; or the number of the refusal.
-#[derive(Drop)]
+#[derive(Clone, Copy)]
 pub enum Line {
     Got(u32, usize),
     Refused(u8),
 }
 
 // Whether the reading went on, or the number that it stopped with.
-#[derive(Drop)]
+#[derive(Clone, Copy)]
 pub enum Went {
     On,
     Stop(u8),

@@ -14,7 +14,7 @@ use read_items::{Digits, Due, OneList, TwoLists};
 use read_lines::Line;
 
 // The rows that a type has.
-#[derive(Drop)]
+#[derive(Clone, Copy)]
 pub enum Rows {
     Transitions,
     Behaviors,
@@ -23,7 +23,7 @@ pub enum Rows {
 
 // The numbers that the line of a row has, and 0 for those that it has not: a transition its ends, a behavior its transitions,
 // a port 1 for use and 0 for provide, and its group.
-#[derive(Drop)]
+#[derive(Clone, Copy)]
 pub struct Row {
     pub source: u32,
     pub destination: u32,
@@ -33,21 +33,21 @@ pub struct Row {
 }
 
 // What the rows of a type are held to: how many places it has, which are initial, and how many transitions it has.
-#[derive(Drop)]
+#[derive(Clone, Copy)]
 pub struct Known {
     pub places: u32,
     pub initial: u32,
     pub transitions: u32,
 }
 
-#[derive(Drop)]
+#[derive(Clone, Copy)]
 pub enum RowLine {
     Got(Row, usize),
     Refused(u8),
 }
 
 // Verb, id, number, provider and provideport, 0 for those that the line has not.
-#[derive(Drop)]
+#[derive(Clone, Copy)]
 pub enum Do {
     Got(u32, u32, u32, u32, u32, usize),
     Refused(u8),

@@ -19,28 +19,28 @@ use words::{StateWords, put_word};
 pub(crate) const LAST_STAMP: u32 = 256;
 
 // A behavior, its stamp, and the place past the byte that ends it.
-#[derive(Drop)]
+#[derive(Clone, Copy)]
 enum Pair {
     Got(u32, u32, usize),
     Fault,
 }
 
 // The same, and whether another follows.
-#[derive(Drop)]
+#[derive(Clone, Copy)]
 enum Item {
     Got(u32, u32, bool, usize),
     Fault,
 }
 
 // How many items there are, and the place.
-#[derive(Drop)]
+#[derive(Clone, Copy)]
 enum Items {
     Got(usize, usize),
     Fault,
 }
 
 // How many items there are, the stamp of the last ticket pushed, 0 for none, and the place.
-#[derive(Drop)]
+#[derive(Clone, Copy)]
 pub(crate) enum Queue {
     Got(usize, u32, usize),
     Fault,

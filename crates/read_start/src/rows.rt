@@ -23,42 +23,42 @@ use words::tables::{behavior_of, behaviors_of, places_of, transitions_of, types}
 use words::{BegunWords, StateWords, TableWords};
 
 // How far the reading came, and the least that may come next: an id; the number of a use port.
-#[derive(Drop)]
+#[derive(Clone, Copy)]
 pub struct Stood {
     pub read: LinesRead,
     pub least: usize,
 }
 
 // A list as a set, and one more than its greatest member.
-#[derive(Drop)]
+#[derive(Clone, Copy)]
 pub struct Listed {
     pub mask: u32,
     pub top: u32,
 }
 
 // Marked, running and ended.
-#[derive(Drop)]
+#[derive(Clone, Copy)]
 pub struct Lists {
     pub marked: Listed,
     pub running: Listed,
     pub ended: Listed,
 }
 
-#[derive(Drop)]
+#[derive(Clone, Copy)]
 enum ThreeLists {
     Got(Lists, usize),
     Fault,
 }
 
 // What an instance's line says, but for its queue.
-#[derive(Drop)]
+#[derive(Clone, Copy)]
 pub struct Row {
     pub id: u32,
     pub kind: u32,
     pub lists: Lists,
 }
 
-#[derive(Drop)]
+#[derive(Clone, Copy)]
 enum RowForm {
     Got(Row, usize),
     Fault,
@@ -66,7 +66,7 @@ enum RowForm {
 
 // The row, how many items its queue has, the stamp of the last ticket and the bytes used; the queue itself stands in lent slots, since an enum can't hold an
 // array.
-#[derive(Drop)]
+#[derive(Clone, Copy)]
 enum RowLine {
     Got(Row, usize, u32, usize),
     Refused(u8),

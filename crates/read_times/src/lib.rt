@@ -24,14 +24,14 @@ pub struct TimesRead {
 }
 
 // The bytes that a row used, or the number of the refusal.
-#[derive(Drop)]
+#[derive(Clone, Copy)]
 enum TimeLine {
     Got(usize),
     Refused(u8),
 }
 
 // The par and the place of the next line, or the number of the refusal and the place of the line at fault.
-#[derive(Drop)]
+#[derive(Clone, Copy)]
 enum RowsRead {
     Got(u32, usize),
     Refused(u8, usize),

@@ -11,7 +11,7 @@ use register_lib::{row_of, write_row};
 const LONGEST: usize = 16600;
 
 // Whether something could not be read, and whether all was written.
-#[derive(Drop)]
+#[derive(Clone, Copy)]
 struct Went {
     unread: bool,
     written: bool,

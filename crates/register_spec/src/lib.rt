@@ -5,7 +5,7 @@ use outcome_spec::Outcome;
 
 // What a row says beside the name: the outcome; the judge's number, use port and counts; the answer's line, of a step that is refused or of a fault; how many
 // instructions the program has; and the mark, where the paper has times.
-#[derive(Drop)]
+#[derive(Clone, Copy)]
 pub struct Row {
     pub outcome: Outcome,
     pub number: u8,

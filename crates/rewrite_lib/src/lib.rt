@@ -14,7 +14,7 @@ use read_lines::LONGEST;
 const DEPTH_AT: usize = 14;
 
 // `refused` is 0 or the number, 1 to 5, `line` the line at fault; `written` the bytes of the rewritten sheet, 0 beside a refusal.
-#[derive(Drop)]
+#[derive(Clone, Copy)]
 pub struct Rewritten {
     pub refused: u8,
     pub line: usize,

@@ -8,7 +8,7 @@ use program_input::{argument, at_most, next_part};
 use sitting_lib::LONGEST;
 
 // How many candidates there were, whether something could not be read, and whether all was written.
-#[derive(Drop)]
+#[derive(Clone, Copy)]
 struct Went {
     candidates: usize,
     unread: bool,

@@ -13,7 +13,7 @@ use libc::STDOUT_FILENO;
 use model::Text;
 
 // Where a candidate's bytes are shown: alone at a line's end, within markup, or in a cell of a table, as its first byte or a later one.
-#[derive(Drop)]
+#[derive(Clone, Copy)]
 pub enum Among {
     Line,
     Markup,

@@ -17,14 +17,14 @@ use words::tables::{is_use, ports_of};
 use words::{StateWords, TableWords};
 
 // What a move takes from an instance, or gives it, or what the instance has: marks, and transitions that are held.
-#[derive(Drop)]
+#[derive(Clone, Copy)]
 pub struct Sets {
     pub places: u32,
     pub holds: u32,
 }
 
 // The number of the refusal, or 0, and the use port concerned.
-#[derive(Drop)]
+#[derive(Clone, Copy)]
 pub struct Answered {
     pub refused: u32,
     pub port: Concerned,

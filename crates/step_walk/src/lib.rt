@@ -28,7 +28,7 @@ use words::state::{done, put_done};
 use words::{AnswerWords, ProgramWords, StateWords, TableWords};
 
 // How far a walk came: the steps allowed, the number of the refusal, or 0, and the use port concerned.
-#[derive(Drop)]
+#[derive(Clone, Copy)]
 pub struct Passed {
     pub accepted: u32,
     pub refused: u32,

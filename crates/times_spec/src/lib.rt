@@ -2,7 +2,7 @@
 // Proved: what its reader gives keeps to the limits, and a text that is refused gets a number from 2 to 5 at one of its lines.
 
 // `seconds` has 32 slots for each id, one for each transition; `listed` is 1 where a row named the pair.
-#[derive(Drop)]
+#[derive(Clone, Copy)]
 pub struct Times {
     pub par: u32,
     pub listed: [u8; 1024],

@@ -25,7 +25,7 @@ const FIRE: u32 = 1;
 const END: u32 = 2;
 
 // How far a walk came, and the mark: 0 after a refused step.
-#[derive(Drop)]
+#[derive(Clone, Copy)]
 pub struct TimedWalk {
     pub passed: Passed,
     pub mark: usize,

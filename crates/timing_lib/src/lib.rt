@@ -30,7 +30,7 @@ use words::state::done;
 use words::{AnswerWords, BegunWords, ProgramWords, StateWords, TableWords};
 
 // A text is refused with a reader's number at a place of it, or all are read.
-#[derive(Drop)]
+#[derive(Clone, Copy)]
 enum TimedOutcome {
     InSheet(u8, usize),
     InStart(u8, usize),
@@ -40,7 +40,7 @@ enum TimedOutcome {
 }
 
 // How far the texts came, and the walk and its mark where all are read.
-#[derive(Drop)]
+#[derive(Clone, Copy)]
 struct Ended {
     outcome: TimedOutcome,
     walk: TimedWalk,

@@ -8,7 +8,7 @@ ghost use Rattle.words.specs.Parts.{said_step, step_of, with_steps};
 use crate::{AnswerWords, cell, put_row, put_word};
 
 // A step by its words.
-#[derive(Drop)]
+#[derive(Clone, Copy)]
 pub struct StepWords {
     pub verb: u32,
     pub id: u32,

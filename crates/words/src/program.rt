@@ -8,7 +8,7 @@ ghost use Rattle.words.specs.Parts.{instruction_of, said, with_instructions, wit
 use crate::{ProgramWords, cell, put_row, put_word};
 
 // An instruction by its words.
-#[derive(Drop)]
+#[derive(Clone, Copy)]
 pub struct InstructionWords {
     pub verb: u32,
     pub id: u32,

@@ -21,7 +21,7 @@ use words::{AnswerWords, ProgramWords, TableWords};
 use write_room::room_fault;
 
 // The number of the refusal, or 0, and the bytes written.
-#[derive(Drop)]
+#[derive(Clone, Copy)]
 pub struct Written {
     pub refused: u8,
     pub bytes: usize,

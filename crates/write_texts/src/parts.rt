@@ -7,14 +7,14 @@ use words::program::instructions;
 use words::tables::types;
 use words::{ProgramWords, TableWords};
 
-#[derive(Drop)]
+#[derive(Clone, Copy)]
 pub(crate) enum Part {
     Types,
     Instructions,
 }
 
 // As a sheet, or as the lines of a form.
-#[derive(Drop)]
+#[derive(Clone, Copy)]
 pub(crate) enum Layout {
     Sheet,
     Form,

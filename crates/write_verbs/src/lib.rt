@@ -13,7 +13,7 @@ use write_lines::faults::refuse_if;
 use write_lines::write_line;
 
 // What a line says: a verb's code, then id, number, provider and provideport, 0 for those that it has not.
-#[derive(Drop)]
+#[derive(Clone, Copy)]
 pub struct Said(pub u32, pub u32, pub u32, pub u32, pub u32);
 
 // The key, how many bytes of it count, how many numbers follow, what each lies below, and the number of a line where they do.
