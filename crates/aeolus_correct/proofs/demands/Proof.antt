@@ -5,17 +5,18 @@ use borrow.Author.Rules.{rules}
 use Rattle.aeolus_correct.proofs.demands.Statement.{statement}
 use Rattle.aeolus_correct.proofs.demands.Tie as tie
 
-returns : tie.Need-returns
+returns : tie.Need-returns-then-number_at-ne0
 returns c =
-    let a = c.before.before.args in
+    let a = c.args in
     demanded-first (number_at (universe_in a.universe.now) a.k a.q weak a.j) (number_at (universe_in a.universe.now) a.k a.q strong a.j)
-    c.before.number_at.ensures c.if1.true
+    c.number_at.ensures c.if-number_at-ne0.true
 
-returns-2 : tie.Need-returns-2
+returns-2 : tie.Need-returns-else-number_at-ne0
 returns-2 c =
-    let a = c.before.before.before.args in
+    let a = c.args in
     demanded-second (number_at (universe_in a.universe.now) a.k a.q weak a.j) (number_at (universe_in a.universe.now) a.k a.q strong a.j)
-    c.before.before.number_at.ensures c.before.if1.false c.number-at2.ensures
+    c.number_at.ensures c.if-number_at-ne0.false c.number_at-else-number_at-ne0.ensures
 
-pub demands-spec : {M : Type 1} → statement M
-demands-spec = tie.close (tie.spec (λ c κs. search rules) (λ c κs. search rules) returns returns-2)
+pub demands_spec : {M : Type 1} → statement M
+demands_spec = tie.close (tie.spec
+    (λ c κs. search rules) (λ c κs. search rules) returns returns-2)

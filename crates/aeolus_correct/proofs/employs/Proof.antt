@@ -6,65 +6,66 @@ use borrow.Author.Rules.{rules}
 use Rattle.aeolus_correct.proofs.employs.Statement.{statement}
 use Rattle.aeolus_correct.proofs.employs.Tie as tie
 
-returns : tie.Need-returns
+returns : tie.Need-returns-then-member
 returns c =
-    let own = c.before.before.before in
-    let most = own.before.before.before in
-    let other = most.before.before in
-    let k = other.before.before.kind-of.ensures in
-    let a = other.before.before.before.args in
+    let own = c in
+    let most = c in
+    let other = c in
+    let k = c.kind_of-k.ensures in
+    let a = c.args in
     rw (
-      employs-by (universe_in a.universe.now) (configuration_in a.deployed.now) a.y a.p _ _ (rw k at other.before.place_of.ensures)
-          (rw k at most.interfaces-of.ensures) a.z,
-      ← other.is-other.ensures,
-      most.before.if1.true,
-      lt-ltb _ _ own.before.before.if2.true,
-      ← own.before.bound-at.ensures,
+      employs-by (universe_in a.universe.now) (configuration_in a.deployed.now) a.y a.p _ _ (rw k at other.place_of-j.ensures)
+          (rw k at most.interfaces_of.ensures) a.z,
+      ← other.is_other.ensures,
+      most.if-is_other.true,
+      lt-ltb _ _ own.if-j-interfaces_of.true,
+      ← own.bound_at.ensures,
       ← own.member.ensures,
-      c.before.before.if3.true,
-      ← c.before.state-of.ensures,
+      c.if-member.true,
+      ← c.state_of.ensures,
       ← k,
     ) c.demands.ensures
 
-returns-2 : tie.Need-returns-2
+returns-2 : tie.Need-returns-else-member
 returns-2 c =
-    let own = c.before in
-    let most = own.before.before.before in
-    let other = most.before.before in
-    let k = other.before.before.kind-of.ensures in
-    let a = other.before.before.before.args in
+    let own = c in
+    let most = c in
+    let other = c in
+    let k = c.kind_of-k.ensures in
+    let a = c.args in
     rw (
-      employs-by (universe_in a.universe.now) (configuration_in a.deployed.now) a.y a.p _ _ (rw k at other.before.place_of.ensures)
-          (rw k at most.interfaces-of.ensures) a.z,
-      ← other.is-other.ensures,
-      most.before.if1.true,
-      lt-ltb _ _ own.before.before.if2.true,
-      ← own.before.bound-at.ensures,
+      employs-by (universe_in a.universe.now) (configuration_in a.deployed.now) a.y a.p _ _ (rw k at other.place_of-j.ensures)
+          (rw k at most.interfaces_of.ensures) a.z,
+      ← other.is_other.ensures,
+      most.if-is_other.true,
+      lt-ltb _ _ own.if-j-interfaces_of.true,
+      ← own.bound_at.ensures,
       ← own.member.ensures,
-      c.if3.false,
+      c.if-member.false,
     )
 
-returns-3 : tie.Need-returns-3
+returns-3 : tie.Need-returns-else-j-interfaces_of
 returns-3 c =
-    let most = c.before in
-    let other = most.before.before in
-    let k = other.before.before.kind-of.ensures in
-    let a = other.before.before.before.args in
+    let most = c in
+    let other = c in
+    let k = c.kind_of-k.ensures in
+    let a = c.args in
     rw (
-      employs-by (universe_in a.universe.now) (configuration_in a.deployed.now) a.y a.p _ _ (rw k at other.before.place_of.ensures)
-          (rw k at most.interfaces-of.ensures) a.z,
-      ← other.is-other.ensures,
-      most.before.if1.true,
-      le-ltb _ _ c.if2.false,
+      employs-by (universe_in a.universe.now) (configuration_in a.deployed.now) a.y a.p _ _ (rw k at other.place_of-j.ensures)
+          (rw k at most.interfaces_of.ensures) a.z,
+      ← other.is_other.ensures,
+      most.if-is_other.true,
+      le-ltb _ _ c.if-j-interfaces_of.false,
     )
 
-returns-4 : tie.Need-returns-4
+returns-4 : tie.Need-returns-else-is_other
 returns-4 c =
-    let a = c.before.before.before.before.args in
-    rw (employs-by (universe_in a.universe.now) (configuration_in a.deployed.now) a.y a.p _ _ refl refl a.z, ← c.before.is-other.ensures, c.if1.false)
+    let a = c.args in
+    rw (employs-by (universe_in a.universe.now) (configuration_in a.deployed.now) a.y a.p _ _ refl refl a.z, ← c.is_other.ensures, c.if-is_other.false)
 
-pub employs-spec : {M : Type 1} → statement M
-employs-spec =
+pub employs_spec : {M : Type 1} → statement M
+employs_spec =
     tie.close
-    (tie.spec (λ c κs. search rules) (λ c κs. search rules) (λ c κs. search rules) (λ c κs. search rules) (λ c κs. search rules) (λ c κs. search rules)
+    (tie.spec
+    (λ c κs. search rules) (λ c κs. search rules) (λ c κs. search rules) (λ c κs. search rules) (λ c κs. search rules) (λ c κs. search rules)
     (λ c κs. search rules) (λ c κs. search rules) returns returns-2 returns-3 returns-4)

@@ -4,7 +4,8 @@ use Rattle.aeolus_correct.proofs.is_bound.Statement.{statement}
 use Rattle.aeolus_correct.proofs.is_bound.Tie as tie
 
 returns : tie.Need-returns
-returns c = c.member.ensures ∙ c.before.providers-of.ensures _
+returns c = c.member.ensures ∙ c.providers_of.ensures _
 
-pub is-bound-spec : {M : Type 1} → statement M
-is-bound-spec = tie.close (tie.spec (λ c κs. search rules) (λ c κs. search rules) returns)
+pub is_bound_spec : {M : Type 1} → statement M
+is_bound_spec = tie.close (tie.spec
+    (λ c κs. search rules) (λ c κs. search rules) returns)

@@ -3,10 +3,8 @@ use borrow.Author.Rules.{rules}
 use Rattle.aeolus_correct.proofs.is_other.Statement.{statement}
 use Rattle.aeolus_correct.proofs.is_other.Tie as tie
 
-pub is-other-spec : {M : Type 1} → statement M
-is-other-spec =
+pub is_other_spec : {M : Type 1} → statement M
+is_other_spec =
     tie.close
     (tie.spec
-    (λ c κs. search rules)
-    (λ c. rw (ne_eqb _ _ c.before.if1.true) c.is-deployed.ensures)
-    (λ c. rw (eq-eqb _ _ c.if1.false)))
+    (λ c κs. search rules) (λ c. rw (ne_eqb _ _ c.if-y-z.true) c.is_deployed.ensures) (λ c. rw (eq-eqb _ _ c.if-y-z.false)))

@@ -3,13 +3,14 @@ use borrow.Author.Rules.{rules}
 use Rattle.aeolus_correct.proofs.passes.Statement.{statement}
 use Rattle.aeolus_correct.proofs.passes.Tie as tie
 
-returns : tie.Need-returns
+returns : tie.Need-returns-in-Provides
 unfolding passes
-returns c = rw c.before.enum_told.given.1 c.provides.ensures
+returns c = rw c.in-Provides.is c.provides.ensures
 
-returns-2 : tie.Need-returns-2
+returns-2 : tie.Need-returns-in-Employs
 unfolding passes
-returns-2 c = rw c.before.enum-told2.given.1 c.employs.ensures
+returns-2 c = rw c.in-Employs.is c.employs.ensures
 
-pub passes-spec : {M : Type 1} → statement M
-passes-spec = tie.close (tie.spec (λ c. search rules) (λ c κs. search rules) (λ c. search rules) (λ c κs. search rules) returns returns-2)
+pub passes_spec : {M : Type 1} → statement M
+passes_spec = tie.close (tie.spec
+    (λ c. search rules) (λ c κs. search rules) (λ c. search rules) (λ c κs. search rules) returns returns-2)

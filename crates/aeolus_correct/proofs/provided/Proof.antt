@@ -9,8 +9,9 @@ use Rattle.aeolus_correct.proofs.provided.Tie as tie
 returns : tie.Need-returns
 unfolding provided passes
 returns c =
-    let a = c.before.args in
-    rw (c.count.ensures, users-counted (universe_in a.universe.now) (configuration_in a.deployed.now) a.z a.users a.p c.before.requires)
+    let a = c.args in
+    rw (c.count.ensures, users-counted (universe_in a.universe.now) (configuration_in a.deployed.now) a.z a.users a.p c.requires)
 
-pub provided-spec : {M : Type 1} → statement M
-provided-spec = tie.close (tie.spec (λ c κs. search rules) returns)
+pub provided_spec : {M : Type 1} → statement M
+provided_spec = tie.close (tie.spec
+    (λ c κs. search rules) returns)

@@ -6,27 +6,28 @@ use borrow.Author.Rules.{rules}
 use Rattle.aeolus_correct.proofs.providers_of.Statement.{statement}
 use Rattle.aeolus_correct.proofs.providers_of.Tie as tie
 
-returns : tie.Need-returns
+returns : tie.Need-returns-then-not-is_deployed
 returns c =
-    let a = c.before.before.before.before.args in
-    λ y. bound-absent (universe_in a.universe.now) (configuration_in a.deployed.now) a.z a.r y (sym c.before.is-deployed.ensures ∙ not-true c.before.is-deployed.result c.if1.true)
+    let a = c.args in
+    λ y. bound-absent (universe_in a.universe.now) (configuration_in a.deployed.now) a.z a.r y (sym c.is_deployed.ensures ∙ not-true c.is_deployed.result c.if-not-is_deployed.true)
 
-returns-2 : tie.Need-returns-2
+returns-2 : tie.Need-returns-then-interfaces_of-j
 returns-2 c =
-    let place = c.before.before.before.before in
-    let k = place.before.kind-of.ensures in
-    let a = place.before.before.args in
-    λ y. bound-nowhere (universe_in a.universe.now) (configuration_in a.deployed.now) a.z a.r _ _ (rw k at place.place_of.ensures) (rw k at c.before.interfaces-of.ensures) y c.if2.true
+    let place = c in
+    let k = c.kind_of-k.ensures in
+    let a = c.args in
+    λ y. bound-nowhere (universe_in a.universe.now) (configuration_in a.deployed.now) a.z a.r _ _ (rw k at place.place_of-j.ensures) (rw k at c.interfaces_of.ensures) y c.if-interfaces_of-j.true
 
-returns-3 : tie.Need-returns-3
+returns-3 : tie.Need-returns
 returns-3 c =
-    let here = c.before.before.before.before in
-    let k = here.before.before.kind-of.ensures in
-    let a = here.before.before.before.args in
-    λ y. bound-there (universe_in a.universe.now) (configuration_in a.deployed.now) a.z a.r _ _ (rw k at here.before.place_of.ensures) (rw k at c.before.before.interfaces-of.ensures) _ y
-    (sym here.is-deployed.ensures ∙ not-false here.is-deployed.result c.before.before.before.if1.false) c.before.if2.false c.bound-at.ensures
+    let here = c in
+    let k = c.kind_of-k.ensures in
+    let a = c.args in
+    λ y. bound-there (universe_in a.universe.now) (configuration_in a.deployed.now) a.z a.r _ _ (rw k at here.place_of-j.ensures) (rw k at c.interfaces_of.ensures) _ y
+    (sym here.is_deployed.ensures ∙ not-false here.is_deployed.result c.if-not-is_deployed.false) c.if-interfaces_of-j.false c.bound_at.ensures
 
-pub providers-of-spec : {M : Type 1} → statement M
-providers-of-spec =
+pub providers_of_spec : {M : Type 1} → statement M
+providers_of_spec =
     tie.close
-    (tie.spec (λ c κs. search rules) (λ c κs. search rules) (λ c κs. search rules) returns (λ c κs. search rules) returns-2 (λ c κs. search rules) returns-3)
+    (tie.spec
+    (λ c κs. search rules) (λ c κs. search rules) (λ c κs. search rules) returns (λ c κs. search rules) returns-2 (λ c κs. search rules) returns-3)

@@ -4,9 +4,9 @@ use borrow.Author.Rules.{rules}
 use Rattle.aeolus_correct.proofs.provides.Statement.{statement}
 use Rattle.aeolus_correct.proofs.provides.Tie as tie
 
-pub provides-spec : {M : Type 1} → statement M
+pub provides_spec : {M : Type 1} → statement M
 unfolding provides
-provides-spec =
-    tie.close (tie.spec (λ c κs. search rules) (λ c κs. search rules)
-    (λ c. rw (← and_assoc, ← c.before.before.is-other.ensures, c.before.if1.true) c.is-active.ensures)
-    (λ c. rw (← and_assoc, ← c.before.is-other.ensures, c.if1.false)))
+provides_spec =
+    tie.close (tie.spec
+    (λ c κs. search rules) (λ c κs. search rules) (λ c. rw (← and_assoc, ← c.is_other.ensures, c.if-is_other.true) c.is_active.ensures)
+    (λ c. rw (← and_assoc, ← c.is_other.ensures, c.if-is_other.false)))

@@ -4,10 +4,10 @@ use borrow.Author.Rules.{rules}
 use Rattle.aeolus_correct.proofs.reached_check.Statement.{statement}
 use Rattle.aeolus_correct.proofs.reached_check.Tie as tie
 
-pub reached-check-spec : {M : Type 1} → statement M
+pub reached_check_spec : {M : Type 1} → statement M
 unfolding reached_check
-reached-check-spec =
+reached_check_spec =
     tie.close
     (tie.spec
     (λ c κs. search rules) (λ c κs. search rules) (λ c κs. search rules) (λ c κs. search rules)
-    (λ c. c.refuse-if2.ensures ∙ rw (c.before.refuse-if.ensures, c.before.before.holds2.ensures, c.before.before.before.holds.ensures)))
+    (λ c. c.refuse_if-2.ensures ∙ rw (c.refuse_if.ensures, c.holds-met.ensures, c.holds-provided.ensures)))

@@ -3,11 +3,12 @@ use borrow.Author.Rules.{rules}
 use Rattle.aeolus_correct.proofs.required.Statement.{statement}
 use Rattle.aeolus_correct.proofs.required.Tie as tie
 
-returns : tie.Need-returns
-returns c = none-required _ _ _ _ _ _ c.before.before.if1.true c.before.present.ensures c.count.ensures
+returns : tie.Need-returns-then-n-eq0
+returns c = none-required _ _ _ _ _ _ c.if-n-eq0.true c.present.ensures c.count.ensures
 
-returns-2 : tie.Need-returns-2
-returns-2 c = some-required _ _ _ _ _ _ c.before.before.if1.false c.before.providers-of.ensures c.count2.ensures
+returns-2 : tie.Need-returns
+returns-2 c = some-required _ _ _ _ _ _ c.if-n-eq0.false c.providers_of-among.ensures c.count-2.ensures
 
-pub required-spec : {M : Type 1} → statement M
-required-spec = tie.close (tie.spec (λ c κs. search rules) (λ c κs. search rules) returns (λ c κs. search rules) (λ c κs. search rules) returns-2)
+pub required_spec : {M : Type 1} → statement M
+required_spec = tie.close (tie.spec
+    (λ c κs. search rules) (λ c κs. search rules) returns (λ c κs. search rules) (λ c κs. search rules) returns-2)

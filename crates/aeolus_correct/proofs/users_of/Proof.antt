@@ -11,51 +11,52 @@ use borrow.Author.Rules.{rules}
 use Rattle.aeolus_correct.proofs.users_of.Statement.{statement}
 use Rattle.aeolus_correct.proofs.users_of.Tie as tie
 
-abbrev invariant-loop : tie.invariant-loop
+abbrev invariant-loop : tie.invariant-loop-rest
 invariant-loop deployed targets m z all users₀ rest₀ users rest = Rest all rest × (users ≡ collect 32 (behind all (λ y. member z (get_or targets y 0)) rest))
 
-abbrev decreases-loop : tie.decreases-loop
+abbrev decreases-loop : tie.decreases-loop-rest
 decreases-loop deployed targets m z all users₀ rest₀ users rest = left rest
 
-loop-holds : tie.Need-loop-init invariant-loop decreases-loop
-loop-holds c = (rest-start c.present.result c.present.type-inv, members-start c.present.result _)
+loop-holds : tie.Need-loop-rest-init invariant-loop decreases-loop
+loop-holds c = (rest-start c.present-all.result c.present-all.type_inv, members-start c.present-all.result _)
 
-inside : tie.Need-element-copy-out-member invariant-loop decreases-loop
+inside : tie.Need-bounds-targets-y invariant-loop decreases-loop
 inside c =
-    let t = c.before in
-    omega (arith, c.least.ensures, least_lt _ t.before.loop.rest t.before.loop.invariant.0 t.loop-test.true)
+    let t = c in
+    omega (arith, c.least-y.ensures, least_lt _ t.loop-rest.rest t.loop-rest.invariant.0 t.loop-rest-test.true)
 
-loop-less : tie.Need-loop-smaller invariant-loop decreases-loop
+loop-less : tie.Need-loop-rest-smaller invariant-loop decreases-loop
 loop-less c =
-    let t = c.before.before.before.before.before in
-    rw c.later.ensures (left_less _ t.before.loop.rest t.before.loop.invariant.0 t.loop-test.true)
+    let t = c in
+    rw c.later-rest.ensures (left_less _ t.loop-rest.rest t.loop-rest.invariant.0 t.loop-rest-test.true)
 
 -- whether the component looked at has z as a target
 own : (e : tie.After-member invariant-loop decreases-loop) (b : Bool) → e.member.result ≡ b
-    → member e.before.before.before.before.before.before.before.args.z (get_or e.before.before.before.before.before.before.before.args.targets.now (least e.before.before.before.before.loop.rest) 0) ≡ b
-own e b h = rw (← e.before.before.least.ensures) (sym e.member.ensures ∙ h)
+    → member e.args.z (get_or e.args.targets.now (least e.loop-rest.rest) 0) ≡ b
+own e b h = rw (← e.least-y.ensures) (sym e.member.ensures ∙ h)
 
-loop-again : tie.Need-loop-preserved invariant-loop decreases-loop
+loop-again : tie.Need-loop-rest-preserved invariant-loop decreases-loop
 loop-again c =
-    let e = c.before.before in
-    let t = e.before.before.before in
-    let l = t.before.loop in
-    let some = t.loop-test.true in
-    rw c.later.ensures (
+    let e = c in
+    let t = c in
+    let l = c.loop-rest in
+    let some = c.loop-rest-test.true in
+    rw c.later-rest.ensures (
       rest-later _ l.rest l.invariant.0 some,
       ⊎_elim
-          (λ w. w.2 ∙ w.1.ensures ∙ ap₂ with e.before.before.least.ensures l.invariant.1 ∙ members-in _ _ l.rest l.invariant.0 some (own e true w.0.taken))
-          (λ w. w.1 ∙ l.invariant.1 ∙ members-out _ _ l.rest l.invariant.0 some (own e false w.0.left))
-          c.before.if2.branch,
+          (λ w. w.2 ∙ w.1.ensures ∙ ap₂ with e.least-y.ensures l.invariant.1 ∙ members-in _ _ l.rest l.invariant.0 some (own c.before.before true w.0.taken))
+          (λ w. w.1 ∙ l.invariant.1 ∙ members-out _ _ l.rest l.invariant.0 some (own c.before.before false w.0.left))
+          c.if-member.branch-raw,
     )
 
-returns-2 : tie.Need-returns-2 invariant-loop decreases-loop
+returns-2 : tie.Need-returns invariant-loop decreases-loop
 returns-2 c =
-    let l = c.before.loop in
-    λ e. rw (← c.before.before.present.ensures) (l.invariant.1 ∙ members-end _ _ l.rest c.loop-test.false)
+    let l = c.loop-rest in
+    λ e. rw (← c.present-all.ensures) (l.invariant.1 ∙ members-end _ _ l.rest c.loop-rest-test.false)
 
-pub users-of-spec : {M : Type 1} → statement M
-users-of-spec =
+pub users_of_spec : {M : Type 1} → statement M
+users_of_spec =
     tie.close
-    (tie.spec invariant-loop decreases-loop (λ c e. absurd (c.if1.true e)) (λ c κs. search rules) loop-holds (λ c κs. search rules) (λ c. search rules) (λ c. search rules) inside (λ c κs. search rules) (λ c κs. search rules) (λ c κs. search rules)
-    loop-less loop-again returns-2)
+    (tie.spec
+    invariant-loop decreases-loop (λ c e. absurd (c.if-m-ne0.true e)) (λ c κs. search rules) loop-holds (λ c κs. search rules) (λ c. search rules)
+    (λ c. search rules) inside (λ c κs. search rules) (λ c κs. search rules) (λ c κs. search rules) loop-less loop-again returns-2)

@@ -5,13 +5,14 @@ use borrow.Author.Rules.{rules}
 use Rattle.aeolus_lib.proofs.at_step.Statement.{statement}
 use Rattle.aeolus_lib.proofs.at_step.Tie as tie
 
-returns : tie.Need-returns
+returns : tie.Need-returns-then-refused-eq70
 unfolding at_step
-returns c = rw (eq-eqb _ 70 c.if1.true)
+returns c = rw (eq-eqb _ 70 c.if-refused-eq70.true)
 
-returns-2 : tie.Need-returns-2
+returns-2 : tie.Need-returns
 unfolding at_step
-returns-2 c = rw (ne_eqb _ 70 c.if1.false)
+returns-2 c = rw (ne_eqb _ 70 c.if-refused-eq70.false)
 
-pub at-step-spec : {M : Type 1} → statement M
-at-step-spec = tie.close (tie.spec returns (λ c. omega arith) returns-2)
+pub at_step_spec : {M : Type 1} → statement M
+at_step_spec = tie.close (tie.spec
+    returns (λ c. omega arith) returns-2)

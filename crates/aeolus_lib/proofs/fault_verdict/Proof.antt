@@ -6,7 +6,8 @@ use Rattle.aeolus_lib.proofs.fault_verdict.Tie as tie
 
 returns : tie.Need-returns
 unfolding after_fault first_fault
-returns c = rw c.after-fault.ensures
+returns c = rw c.after_fault-same.ensures
 
-pub fault-verdict-spec : {M : Type 1} → statement M
-fault-verdict-spec = tie.close (tie.spec (λ c κs. search rules) returns)
+pub fault_verdict_spec : {M : Type 1} → statement M
+fault_verdict_spec = tie.close (tie.spec
+    (λ c κs. search rules) returns)

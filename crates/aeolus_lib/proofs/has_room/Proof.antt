@@ -9,11 +9,12 @@ use borrow.Author.Rules.{rules}
 use Rattle.aeolus_lib.proofs.has_room.Statement.{statement}
 use Rattle.aeolus_lib.proofs.has_room.Tie as tie
 
-returns : tie.Need-returns
-returns c = let x = c.before.args in sym (le-leb (length (report (universe_in x.universe.now) (ran x.passed (configuration_in x.deployed.now)))) x.room (omega arith))
+returns : tie.Need-returns-then-room-ge-LARGEST
+returns c = let x = c.args in sym (le-leb (length (report (universe_in x.universe.now) (ran x.passed (configuration_in x.deployed.now)))) x.room (omega arith))
 
-returns-2 : tie.Need-returns-2
-returns-2 c = rw c.report-length.ensures
+returns-2 : tie.Need-returns
+returns-2 c = rw c.report_length.ensures
 
-pub has-room-spec : {M : Type 1} → statement M
-has-room-spec = tie.close (tie.spec returns (λ c κs. search rules) returns-2)
+pub has_room_spec : {M : Type 1} → statement M
+has_room_spec = tie.close (tie.spec
+    returns (λ c κs. search rules) returns-2)

@@ -3,7 +3,8 @@ use Rattle.aeolus_lib.proofs.judge_fault.Statement.{statement}
 use Rattle.aeolus_lib.proofs.judge_fault.Tie as tie
 
 returns : tie.Need-returns
-returns c = (c.before.fault-verdict.ensures, c.fault-place.ensures)
+returns c = (c.fault_verdict-verdict.ensures, c.fault_place-place.ensures)
 
-pub judge-fault-spec : {M : Type 1} → statement M
-judge-fault-spec = tie.close (tie.spec (λ c κs. search rules) (λ c κs. search rules) returns)
+pub judge_fault_spec : {M : Type 1} → statement M
+judge_fault_spec = tie.close (tie.spec
+    (λ c κs. search rules) (λ c κs. search rules) returns)

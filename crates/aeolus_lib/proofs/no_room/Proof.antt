@@ -8,5 +8,6 @@ returns : tie.Need-returns
 unfolding no_room
 returns c = refl
 
-pub no-room-spec : {M : Type 1} → statement M
-no-room-spec = tie.close (tie.spec returns)
+pub no_room_spec : {M : Type 1} → statement M
+no_room_spec = tie.close (tie.spec
+    returns)

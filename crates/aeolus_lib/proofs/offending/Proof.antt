@@ -8,9 +8,10 @@ use Rattle.aeolus_lib.proofs.offending.Tie as tie
 
 returns : tie.Need-returns
 returns c =
-    let x = c.before.before.before.before.args in
-    part_placed x.sheet false x.sheet x.answer _ (judged x.sheet.now x.answer.now x.room).place _ c.before.place.ensures
+    let x = c.args in
+    part_placed x.sheet false x.sheet x.answer _ (judged x.sheet.now x.answer.now x.room).place _ c.place.ensures
     (paper-within x.sheet.now x.sheet.now x.answer.now (judged x.sheet.now x.answer.now x.room).place (place-within x.sheet.now x.answer.now x.room)) c.part_at.ensures
 
-pub offending-spec : {M : Type 1} → statement M
-offending-spec = tie.close (tie.spec (λ c κs. search rules) (λ c κs. search rules) returns)
+pub offending_spec : {M : Type 1} → statement M
+offending_spec = tie.close (tie.spec
+    (λ c κs. search rules) (λ c κs. search rules) returns)

@@ -4,7 +4,8 @@ use Rattle.aeolus_lib.proofs.print.Statement.{statement}
 use Rattle.aeolus_lib.proofs.print.Tie as tie
 
 returns : tie.Need-returns
-returns c = let h = c.before.before.judge.ensures in shown-prints _ _ _ (search rules) h.0 h.1 c.fault-or-report.ensures
+returns c = let h = c.judge-verdict.ensures in shown-prints _ _ _ (search rules) h.0 h.1 c.fault_or_report.ensures
 
-pub print-spec : {M : Type 1} → statement M
-print-spec = tie.close (tie.spec (λ c κs. search rules) (λ c κs. search rules) returns)
+pub print_spec : {M : Type 1} → statement M
+print_spec = tie.close (tie.spec
+    (λ c κs. search rules) (λ c κs. search rules) returns)

@@ -7,13 +7,14 @@ use borrow.Author.Rules.{rules}
 use Rattle.aeolus_lib.proofs.run_place.Statement.{statement}
 use Rattle.aeolus_lib.proofs.run_place.Tie as tie
 
-returns : tie.Need-returns
+returns : tie.Need-returns-then-not-fits
 unfolding in_room no_room
-returns c = λ d x room e. rw (sym e ∙ not-true _ c.if1.true, in_room)
+returns c = λ d x room e. rw (sym e ∙ not-true _ c.if-not-fits.true, in_room)
 
-returns-2 : tie.Need-returns-2
+returns-2 : tie.Need-returns
 unfolding in_room after_run
-returns-2 c = λ d x room e. rw (sym e ∙ not-false _ c.before.before.before.if1.false, in_room, ← c.before.before.at-step.ensures) c.step-place.ensures
+returns-2 c = λ d x room e. rw (sym e ∙ not-false _ c.if-not-fits.false, in_room, ← c.at_step.ensures) c.step_place.ensures
 
-pub run-place-spec : {M : Type 1} → statement M
-run-place-spec = tie.close (tie.spec returns (λ c κs. search rules) (λ c. search rules) (λ c κs. search rules) returns-2)
+pub run_place_spec : {M : Type 1} → statement M
+run_place_spec = tie.close (tie.spec
+    returns (λ c κs. search rules) (λ c. search rules) (λ c κs. search rules) returns-2)

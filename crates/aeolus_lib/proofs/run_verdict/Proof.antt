@@ -8,5 +8,6 @@ returns : tie.Need-returns
 unfolding after_run
 returns c = λ d x a e. rw e
 
-pub run-verdict-spec : {M : Type 1} → statement M
-run-verdict-spec = tie.close (tie.spec (λ c. omega arith) (λ c. search rules) returns)
+pub run_verdict_spec : {M : Type 1} → statement M
+run_verdict_spec = tie.close (tie.spec
+    (λ c. omega arith) (λ c. search rules) returns)

@@ -7,5 +7,6 @@ returns : tie.Need-returns
 unfolding configuration_in
 returns c = c.in_area.ensures
 
-pub bound-row-spec : {M : Type 1} → statement M
-bound-row-spec = tie.close (tie.spec (λ c κs. search rules) returns)
+pub bound_row_spec : {M : Type 1} → statement M
+bound_row_spec = tie.close (tie.spec
+    (λ c κs. search rules) returns)

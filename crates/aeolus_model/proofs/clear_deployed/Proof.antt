@@ -5,5 +5,6 @@ use Rattle.aeolus_model.proofs.clear_deployed.Tie as tie
 returns : tie.Need-returns
 returns c = configuration-none
 
-pub clear-deployed-spec : {M : Type 1} → statement M
-clear-deployed-spec = tie.close (tie.spec returns)
+pub clear_deployed_spec : {M : Type 1} → statement M
+clear_deployed_spec = tie.close (tie.spec
+    returns)

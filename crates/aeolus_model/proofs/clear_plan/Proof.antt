@@ -5,5 +5,6 @@ use Rattle.aeolus_model.proofs.clear_plan.Tie as tie
 returns : tie.Need-returns
 returns c = plan-none
 
-pub clear-plan-spec : {M : Type 1} → statement M
-clear-plan-spec = tie.close (tie.spec returns)
+pub clear_plan_spec : {M : Type 1} → statement M
+clear_plan_spec = tie.close (tie.spec
+    returns)

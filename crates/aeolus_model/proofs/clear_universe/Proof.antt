@@ -5,5 +5,6 @@ use Rattle.aeolus_model.proofs.clear_universe.Tie as tie
 returns : tie.Need-returns
 returns c = universe-none
 
-pub clear-universe-spec : {M : Type 1} → statement M
-clear-universe-spec = tie.close (tie.spec returns)
+pub clear_universe_spec : {M : Type 1} → statement M
+clear_universe_spec = tie.close (tie.spec
+    returns)

@@ -6,5 +6,6 @@ use Rattle.aeolus_model.proofs.initial_of.Tie as tie
 returns : tie.Need-returns
 returns c = rw type_at c.in_area.ensures
 
-pub initial-of-spec : {M : Type 1} → statement M
-initial-of-spec = tie.close (tie.spec (λ c κs. search rules) returns)
+pub initial_of_spec : {M : Type 1} → statement M
+initial_of_spec = tie.close (tie.spec
+    (λ c κs. search rules) returns)

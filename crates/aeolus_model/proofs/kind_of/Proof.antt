@@ -7,5 +7,6 @@ returns : tie.Need-returns
 unfolding configuration_in
 returns c = c.in_area.ensures
 
-pub kind-of-spec : {M : Type 1} → statement M
-kind-of-spec = tie.close (tie.spec (λ c κs. search rules) returns)
+pub kind_of_spec : {M : Type 1} → statement M
+kind_of_spec = tie.close (tie.spec
+    (λ c κs. search rules) returns)

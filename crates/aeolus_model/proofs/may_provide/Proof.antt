@@ -3,5 +3,6 @@ use borrow.Author.Rules.{rules}
 use Rattle.aeolus_model.proofs.may_provide.Statement.{statement}
 use Rattle.aeolus_model.proofs.may_provide.Tie as tie
 
-pub may-provide-spec : {M : Type 1} → statement M
-may-provide-spec = tie.close (tie.spec (λ c κs. search rules) (λ c κs. search rules) (λ c. rw (sym c.before.provides-of.ensures) c.lists-among.ensures))
+pub may_provide_spec : {M : Type 1} → statement M
+may_provide_spec = tie.close (tie.spec
+    (λ c κs. search rules) (λ c κs. search rules) (λ c. rw (sym c.provides_of.ensures) c.lists_among.ensures))

@@ -7,5 +7,6 @@ returns : tie.Need-returns
 unfolding universe_in
 returns c = c.in_area.ensures
 
-pub name-of-spec : {M : Type 1} → statement M
-name-of-spec = tie.close (tie.spec (λ c. search rules) (λ c. search rules) (λ c κs. search rules) returns)
+pub name_of_spec : {M : Type 1} → statement M
+name_of_spec = tie.close (tie.spec
+    (λ c. search rules) (λ c. search rules) (λ c κs. search rules) returns)

@@ -5,7 +5,8 @@ use Rattle.aeolus_model.proofs.number_at.Tie as tie
 
 returns : tie.Need-returns
 unfolding universe_in
-returns c = rw c.before.number-place.ensures at c.in_area.ensures
+returns c = rw c.number_place.ensures at c.in_area.ensures
 
-pub number-at-spec : {M : Type 1} → statement M
-number-at-spec = tie.close (tie.spec (λ c κs. search rules) (λ c κs. search rules) returns)
+pub number_at_spec : {M : Type 1} → statement M
+number_at_spec = tie.close (tie.spec
+    (λ c κs. search rules) (λ c κs. search rules) returns)

@@ -7,5 +7,6 @@ returns : tie.Need-returns
 unfolding configuration_in
 returns c = search rules
 
-pub present-spec : {M : Type 1} → statement M
-present-spec = tie.close (tie.spec (λ c. search rules) returns)
+pub present_spec : {M : Type 1} → statement M
+present_spec = tie.close (tie.spec
+    (λ c. search rules) returns)

@@ -6,5 +6,6 @@ use Rattle.aeolus_model.proofs.provides_of.Tie as tie
 returns : tie.Need-returns
 returns c = rw type_at c.in_area.ensures
 
-pub provides-of-spec : {M : Type 1} → statement M
-provides-of-spec = tie.close (tie.spec (λ c κs. search rules) returns)
+pub provides_of_spec : {M : Type 1} → statement M
+provides_of_spec = tie.close (tie.spec
+    (λ c κs. search rules) returns)

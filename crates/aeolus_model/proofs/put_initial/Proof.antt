@@ -4,7 +4,8 @@ use Rattle.aeolus_model.proofs.put_initial.Statement.{statement}
 use Rattle.aeolus_model.proofs.put_initial.Tie as tie
 
 returns : tie.Need-returns
-returns c = rw c.put-in-area.ensures (initial-put _ c.before.put-in-area-arg.given.0.1 _ _)
+returns c = rw c.put_in_area.ensures (initial-put _ c.put_in_area-arg-1.given.0.1 _ _)
 
-pub put-initial-spec : {M : Type 1} → statement M
-put-initial-spec = tie.close (tie.spec (λ c κs. search rules) returns)
+pub put_initial_spec : {M : Type 1} → statement M
+put_initial_spec = tie.close (tie.spec
+    (λ c κs. search rules) returns)

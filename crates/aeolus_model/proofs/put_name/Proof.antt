@@ -4,7 +4,8 @@ use Rattle.aeolus_model.proofs.put_name.Statement.{statement}
 use Rattle.aeolus_model.proofs.put_name.Tie as tie
 
 returns : tie.Need-returns
-returns c = rw c.put-in-area.ensures (name-put _ c.before.put-in-area-arg.given.0.1 _ _ _)
+returns c = rw c.put_in_area.ensures (name-put _ c.put_in_area-arg-1.given.0.1 _ _ _)
 
-pub put-name-spec : {M : Type 1} → statement M
-put-name-spec = tie.close (tie.spec (λ c. search rules) (λ c. search rules) (λ c κs. search rules) returns)
+pub put_name_spec : {M : Type 1} → statement M
+put_name_spec = tie.close (tie.spec
+    (λ c. search rules) (λ c. search rules) (λ c κs. search rules) returns)

@@ -4,7 +4,8 @@ use Rattle.aeolus_model.proofs.put_number.Statement.{statement}
 use Rattle.aeolus_model.proofs.put_number.Tie as tie
 
 returns : tie.Need-returns
-returns c = rw (c.put-in-area.ensures, c.before.number-place.ensures) (number_put _ c.before.before.put-in-area-arg.given.0.1 _ _ _ _ _)
+returns c = rw (c.put_in_area.ensures, c.number_place.ensures) (number_put _ c.put_in_area-arg-1.given.0.1 _ _ _ _ _)
 
-pub put-number-spec : {M : Type 1} → statement M
-put-number-spec = tie.close (tie.spec (λ c κs. search rules) (λ c κs. search rules) returns)
+pub put_number_spec : {M : Type 1} → statement M
+put_number_spec = tie.close (tie.spec
+    (λ c κs. search rules) (λ c κs. search rules) returns)

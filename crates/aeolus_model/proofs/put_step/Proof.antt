@@ -5,11 +5,12 @@ use Rattle.aeolus_model.proofs.put_step.Tie as tie
 
 returns : tie.Need-returns
 returns c =
-    let w3 = c.before.before in
-    let w2 = w3.before.before in
-    let w1 = w2.before.before in
-    rw (c.put-in-area4.ensures, w3.put-in-area3.ensures, w2.put-in-area2.ensures, w1.put-in-area.ensures)
-    (step-put _ w1.before.put-in-area-arg.given.0.1 _ _)
+    let w3 = c in
+    let w2 = c in
+    let w1 = c in
+    rw (c.put_in_area-4.ensures, w3.put_in_area-3.ensures, w2.put_in_area-2.ensures, w1.put_in_area.ensures)
+    (step-put _ w1.put_in_area-arg-1.given.0.1 _ _)
 
-pub put-step-spec : {M : Type 1} → statement M
-put-step-spec = tie.close (tie.spec (λ c κs. search rules) (λ c κs. search rules) (λ c κs. search rules) (λ c κs. search rules) returns)
+pub put_step_spec : {M : Type 1} → statement M
+put_step_spec = tie.close (tie.spec
+    (λ c κs. search rules) (λ c κs. search rules) (λ c κs. search rules) (λ c κs. search rules) returns)

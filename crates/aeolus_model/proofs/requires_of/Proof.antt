@@ -6,5 +6,6 @@ use Rattle.aeolus_model.proofs.requires_of.Tie as tie
 returns : tie.Need-returns
 returns c = rw type_at c.in_area.ensures
 
-pub requires-of-spec : {M : Type 1} → statement M
-requires-of-spec = tie.close (tie.spec (λ c κs. search rules) returns)
+pub requires_of_spec : {M : Type 1} → statement M
+requires_of_spec = tie.close (tie.spec
+    (λ c κs. search rules) returns)

@@ -5,9 +5,10 @@ use Rattle.aeolus_model.proofs.step_at.Tie as tie
 
 returns : tie.Need-returns
 returns c =
-    let third = c.before.before in
-    let second = third.before.before in
-    rw (step_in, c.in-area4.ensures, third.in-area3.ensures, second.in-area2.ensures, second.before.before.in_area.ensures)
+    let third = c in
+    let second = c in
+    rw (step_in, c.in_area-third.ensures, third.in_area-second.ensures, second.in_area-first.ensures, second.in_area-verb.ensures)
 
-pub step-at-spec : {M : Type 1} → statement M
-step-at-spec = tie.close (tie.spec (λ c κs. search rules) (λ c κs. search rules) (λ c κs. search rules) (λ c κs. search rules) returns)
+pub step_at_spec : {M : Type 1} → statement M
+step_at_spec = tie.close (tie.spec
+    (λ c κs. search rules) (λ c κs. search rules) (λ c κs. search rules) (λ c κs. search rules) returns)

@@ -7,5 +7,6 @@ returns : tie.Need-returns
 unfolding plan_in
 returns c = search rules
 
-pub steps-spec : {M : Type 1} → statement M
-steps-spec = tie.close (tie.spec (λ c. search rules) returns)
+pub steps_spec : {M : Type 1} → statement M
+steps_spec = tie.close (tie.spec
+    (λ c. search rules) returns)

@@ -7,5 +7,6 @@ returns : tie.Need-returns
 unfolding universe_in
 returns c = search rules
 
-pub types-spec : {M : Type 1} → statement M
-types-spec = tie.close (tie.spec (λ c. search rules) returns)
+pub types_spec : {M : Type 1} → statement M
+types_spec = tie.close (tie.spec
+    (λ c. search rules) returns)

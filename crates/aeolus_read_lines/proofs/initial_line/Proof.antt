@@ -8,10 +8,11 @@ use borrow.Author.Rules.{rules}
 use Rattle.aeolus_read_lines.proofs.initial_line.Statement.{statement}
 use Rattle.aeolus_read_lines.proofs.initial_line.Tie as tie
 
-pub initial-line-spec : {M : Type 1} → statement M
+pub initial_line_spec : {M : Type 1} → statement M
 unfolding count_line_in
-initial-line-spec =
+initial_line_spec =
     tie.close
-    (tie.spec (λ c κs. search rules) (λ c. search rules) (λ c κs. search rules) (λ c. search rules) (λ c. search rules)
-    (λ c. form-fault _ _ (told due_says _ c.before.before.past-key.ensures c.enum_told.given.1)) (λ c κs. search rules)
-    (λ c. form-then _ _ (told due_says _ c.before.before.before.before.past-key.ensures c.before.before.at.given.1) (rw (sym c.before.before.before.before.before.before.states-of.ensures) (state-numbers _ _ _ c.numbers-within.result c.numbers-within.ensures))))
+    (tie.spec
+    (λ c κs. search rules) (λ c κs. search rules) (λ c. search rules) (λ c. search rules)
+    (λ c. form-fault _ _ (told due_says _ c.past_key.ensures c.in_default.is)) (λ c κs. search rules)
+    (λ c. form-then _ _ (told due_says _ c.past_key.ensures c.in-Past.is) (rw (sym c.states_of-states.ensures) (state-numbers _ _ _ c.numbers_within.result c.numbers_within.ensures))))

@@ -10,17 +10,20 @@ use borrow.Author.Rules.{rules}
 use Rattle.aeolus_read_lines.proofs.row_line.Statement.{statement}
 use Rattle.aeolus_read_lines.proofs.row_line.Tie as tie
 
-pub row-line-spec : {M : Type 1} → statement M
-row-line-spec =
+pub row_line_spec : {M : Type 1} → statement M
+row_line_spec =
     tie.close
-    (tie.spec (λ c. search rules) (λ c. search rules) (λ c. search rules) (λ c κs. search rules) (λ c. search rules) (λ c. search rules)
-    (λ c. rw (row-numbers _ _ _ _) (form-fault _ _ (told number_says _ c.before.before.which-key.ensures c.enum_told.given.1))) (λ c κs. search rules) (λ c. search rules) (λ c. search rules)
-    (λ c. rw (c.enum-told2.given.1, row-numbers _ _ _ _)
-    (form-then _ _ (told number_says _ c.before.before.before.before.before.before.which-key.ensures c.before.before.before.before.m.given.1) (form-fault _ _ (told numbers_says _ c.before.before.numbers-within.ensures c.enum-told2.given.1)))) (λ c κs. search rules) (λ c κs. search rules)
-    (λ c. omega (arith, row-few _ (told numbers_says _ c.before.before.before.before.before.before.before.numbers-within.ensures c.before.before.before.before.before.line.given.1))) (λ c κs. search rules)
-    (λ c. rw (c.got.ensures, c.before.before.place_of.ensures, add-one, row-numbers _ _ _ _)
-    (form-then _ _ (told number_says _ c.before.before.before.before.before.before.before.before.before.before.before.before.which-key.ensures c.before.before.before.before.before.before.before.before.before.before.m.given.1)
-    (limit-kept _ _ (told numbers_says _ c.before.before.before.before.before.before.before.before.numbers-within.ensures c.before.before.before.before.before.before.line.given.1) (rw (sym c.before.before.before.before.keeps-clauses.ensures ∙ c.before.before.before.if1.true)))))
+    (tie.spec
+    (λ c κs. search rules) (λ c. search rules) (λ c. search rules)
+    (λ c. rw (row-numbers _ _ _ _) (form-fault _ _ (told number_says _ c.which_key.ensures c.in_default.is))) (λ c κs. search rules)
+    (λ c. search rules) (λ c. search rules)
+    (λ c. rw (c.in_default-line.is, row-numbers _ _ _ _)
+    (form-then _ _ (told number_says _ c.which_key.ensures c.in-Got.is) (form-fault _ _ (told numbers_says _ c.numbers_within-line.ensures c.in_default-line.is))))
+    (λ c κs. search rules) (λ c κs. search rules) (λ c. omega (arith, row-few _ (told numbers_says _ c.numbers_within-line.ensures c.in-Got-line.is)))
+    (λ c κs. search rules)
+    (λ c. rw (c.got.ensures, c.place_of-place.ensures, add-one, row-numbers _ _ _ _)
+    (form-then _ _ (told number_says _ c.which_key.ensures c.in-Got.is)
+    (limit-kept _ _ (told numbers_says _ c.numbers_within-line.ensures c.in-Got-line.is) (rw (sym c.keeps_clauses.ensures ∙ c.if-keeps_clauses.true)))))
     (λ c. rw (row-numbers _ _ _ _)
-    (form-then _ _ (told number_says _ c.before.before.before.before.before.before.before.before.before.which-key.ensures c.before.before.before.before.before.before.before.m.given.1)
-    (limit-fault _ _ (told numbers_says _ c.before.before.before.before.before.numbers-within.ensures c.before.before.before.line.given.1) (rw (sym c.before.keeps-clauses.ensures ∙ c.if1.false))))))
+    (form-then _ _ (told number_says _ c.which_key.ensures c.in-Got.is)
+    (limit-fault _ _ (told numbers_says _ c.numbers_within-line.ensures c.in-Got-line.is) (rw (sym c.keeps_clauses.ensures ∙ c.if-keeps_clauses.false))))))

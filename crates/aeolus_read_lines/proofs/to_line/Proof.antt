@@ -8,11 +8,13 @@ use borrow.Author.Rules.{rules}
 use Rattle.aeolus_read_lines.proofs.to_line.Statement.{statement}
 use Rattle.aeolus_read_lines.proofs.to_line.Tie as tie
 
-pub to-line-spec : {M : Type 1} → statement M
+pub to_line_spec : {M : Type 1} → statement M
 unfolding to_line
-to-line-spec =
+to_line_spec =
     tie.close
-    (tie.spec (λ c. search rules) (λ c κs. search rules) (λ c. search rules) (λ c. search rules)
-    (λ c. whole-line _ _ _ (form-fault _ _ (told list_says _ c.before.before.list-line.ensures c.enum_told.given.1))) (λ c κs. search rules)
-    (λ c. whole-line _ _ _ (limit-fault _ _ (told list_says _ c.before.before.before.before.before.list-line.ensures c.before.before.before.mask.given.1) (rw (sym c.before.states-of.ensures, lt-leb _ _ c.if1.true)))) (λ c κs. search rules)
-    (λ c. rw c.got.ensures (whole-line _ _ _ (limit-kept _ _ (told list_says _ c.before.before.before.before.before.before.list-line.ensures c.before.before.before.before.mask.given.1) (rw (sym c.before.before.states-of.ensures, le-leb _ _ c.before.if1.false))))))
+    (tie.spec
+    (λ c κs. search rules) (λ c. search rules) (λ c. search rules)
+    (λ c. whole-line _ _ _ (form-fault _ _ (told list_says _ c.list_line.ensures c.in_default.is))) (λ c κs. search rules)
+    (λ c. whole-line _ _ _ (limit-fault _ _ (told list_says _ c.list_line.ensures c.in-Got.is) (rw (sym c.states_of.ensures, lt-leb _ _ c.if-states_of-top.true))))
+    (λ c κs. search rules)
+    (λ c. rw c.got.ensures (whole-line _ _ _ (limit-kept _ _ (told list_says _ c.list_line.ensures c.in-Got.is) (rw (sym c.states_of.ensures, le-leb _ _ c.if-states_of-top.false))))))

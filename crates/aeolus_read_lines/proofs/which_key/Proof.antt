@@ -9,20 +9,20 @@ use borrow.Author.Rules.{rules}
 use Rattle.aeolus_read_lines.proofs.which_key.Statement.{statement}
 use Rattle.aeolus_read_lines.proofs.which_key.Tie as tie
 
-pub which-key-spec : {M : Type 1} → statement M
+pub which_key_spec : {M : Type 1} → statement M
 unfolding which_of
-which-key-spec =
+which_key_spec =
     tie.close
-    (tie.spec (λ c κs. search rules) (λ c. search rules)
-    (λ c. key_here _ _ _ (told due_says _ c.before.before.before.past-key.ensures c.before.i.given.1))
+    (tie.spec
+    (λ c κs. search rules) (λ c. search rules) (λ c. key_here _ _ _ (told due_says _ c.past_key.ensures c.in-Past.is)) (λ c. search rules)
+    (λ c κs. search rules) (λ c. search rules)
+    (λ c. verb-other _ _ _ (told due_says _ c.past_key.ensures c.in_default.is)
+    (key_here _ _ _ (told due_says _ c.past_key-2.ensures c.in-Past-past_key.is)))
     (λ c. search rules) (λ c κs. search rules) (λ c. search rules)
-    (λ c. verb-other _ _ _ (told due_says _ c.before.before.before.before.before.before.past-key.ensures c.before.before.before.before.enum_told.given.1)
-    (key_here _ _ _ (told due_says _ c.before.before.before.past-key2.ensures c.before.i2.given.1)))
-    (λ c. search rules) (λ c κs. search rules) (λ c. search rules)
-    (λ c. verb-other _ _ _ (told due_says _ c.before.before.before.before.before.before.before.before.before.past-key.ensures c.before.before.before.before.before.before.before.enum_told.given.1)
-    (verb-other _ _ _ (told due_says _ c.before.before.before.before.before.before.past-key2.ensures c.before.before.before.before.enum-told2.given.1)
-    (key_here _ _ _ (told due_says _ c.before.before.before.past-key3.ensures c.before.i3.given.1))))
+    (λ c. verb-other _ _ _ (told due_says _ c.past_key.ensures c.in_default.is)
+    (verb-other _ _ _ (told due_says _ c.past_key-2.ensures c.in_default-past_key.is)
+    (key_here _ _ _ (told due_says _ c.past_key-3.ensures c.in-Past-past_key-2.is))))
     (λ c. search rules)
-    (λ c. verb-other _ _ _ (told due_says _ c.before.before.before.before.before.before.before.before.past-key.ensures c.before.before.before.before.before.before.enum_told.given.1)
-    (verb-other _ _ _ (told due_says _ c.before.before.before.before.before.past-key2.ensures c.before.before.before.enum-told2.given.1)
-    (verb-other _ _ _ (told due_says _ c.before.before.past-key3.ensures c.enum-told3.given.1) (record { within = zero-le; same = refl })))))
+    (λ c. verb-other _ _ _ (told due_says _ c.past_key.ensures c.in_default.is)
+    (verb-other _ _ _ (told due_says _ c.past_key-2.ensures c.in_default-past_key.is)
+    (verb-other _ _ _ (told due_says _ c.past_key-3.ensures c.in_default-past_key-2.is) (record { within = zero-le; same = refl })))))

@@ -5,8 +5,9 @@ use borrow.Author.Rules.{rules}
 use Rattle.aeolus_read_plan.proofs.fill_plan.Statement.{statement}
 use Rattle.aeolus_read_plan.proofs.fill_plan.Tie as tie
 
-pub fill-plan-spec : {M : Type 1} → statement M
-fill-plan-spec =
+pub fill_plan_spec : {M : Type 1} → statement M
+fill_plan_spec =
     tie.close
-    (tie.spec (λ c κs. search rules) (λ c κs. search rules) (λ c κs. search rules)
-    (λ c. rw (c.came-to.ensures, c.before.keep-plan.ensures) (came-kept no_plan (plan c.before.before.before.before.before.before.args.types) _ _ c.before.before.before.read-plan.ensures)))
+    (tie.spec
+    (λ c κs. search rules) (λ c κs. search rules) (λ c κs. search rules)
+    (λ c. rw (c.came_to.ensures, c.keep_plan.ensures) (came-kept no_plan (plan c.args.types) _ _ c.read_plan-read.ensures)))

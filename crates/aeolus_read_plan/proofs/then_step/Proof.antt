@@ -11,22 +11,24 @@ use borrow.Author.Rules.{rules}
 use Rattle.aeolus_read_plan.proofs.then_step.Statement.{statement}
 use Rattle.aeolus_read_plan.proofs.then_step.Tie as tie
 
-returns-2 : tie.Need-returns-2
+returns-2 : tie.Need-returns-in_default-line
 unfolding step_at
 returns-2 c =
-    let a = c.before.before.before.before.before.before.before.before.before.args in
-    after-went c.before.before.before.before.before.before.enum_told.given.1
-    (put_refused step_says (step_line a.types) (with_step (plan_in a.words.now) a.n) _ _ _ c.before.before.before.before.before.place_in.ensures _ c.before.before.before.step_line.ensures c.before.enum-told3.given.1 refl c.step-refusal.ensures)
+    let a = c.args in
+    after-went c.in-On.is
+    (put_refused step_says (step_line a.types) (with_step (plan_in a.words.now) a.n) _ _ _ c.place_in-at.ensures _ c.step_line-line.ensures c.in_default-line.is refl c.step_refusal-refused.ensures)
 
-returns-3 : tie.Need-returns-3
+returns-3 : tie.Need-returns
 unfolding step_at
 returns-3 c =
-    let a = c.before.before.before.before.before.before.before.before.before.before.before.args in
-    after-went c.before.before.before.before.before.before.before.before.enum_told.given.1
-    (rw c.put_step.ensures (put-line step_says (step_line a.types) (with_step (plan_in a.words.now) a.n) _ _ _ c.before.before.before.before.before.before.before.place_in.ensures _ c.before.before.before.before.before.step_line.ensures c.before.before.before.line.given.1 refl))
+    let a = c.args in
+    after-went c.in-On.is
+    (rw c.put_step.ensures (put-line step_says (step_line a.types) (with_step (plan_in a.words.now) a.n) _ _ _ c.place_in-at.ensures _ c.step_line-line.ensures c.in-Got.is refl))
 
-pub then-step-spec : {M : Type 1} → statement M
-then-step-spec =
+pub then_step_spec : {M : Type 1} → statement M
+then_step_spec =
     tie.close
-    (tie.spec (λ c. search rules) (λ c. search rules) (λ c. after-stopped c.enum-told2.given.1) (λ c κs. search rules) (λ c. search rules) (λ c. search rules) (λ c. search rules) (λ c κs. search rules) (λ c. search rules) (λ c. search rules) (λ c κs. search rules) returns-2 (λ c κs. search rules)
-    (λ c. omega (arith, ((returns-3 c).went c.before.before.before.before.before.before.before.before.enum_told.given.1).within)) returns-3)
+    (tie.spec
+    (λ c. search rules) (λ c. search rules) (λ c. after-stopped c.in_default.is) (λ c κs. search rules) (λ c. search rules) (λ c. search rules)
+    (λ c. search rules) (λ c κs. search rules) (λ c. search rules) (λ c. search rules) (λ c κs. search rules) returns-2 (λ c κs. search rules)
+    (λ c. omega (arith, ((returns-3 c).went c.in-On.is).within)) returns-3)

@@ -5,6 +5,8 @@ use borrow.Author.Rules.{rules}
 use Rattle.aeolus_read_sheet.proofs.fill_universe.Statement.{statement}
 use Rattle.aeolus_read_sheet.proofs.fill_universe.Tie as tie
 
-pub fill-universe-spec : {M : Type 1} → statement M
-fill-universe-spec =
-    tie.close (tie.spec (λ c κs. search rules) (λ c κs. search rules) (λ c κs. search rules) (λ c. rw (c.came-to.ensures, c.before.keep-universe.ensures) (came-kept no_universe sheet _ _ c.before.before.before.read-sheet.ensures)))
+pub fill_universe_spec : {M : Type 1} → statement M
+fill_universe_spec =
+    tie.close (tie.spec
+    (λ c κs. search rules) (λ c κs. search rules) (λ c κs. search rules)
+    (λ c. rw (c.came_to.ensures, c.keep_universe.ensures) (came-kept no_universe sheet _ _ c.read_sheet-read.ensures)))

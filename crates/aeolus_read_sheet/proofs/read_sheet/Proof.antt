@@ -5,10 +5,12 @@ use borrow.Author.Rules.{rules}
 use Rattle.aeolus_read_sheet.proofs.read_sheet.Statement.{statement}
 use Rattle.aeolus_read_sheet.proofs.read_sheet.Tie as tie
 
-pub read-sheet-spec : {M : Type 1} → statement M
+pub read_sheet_spec : {M : Type 1} → statement M
 unfolding sheet types_at with_count
-read-sheet-spec =
+read_sheet_spec =
     tie.close
-    (tie.spec (λ c κs. search rules) (λ c κs. search rules) (λ c. search rules) (λ c κs. search rules) (λ c. search rules) (λ c κs. search rules) (λ c κs. search rules) (λ c κs. search rules) (λ c κs. search rules)
-    (λ c. counted-text _ _ (with_count no_universe) type_at (λ (u : Universe). u.count) c.before.before.before.before.before.before.before.before.before.length_run.ensures c.before.before.before.before.before.before.before.then-due.ensures c.before.before.before.before.before.then-within.ensures.0
-    (rw (c.before.before.before.put-types.ensures, c.before.before.before.before.before.before.before.before.before.before.clear-universe.ensures) at c.before.then-types.ensures) c.then-end.ensures))
+    (tie.spec
+    (λ c κs. search rules) (λ c κs. search rules) (λ c κs. search rules) (λ c κs. search rules) (λ c κs. search rules) (λ c κs. search rules)
+    (λ c κs. search rules)
+    (λ c. counted-text _ _ (with_count no_universe) type_at (λ (u : Universe). u.count) c.length_run-length.ensures c.then_due-first.ensures c.then_within-count.ensures.0
+    (rw (c.put_types.ensures, c.clear_universe.ensures) at c.then_types-types.ensures) c.then_end.ensures))

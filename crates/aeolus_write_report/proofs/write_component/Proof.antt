@@ -6,11 +6,11 @@ use borrow.Author.Rules.{rules}
 use Rattle.aeolus_write_report.proofs.write_component.Statement.{statement}
 use Rattle.aeolus_write_report.proofs.write_component.Tie as tie
 
-pub write-component-spec : {M : Type 1} → statement M
+pub write_component_spec : {M : Type 1} → statement M
 unfolding component_at component_text
-write-component-spec =
+write_component_spec =
     tie.close
-    (tie.spec (λ c κs. search rules)
-    (λ c. line-absent _ (sym c.before.is-deployed.ensures ∙ not-true c.before.is-deployed.result c.if1.true)) (λ c κs. search rules)
-    (λ c κs. search rules) (λ c. search rules) (λ c κs. search rules) (λ c. search rules)
-    (λ c. line-there (sym c.before.before.before.before.before.before.before.before.is-deployed.ensures ∙ not-false c.before.before.before.before.before.before.before.before.is-deployed.result c.before.before.before.before.before.before.before.if1.false) (rw (c.before.before.before.before.before.before.kind-of.ensures, c.before.before.before.before.before.state-of.ensures) at c.before.before.write-three.ensures)))
+    (tie.spec
+    (λ c κs. search rules) (λ c. line-absent _ (sym c.is_deployed.ensures ∙ not-true c.is_deployed.result c.if-not-is_deployed.true))
+    (λ c κs. search rules) (λ c κs. search rules) (λ c κs. search rules) (λ c. search rules)
+    (λ c. line-there (sym c.is_deployed.ensures ∙ not-false c.is_deployed.result c.if-not-is_deployed.false) (rw (c.kind_of-k.ensures, c.state_of-q.ensures) at c.write_three.ensures)))

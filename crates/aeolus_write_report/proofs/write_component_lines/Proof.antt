@@ -6,16 +6,16 @@ use borrow.Author.Rules.{rules}
 use Rattle.aeolus_write_report.proofs.write_component_lines.Statement.{statement}
 use Rattle.aeolus_write_report.proofs.write_component_lines.Tie as tie
 
-abbrev invariant-loop : tie.invariant-loop
+abbrev invariant-loop : tie.invariant-loop-z
 invariant-loop t₀ deployed used₀ z₀ t used z = Turns (component_at (configuration_in deployed)) 32 z t₀ t used
 
-abbrev decreases-loop : tie.decreases-loop
+abbrev decreases-loop : tie.decreases-loop-z
 decreases-loop t₀ deployed used₀ z₀ t used z = 32 - z
 
-pub write-component-lines-spec : {M : Type 1} → statement M
-write-component-lines-spec =
+pub write_component_lines_spec : {M : Type 1} → statement M
+write_component_lines_spec =
     tie.close
-    (tie.spec invariant-loop decreases-loop (λ c. turns-none) (λ c. search rules) (λ c. search rules) (λ c. search rules) (λ c κs. search rules) (λ c. search rules)
-    (λ c. search rules) (λ c. search rules)
-    (λ c. turns_more c.before.before.before.before.before.loop.invariant c.before.before.before.before.loop-test.true c.before.before.write-component.ensures)
-    (λ c. search rules) (λ c. turns-all c.before.loop.invariant c.loop-test.false))
+    (tie.spec
+    invariant-loop decreases-loop (λ c. turns-none) (λ c. search rules) (λ c. search rules) (λ c. search rules) (λ c κs. search rules)
+    (λ c. search rules) (λ c. search rules) (λ c. search rules) (λ c. turns_more c.loop-z.invariant c.loop-z-test.true c.write_component-used.ensures)
+    (λ c. search rules) (λ c. turns-all c.loop-z.invariant c.loop-z-test.false))

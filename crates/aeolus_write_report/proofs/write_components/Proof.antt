@@ -4,10 +4,11 @@ use borrow.Author.Rules.{rules}
 use Rattle.aeolus_write_report.proofs.write_components.Statement.{statement}
 use Rattle.aeolus_write_report.proofs.write_components.Tie as tie
 
-pub write-components-spec : {M : Type 1} → statement M
+pub write_components_spec : {M : Type 1} → statement M
 unfolding components_part components_text
-write-components-spec =
+write_components_spec =
     tie.close
-    (tie.spec (λ c κs. search rules) (λ c κs. search rules) (λ c. search rules) (λ c. search rules) (λ c κs. search rules) (λ c. search rules)
-    (λ c. search rules) (λ c. search rules) (λ c κs. search rules) (λ c. search rules) (λ c. search rules)
-    (λ c. next (rw (c.before.before.before.before.before.before.before.before.before.type_size.ensures, c.before.before.before.before.before.before.before.before.before.before.present.ensures) at c.before.before.before.before.before.before.write-count.ensures) c.before.before.write-component-lines.ensures))
+    (tie.spec
+    (λ c κs. search rules) (λ c κs. search rules) (λ c. search rules) (λ c κs. search rules) (λ c. search rules) (λ c. search rules)
+    (λ c. search rules) (λ c κs. search rules) (λ c. search rules) (λ c. search rules)
+    (λ c. next (rw (c.type_size.ensures, c.present.ensures) at c.write_count-used.ensures) c.write_component_lines.ensures))

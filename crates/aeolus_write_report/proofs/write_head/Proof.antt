@@ -4,10 +4,10 @@ use borrow.Author.Rules.{rules}
 use Rattle.aeolus_write_report.proofs.write_head.Statement.{statement}
 use Rattle.aeolus_write_report.proofs.write_head.Tie as tie
 
-pub write-head-spec : {M : Type 1} → statement M
+pub write_head_spec : {M : Type 1} → statement M
 unfolding head_part
-write-head-spec =
+write_head_spec =
     tie.close
-    (tie.spec (λ c. search rules) (λ c. search rules) (λ c κs. search rules) (λ c. search rules) (λ c. search rules) (λ c. search rules)
-    (λ c. search rules) (λ c. search rules) (λ c κs. search rules) (λ c. search rules) (λ c. search rules)
-    (λ c. next c.before.before.before.before.before.before.before.before.write-count.ensures c.before.before.write-count2.ensures))
+    (tie.spec
+    (λ c. search rules) (λ c κs. search rules) (λ c. search rules) (λ c. search rules) (λ c. search rules) (λ c. search rules) (λ c κs. search rules)
+    (λ c. search rules) (λ c. search rules) (λ c. next c.write_count-used.ensures c.write_count.ensures))

@@ -6,11 +6,11 @@ use Rattle.aeolus_write_report.proofs.write_report.Tie as tie
 
 returns : tie.Need-returns
 unfolding report
-returns c = next (next c.before.before.before.before.before.before.before.before.before.before.write-head.ensures c.before.before.before.before.before.before.write-components.ensures) c.before.before.write-bindings.ensures
+returns c = next (next c.write_head-used.ensures c.write_components-used.ensures) c.write_bindings.ensures
 
-pub write-report-spec : {M : Type 1} → statement M
-write-report-spec =
+pub write_report_spec : {M : Type 1} → statement M
+write_report_spec =
     tie.close
-    (tie.spec (λ c κs. search rules) (λ c. search rules) (λ c. search rules) (λ c. search rules) (λ c κs. search rules) (λ c. search rules)
-    (λ c. search rules) (λ c. search rules) (λ c. search rules) (λ c κs. search rules) (λ c. used-fits (returns c) (search rules)) (λ c. search rules)
-    returns)
+    (tie.spec
+    (λ c κs. search rules) (λ c. search rules) (λ c. search rules) (λ c. search rules) (λ c κs. search rules) (λ c. search rules) (λ c. search rules)
+    (λ c. search rules) (λ c. search rules) (λ c κs. search rules) (λ c. used-fits (returns c) (search rules)) (λ c. search rules) returns)

@@ -7,13 +7,13 @@ use borrow.Author.Rules.{rules}
 use Rattle.aeolus_write_report.proofs.write_requirer.Statement.{statement}
 use Rattle.aeolus_write_report.proofs.write_requirer.Tie as tie
 
-pub write-requirer-spec : {M : Type 1} → statement M
+pub write_requirer_spec : {M : Type 1} → statement M
 unfolding bindings_at
-write-requirer-spec =
+write_requirer_spec =
     tie.close
-    (tie.spec (λ c κs. search rules)
-    (λ c. line-absent _ (first-fails _ (sym c.before.is-deployed.ensures ∙ not-true c.before.is-deployed.result c.if1.true)))
+    (tie.spec
+    (λ c κs. search rules) (λ c. line-absent _ (first-fails _ (sym c.is_deployed.ensures ∙ not-true c.is_deployed.result c.if-not-is_deployed.true)))
     (λ c κs. search rules) (λ c κs. search rules)
-    (λ c. line-absent _ (second-fails (sym c.before.before.before.before.is-deployed.ensures ∙ not-false c.before.before.before.before.is-deployed.result c.before.before.before.if1.false) (rw c.before.before.kind-of.ensures at (sym c.before.lists.ensures ∙ not-true c.before.lists.result c.if2.true))))
+    (λ c. line-absent _ (second-fails (sym c.is_deployed.ensures ∙ not-false c.is_deployed.result c.if-not-is_deployed.false) (rw c.kind_of-k.ensures at (sym c.lists.ensures ∙ not-true c.lists.result c.if-not-lists.true))))
     (λ c κs. search rules) (λ c κs. search rules) (λ c κs. search rules) (λ c. search rules)
-    (λ c. line-there (both_hold (sym c.before.before.before.before.before.before.before.before.before.before.is-deployed.ensures ∙ not-false c.before.before.before.before.before.before.before.before.before.before.is-deployed.result c.before.before.before.before.before.before.before.before.before.if1.false) (rw c.before.before.before.before.before.before.before.before.kind-of.ensures at (sym c.before.before.before.before.before.before.before.lists.ensures ∙ not-false c.before.before.before.before.before.before.before.lists.result c.before.before.before.before.before.before.if2.false))) (rw (c.before.before.before.before.bound-at.ensures, c.before.before.before.before.before.place_of.ensures, c.before.before.before.before.before.before.before.before.kind-of.ensures) at c.before.before.write-providers.ensures)))
+    (λ c. line-there (both_hold (sym c.is_deployed.ensures ∙ not-false c.is_deployed.result c.if-not-is_deployed.false) (rw c.kind_of-k.ensures at (sym c.lists.ensures ∙ not-false c.lists.result c.if-not-lists.false))) (rw (c.bound_at-m.ensures, c.place_of.ensures, c.kind_of-k.ensures) at c.write_providers.ensures)))

@@ -6,10 +6,11 @@ use Rattle.aeolus_write_report.proofs.write_three.Tie as tie
 
 returns : tie.Need-returns
 unfolding three_text two_text one_text
-returns c = then c.before.before.before.before.before.before.before.before.before.before.before.before.before.before.before.before.before.before.before.before.before.before.before.before.before.before.write-key.ensures (then (then c.before.before.before.before.before.before.before.before.before.before.before.before.before.before.before.before.before.before.before.before.before.before.write-number.ensures c.before.before.before.before.before.before.before.before.before.before.before.before.before.before.before.before.before.before.write_byte.ensures) (then (then c.before.before.before.before.before.before.before.before.before.before.before.before.before.before.write-number2.ensures c.before.before.before.before.before.before.before.before.before.before.write-byte2.ensures) (then c.before.before.before.before.before.before.write-number3.ensures c.before.before.write-byte3.ensures)))
+returns c = then c.write_key-at.ensures (then (then c.write_number-at.ensures c.write_byte-at.ensures) (then (then c.write_number-at-2.ensures c.write_byte-at-2.ensures) (then c.write_number-at-3.ensures c.write_byte.ensures)))
 
-pub write-three-spec : {M : Type 1} → statement M
-write-three-spec =
+pub write_three_spec : {M : Type 1} → statement M
+write_three_spec =
     tie.close
-    (tie.spec (λ c κs. search rules) (λ c κs. search rules) (λ c κs. search rules) (λ c κs. search rules) (λ c κs. search rules)
-    (λ c κs. search rules) (λ c κs. search rules) (λ c. length-written (returns c)) returns)
+    (tie.spec
+    (λ c κs. search rules) (λ c κs. search rules) (λ c κs. search rules) (λ c κs. search rules) (λ c κs. search rules) (λ c κs. search rules)
+    (λ c κs. search rules) (λ c. length-written (returns c)) returns)

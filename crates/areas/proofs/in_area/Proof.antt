@@ -5,11 +5,12 @@ use Rattle.areas.proofs.Areas.{list-past}
 use Rattle.areas.proofs.in_area.Statement.{statement}
 use Rattle.areas.proofs.in_area.Tie as tie
 
-returns : tie.Need-returns
-returns c = c.mask_at.ensures ∙ sym (list_at _ _ 0 _ c.before.if1.true)
+returns : tie.Need-returns-then-k-n
+returns c = c.mask_at.ensures ∙ sym (list_at _ _ 0 _ c.if-k-n.true)
 
-returns-2 : tie.Need-returns-2
-returns-2 c = sym (list-past _ _ 0 _ c.if1.false)
+returns-2 : tie.Need-returns-else-k-n
+returns-2 c = sym (list-past _ _ 0 _ c.if-k-n.false)
 
-pub in-area-spec : {M : Type 1} → statement M
-in-area-spec = tie.close (tie.spec (λ c. search rules) (λ c κs. search rules) returns returns-2)
+pub in_area_spec : {M : Type 1} → statement M
+in_area_spec = tie.close (tie.spec
+    (λ c. search rules) (λ c κs. search rules) returns returns-2)

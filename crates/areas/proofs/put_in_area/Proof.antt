@@ -3,11 +3,12 @@ use borrow.Author.Tests.{lt-ltb, le-ltb}
 use Rattle.areas.proofs.put_in_area.Statement.{statement}
 use Rattle.areas.proofs.put_in_area.Tie as tie
 
-returns : tie.Need-returns
-returns c = rw (lt-ltb _ _ c.before.before.before.before.if1.true) c.before.before.put_word.ensures
+returns : tie.Need-returns-then-k-n
+returns c = rw (lt-ltb _ _ c.if-k-n.true) c.put_word.ensures
 
-returns-2 : tie.Need-returns-2
-returns-2 c = rw (le-ltb _ _ c.if1.false)
+returns-2 : tie.Need-returns-else-k-n
+returns-2 c = rw (le-ltb _ _ c.if-k-n.false)
 
-pub put-in-area-spec : {M : Type 1} → statement M
-put-in-area-spec = tie.close (tie.spec (λ c. search rules) (λ c κs. search rules) (λ c. search rules) returns returns-2)
+pub put_in_area_spec : {M : Type 1} → statement M
+put_in_area_spec = tie.close (tie.spec
+    (λ c. search rules) (λ c κs. search rules) (λ c. search rules) returns returns-2)

@@ -6,11 +6,11 @@ use Rattle.compare_batch.specs.Within.{Inside}
 use Rattle.compare_batch.proofs.run.Statement.{statement}
 use Rattle.compare_batch.proofs.run.Tie as tie
 
-abbrev invariant-loop : tie.invariant-loop
+abbrev invariant-loop : tie.invariant-loop-turns
 invariant-loop input₀ report₀ out₀ flow₀ turns₀ input report out flow turns =
     Inside flow input × (turns < 2 ^ 64) × (length input ≡ length input₀) × (length out ≡ length out₀)
 
-abbrev decreases-loop : tie.decreases-loop
+abbrev decreases-loop : tie.decreases-loop-turns
 decreases-loop input₀ report₀ out₀ flow₀ turns₀ input report out flow turns = turns
 
 pub run_spec : {M : Type 1} → statement M

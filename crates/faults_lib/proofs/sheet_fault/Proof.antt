@@ -3,6 +3,7 @@ use borrow.Author.Rules.{rules}
 use Rattle.faults_lib.proofs.sheet_fault.Statement.{statement}
 use Rattle.faults_lib.proofs.sheet_fault.Tie as tie
 
-pub sheet-fault-spec : {M : Type 1} → statement M
+pub sheet_fault_spec : {M : Type 1} → statement M
 unfolding sheet_fault
-sheet-fault-spec = tie.close (tie.spec (λ c. search rules) (λ c κs. search rules) (λ c. search rules))
+sheet_fault_spec = tie.close (tie.spec
+    (λ c κs. search rules) (λ c. search rules))

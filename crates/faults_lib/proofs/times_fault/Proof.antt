@@ -4,14 +4,15 @@ use borrow.Author.Rules.{rules}
 use Rattle.faults_lib.proofs.times_fault.Statement.{statement}
 use Rattle.faults_lib.proofs.times_fault.Tie as tie
 
-returns : tie.Need-returns
-returns c = rw c.no-fault.ensures ((times-told _ c.before.before.read-times.ensures).none c.before.if1.true)
+returns : tie.Need-returns-then-n-eq0
+returns c = rw c.no_fault.ensures ((times-told _ c.read_times-read.ensures).none c.if-n-eq0.true)
 
-returns-2 : tie.Need-returns-2
+returns-2 : tie.Need-returns
 unfolding after_fault
 returns-2 c =
-    rw (c.times-number.ensures, c.before.after-fault.ensures) ((times-told _ c.before.before.before.read-times.ensures).some c.before.before.if1.false)
+    rw (c.times_number.ensures, c.after_fault-fault.ensures) ((times-told _ c.read_times-read.ensures).some c.if-n-eq0.false)
 
-pub times-fault-spec : {M : Type 1} → statement M
-times-fault-spec =
-    tie.close (tie.spec (λ c κs. search rules) (λ c κs. search rules) returns (λ c κs. search rules) (λ c κs. search rules) returns-2)
+pub times_fault_spec : {M : Type 1} → statement M
+times_fault_spec =
+    tie.close (tie.spec
+    (λ c κs. search rules) (λ c κs. search rules) returns (λ c κs. search rules) (λ c κs. search rules) returns-2)

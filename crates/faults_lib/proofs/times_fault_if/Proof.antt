@@ -2,11 +2,12 @@ use borrow.Author.Rules.{rules}
 use Rattle.faults_lib.proofs.times_fault_if.Statement.{statement}
 use Rattle.faults_lib.proofs.times_fault_if.Tie as tie
 
-returns : tie.Need-returns
-returns c = rw c.before.if1.true c.times-fault.ensures
+returns : tie.Need-returns-then-timed
+returns c = rw c.if-timed.true c.times_fault.ensures
 
-returns-2 : tie.Need-returns-2
-returns-2 c = rw c.before.if1.false c.no-fault.ensures
+returns-2 : tie.Need-returns
+returns-2 c = rw c.if-timed.false c.no_fault.ensures
 
-pub times-fault-if-spec : {M : Type 1} → statement M
-times-fault-if-spec = tie.close (tie.spec (λ c κs. search rules) returns (λ c κs. search rules) returns-2)
+pub times_fault_if_spec : {M : Type 1} → statement M
+times_fault_if_spec = tie.close (tie.spec
+    (λ c κs. search rules) returns (λ c κs. search rules) returns-2)

@@ -4,11 +4,12 @@ use borrow.Author.Rules.{rules}
 use Rattle.faults_lib.proofs.write_found.Statement.{statement}
 use Rattle.faults_lib.proofs.write_found.Tie as tie
 
-returns : tie.Need-returns
-returns c = rw (eq-eqb _ _ c.if1.true) (none _ 0)
+returns : tie.Need-returns-then-fault-eq0
+returns c = rw (eq-eqb _ _ c.if-fault-eq0.true) (none _ 0)
 
-returns-2 : tie.Need-returns-2
-returns-2 c = rw (ne_eqb _ _ c.before.before.before.before.if1.false) c.before.before.write-fault.ensures
+returns-2 : tie.Need-returns
+returns-2 c = rw (ne_eqb _ _ c.if-fault-eq0.false) c.write_fault.ensures
 
-pub write-found-spec : {M : Type 1} → statement M
-write-found-spec = tie.close (tie.spec returns (λ c κs. search rules) (λ c. search rules) returns-2)
+pub write_found_spec : {M : Type 1} → statement M
+write_found_spec = tie.close (tie.spec
+    returns (λ c κs. search rules) (λ c. search rules) returns-2)

@@ -16,39 +16,40 @@ use Rattle.foretell_lib.proofs.Papers.{fault-so, told-so, told-small}
 use Rattle.foretell_lib.proofs.foretell.Statement.{statement}
 use Rattle.foretell_lib.proofs.foretell.Tie as tie
 
-returns : tie.Need-returns
-returns c = fault-so _ _ c.before.before.read-paper.ensures.0 c.if1.true
+returns : tie.Need-returns-then-fault-ne0
+returns c = fault-so _ _ c.read_paper-fault.ensures.0 c.if-fault-ne0.true
 
 -- the paper that was lent, and what the words say of it
-abbrev lent : tie.After-foretell-program → Paper
+abbrev lent : tie.After-foretell_program-told → Paper
 lent f =
-    let a = f.before.before.before.before.before.before.before.before.before.before.before.before.before.before.args in
+    let a = f.args in
     paper a.sheet.now a.given a.start.now
 
-abbrev said : tie.After-foretell-program → Tables × Program × Configuration
+abbrev said : tie.After-foretell_program-told → Tables × Program × Configuration
 said f =
-    let w = f.before.before.before.before.before.before.before.read-paper.new.1.1.1 in
+    let w = f.read_paper-fault.new.1.1.1 in
     (tables_in w.0, program_from w.1.0 w.1.1.1.0, state_in w.1.1.0)
 
-is_read : (f : tie.After-foretell-program) → paper_course (lent f) ≡ reached (said f)
+is_read : (f : tie.After-foretell_program-told) → paper_course (lent f) ≡ reached (said f)
 is_read f =
-    let e = f.before.before.before.before.before.before.before.read-paper.ensures in
-    said-reached (lent f) (said f) (sym (ap (λ (x : PaperFault). x.refused) e.0) ∙ f.before.before.before.before.before.if1.false) e.1
+    let e = f.read_paper-fault.ensures in
+    said-reached (lent f) (said f) (sym (ap (λ (x : PaperFault). x.refused) e.0) ∙ f.if-fault-ne0.false) e.1
 
-told : (f : tie.After-foretell-program) → told_of f.foretell-program.result ≡ foretold (said f).0 (said f).1 (said f).2
-told f = f.foretell-program.ensures (paper-fits (lent f) (said f) (is_read f))
+told : (f : tie.After-foretell_program-told) → told_of f.foretell_program-told.result ≡ foretold (said f).0 (said f).1 (said f).2
+told f = f.foretell_program-told.ensures (paper-fits (lent f) (said f) (is_read f))
 
-cast-t22 : tie.Need-overflow-cast-t22
+cast-t22 : tie.Need-overflow_cast-result
 cast-t22 c =
-    let f = c.before.before.before in
-    let h = told-small (lent f) (said f) (is_read f) _ (told f) in
+    let f = c in
+    let h = told-small (lent c.before.before.before) (said c.before.before.before) (is_read c.before.before.before) _ (told c.before.before.before) in
     search (rules, h)
 
-returns-2 : tie.Need-returns-2
+returns-2 : tie.Need-returns
 unfolding instruction_line
 returns-2 c =
-    let f = c.before.before.before in
-    told-so (lent f) (said f) (is_read f) _ (told f) _ c.before.foretold-line.ensures
+    let f = c in
+    told-so (lent c.before.before.before) (said c.before.before.before) (is_read c.before.before.before) _ (told c.before.before.before) _ c.foretold_line-line.ensures
 
-pub foretell-spec : {M : Type 1} → statement M
-foretell-spec = tie.close (tie.spec (λ c κs. search rules) returns (λ c κs. search rules) (λ c κs. search rules) cast-t22 returns-2)
+pub foretell_spec : {M : Type 1} → statement M
+foretell_spec = tie.close (tie.spec
+    (λ c κs. search rules) returns (λ c κs. search rules) (λ c κs. search rules) cast-t22 returns-2)

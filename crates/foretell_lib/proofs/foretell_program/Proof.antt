@@ -6,7 +6,8 @@ use Rattle.foretell_lib.proofs.foretell_program.Tie as tie
 
 returns : tie.Need-returns
 unfolding foretold
-returns c = λ fits. c.foretell-names.ensures fits ∙ ap (foretold_from _ _ _) c.before.before.keep-names.ensures
+returns c = λ fits. c.foretell_names.ensures fits ∙ ap (foretold_from _ _ _) c.keep_names.ensures
 
-pub foretell-program-spec : {M : Type 1} → statement M
-foretell-program-spec = tie.close (tie.spec (λ c κs. search rules) (λ c κs. search rules) returns)
+pub foretell_program_spec : {M : Type 1} → statement M
+foretell_program_spec = tie.close (tie.spec
+    (λ c κs. search rules) (λ c κs. search rules) returns)

@@ -5,16 +5,17 @@ use Rattle.foretell_spec.specs.Lines.{instruction_line}
 use Rattle.foretell_lib.proofs.foretold_line.Statement.{statement}
 use Rattle.foretell_lib.proofs.foretold_line.Tie as tie
 
-returns : tie.Need-returns
-returns c = rw (eq-eqb _ _ c.if1.true) refl
+returns : tie.Need-returns-then-refused-eq0
+returns c = rw (eq-eqb _ _ c.if-refused-eq0.true) refl
 
-returns-2 : tie.Need-returns-2
+returns-2 : tie.Need-returns
 unfolding instruction_line
 returns-2 c =
-    let l = c.before in
-    let i = l.before.before in
-    rw (ne_eqb _ _ i.before.if1.false, ← i.instructions.ensures, ← l.before.fewer.ensures, ← l.line-number.ensures) c.less.ensures
+    let l = c in
+    let i = c in
+    rw (ne_eqb _ _ i.if-refused-eq0.false, ← i.instructions.ensures, ← l.fewer-left.ensures, ← l.line_number.ensures) c.less.ensures
 
-pub foretold-line-spec : {M : Type 1} → statement M
-foretold-line-spec =
-    tie.close (tie.spec returns (λ c κs. search rules) (λ c κs. search rules) (λ c κs. search rules) (λ c. search rules) (λ c κs. search rules) returns-2)
+pub foretold_line_spec : {M : Type 1} → statement M
+foretold_line_spec =
+    tie.close (tie.spec
+    returns (λ c κs. search rules) (λ c κs. search rules) (λ c κs. search rules) (λ c. search rules) (λ c κs. search rules) returns-2)

@@ -3,5 +3,6 @@ use borrow.Author.Rules.{rules}
 use Rattle.form_cells.proofs.cell_byte.Statement.{statement}
 use Rattle.form_cells.proofs.cell_byte.Tie as tie
 
-pub cell-byte-spec : {M : Type 1} → statement M
-cell-byte-spec = tie.close (tie.spec (λ c. rw (eq-eqb _ _ c.if1.true)) (λ c. rw (ne_eqb _ _ c.if1.false)))
+pub cell_byte_spec : {M : Type 1} → statement M
+cell_byte_spec = tie.close (tie.spec
+    (λ c. rw (eq-eqb _ _ c.if-c-eq61.true)) (λ c. rw (ne_eqb _ _ c.if-c-eq61.false)))

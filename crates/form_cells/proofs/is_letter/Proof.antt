@@ -4,10 +4,10 @@ use Rattle.form_cells.specs.Cells.{letter}
 use Rattle.form_cells.proofs.is_letter.Statement.{statement}
 use Rattle.form_cells.proofs.is_letter.Tie as tie
 
-pub is-letter-spec : {M : Type 1} → statement M
+pub is_letter_spec : {M : Type 1} → statement M
 unfolding letter
-is-letter-spec =
+is_letter_spec =
     tie.close
-    (tie.spec (λ c. rw (lt-leb 97 c.before.args.c (omega arith)))
-    (λ c. let b = c.before.before.args.c in rw (le-leb 97 b (omega arith), lt-leb b 122 (omega arith)))
-    (λ c. let b = c.before.before.args.c in rw (le-leb 97 b (omega arith), le-leb b 122 (omega arith))))
+    (tie.spec
+    (λ c. rw (lt-leb 97 c.args.c (omega arith))) (λ c. let b = c.args.c in rw (le-leb 97 b (omega arith), lt-leb b 122 (omega arith)))
+    (λ c. let b = c.args.c in rw (le-leb 97 b (omega arith), le-leb b 122 (omega arith))))

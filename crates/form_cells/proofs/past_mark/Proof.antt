@@ -6,9 +6,10 @@ use borrow.Author.Rules.{rules}
 use Rattle.form_cells.proofs.past_mark.Statement.{statement}
 use Rattle.form_cells.proofs.past_mark.Tie as tie
 
-pub past-mark-spec : {M : Type 1} → statement M
-past-mark-spec =
+pub past_mark_spec : {M : Type 1} → statement M
+past_mark_spec =
     tie.close
-    (tie.spec (λ c. search rules) (λ c κs. search rules) (λ c. search rules) (λ c. search rules)
-    (λ c. (omega arith, not-marked _ (told due_says _ c.before.before.past-key.ensures c.enum_told.given.1).same))
-    (λ c. let h = told due_says _ c.before.before.before.past-key.ensures c.before.start.given.1 in (h.within, marked _ h.same)))
+    (tie.spec
+    (λ c κs. search rules) (λ c. search rules) (λ c. search rules)
+    (λ c. (omega arith, not-marked _ (told due_says _ c.past_key.ensures c.in_default.is).same))
+    (λ c. let h = told due_says _ c.past_key.ensures c.in-Past.is in (h.within, marked _ h.same)))

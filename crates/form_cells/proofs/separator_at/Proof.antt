@@ -3,9 +3,9 @@ use borrow.Author.Tests.{eq-eqb, ne_eqb}
 use Rattle.form_cells.proofs.separator_at.Statement.{statement}
 use Rattle.form_cells.proofs.separator_at.Tie as tie
 
-pub separator-at-spec : {M : Type 1} → statement M
-separator-at-spec =
+pub separator_at_spec : {M : Type 1} → statement M
+separator_at_spec =
     tie.close
-    (tie.spec (λ c. rw (eq-eqb _ _ c.if1.true))
-    (λ c. rw (eq-eqb _ _ c.if2.true, or-true))
-    (λ c. rw (ne_eqb _ _ c.before.if1.false, ne_eqb _ _ c.if2.false)))
+    (tie.spec
+    (λ c. rw (eq-eqb _ _ c.if-c-eq59.true)) (λ c. rw (eq-eqb _ _ c.if-c-eq9.true, or-true))
+    (λ c. rw (ne_eqb _ _ c.if-c-eq59.false, ne_eqb _ _ c.if-c-eq9.false)))

@@ -9,16 +9,16 @@ use borrow.Author.Rules.{rules}
 use Rattle.form_cells.proofs.write_commas.Statement.{statement}
 use Rattle.form_cells.proofs.write_commas.Tie as tie
 
-abbrev invariant-loop : tie.invariant-loop
+abbrev invariant-loop : tie.invariant-loop-i
 invariant-loop out₀ at count end₀ i₀ out end i = (i ≤ count) × Written out₀ (replicate i 44) out at end
 
-abbrev decreases-loop : tie.decreases-loop
+abbrev decreases-loop : tie.decreases-loop-i
 decreases-loop out₀ at count end₀ i₀ out end i = count - i
 
-pub write-commas-spec : {M : Type 1} → statement M
-write-commas-spec =
+pub write_commas_spec : {M : Type 1} → statement M
+write_commas_spec =
     tie.close
-    (tie.spec invariant-loop decreases-loop (λ c. (omega arith, none _ _)) (λ c κs. search rules) (λ c. search rules) (λ c. search rules)
-    (λ c. (omega arith, rw (one-comma c.before.before.before.before.before.loop.i 44) (then c.before.before.before.before.before.loop.invariant.1 c.before.before.write_byte.ensures)))
-    (λ c. length-written c.before.loop.invariant.1)
-    (λ c. let e : c.before.loop.i ≡ c.before.before.before.args.count = omega (arith, c.before.loop.invariant.0, c.loop-test.false) in rw e at c.before.loop.invariant.1))
+    (tie.spec
+    invariant-loop decreases-loop (λ c. (omega arith, none _ _)) (λ c κs. search rules) (λ c. search rules) (λ c. search rules)
+    (λ c. (omega arith, rw (one-comma c.loop-i.i 44) (then c.loop-i.invariant.1 c.write_byte-end.ensures))) (λ c. length-written c.loop-i.invariant.1)
+    (λ c. let e : c.loop-i.i ≡ c.args.count = omega (arith, c.loop-i.invariant.0, c.loop-i-test.false) in rw e at c.loop-i.invariant.1))

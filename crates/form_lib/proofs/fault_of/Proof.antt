@@ -3,8 +3,9 @@ use borrow.Author.Rules.{rules}
 use Rattle.form_lib.proofs.fault_of.Statement.{statement}
 use Rattle.form_lib.proofs.fault_of.Tie as tie
 
-pub fault-of-spec : {M : Type 1} → statement M
-fault-of-spec =
+pub fault_of_spec : {M : Type 1} → statement M
+fault_of_spec =
     tie.close
-    (tie.spec (λ c. fault-none _ _ _ c.if1.true) (λ c κs. search rules)
-    (λ c. fault-some _ _ _ c.before.if1.false _ c.line-number.ensures))
+    (tie.spec
+    (λ c. fault-none _ _ _ c.if-refused-le-TOO_LONG.true) (λ c κs. search rules)
+    (λ c. fault-some _ _ _ c.if-refused-le-TOO_LONG.false _ c.line_number-line.ensures))

@@ -6,11 +6,12 @@ use Rattle.form_lib.proofs.read_lines.Tie as tie
 
 returns : tie.Need-returns
 returns c =
-    let s = c.before.before.before.before.before.before.before.before.args.text.now in
-    said-so form_read _ _ (looked-is s _ c.before.before.before.before.before.before.looked-at.ensures) c.before.before.fill-form.ensures c.fault-of.ensures
+    let s = c.args.text.now in
+    said-so form_read _ _ (looked-is s _ c.looked_at-n.ensures) c.fill_form-read.ensures c.fault_of.ensures
 
-pub read-lines-spec : {M : Type 1} → statement M
-read-lines-spec =
+pub read_lines_spec : {M : Type 1} → statement M
+read_lines_spec =
     tie.close
-    (tie.spec (λ c κs. search rules) (λ c. looked-long _ _ c.before.looked-at.ensures) (λ c κs. search rules)
-    (λ c. looked-long _ _ c.before.before.before.before.before.looked-at.ensures) (λ c κs. search rules) returns)
+    (tie.spec
+    (λ c κs. search rules) (λ c. looked-long _ _ c.looked_at-n.ensures) (λ c κs. search rules) (λ c. looked-long _ _ c.looked_at-n.ensures)
+    (λ c κs. search rules) returns)

@@ -10,11 +10,12 @@ use Rattle.form_lib.proofs.read_rows.Tie as tie
 
 returns : tie.Need-returns
 returns c =
-    let w = c.before.before.before.before.before.before.write-lines.ensures.0 in
-    c.read-lines.ensures
-    ∙ ap (λ (l : List ℕ). lines_said (looked_at l)) (lines_are _ _ _ _ w c.before.before.before.before.before.before.before.before.before.before.requires)
+    let w = c.write_lines-used.ensures.0 in
+    c.read_lines.ensures
+    ∙ ap (λ (l : List ℕ). lines_said (looked_at l)) (lines_are _ _ _ _ w c.requires)
 
-pub read-rows-spec : {M : Type 1} → statement M
-read-rows-spec =
+pub read_rows_spec : {M : Type 1} → statement M
+read_rows_spec =
     tie.close
-    (tie.spec (λ c κs. search rules) (λ c. search rules) (λ c. search rules) (λ c κs. search rules) (λ c. search rules) returns)
+    (tie.spec
+    (λ c κs. search rules) (λ c. search rules) (λ c. search rules) (λ c κs. search rules) (λ c. search rules) returns)

@@ -6,9 +6,9 @@ use borrow.Author.Rules.{rules}
 use Rattle.form_lib.proofs.read_sheet.Statement.{statement}
 use Rattle.form_lib.proofs.read_sheet.Tie as tie
 
-pub read-sheet-spec : {M : Type 1} → statement M
+pub read_sheet_spec : {M : Type 1} → statement M
 unfolding sheet_said
-read-sheet-spec =
+read_sheet_spec =
     tie.close
-    (tie.spec (λ c κs. search rules) (λ c κs. search rules)
-    (λ c. said-so sheet_read _ _ refl c.before.fill-sheet.ensures c.fault-of.ensures))
+    (tie.spec
+    (λ c κs. search rules) (λ c κs. search rules) (λ c. said-so sheet_read _ _ refl c.fill_sheet-read.ensures c.fault_of.ensures))

@@ -6,13 +6,13 @@ use borrow.Author.Rules.{rules}
 use Rattle.form_lib.proofs.write_draft.Statement.{statement}
 use Rattle.form_lib.proofs.write_draft.Tie as tie
 
-pub write-draft-spec : {M : Type 1} → statement M
-write-draft-spec =
+pub write_draft_spec : {M : Type 1} → statement M
+write_draft_spec =
     tie.close
-    (tie.spec (λ c κs. search rules)
-    (λ c. (refused-so _ _ _ _ c.before.before.read-for.ensures c.if1.true, (search rules, refl)))
-    (λ c κs. search rules) (λ c. search rules)
+    (tie.spec
+    (λ c κs. search rules) (λ c. (refused-so _ _ _ _ c.read_for-fault.ensures c.if-fault-ne0.true, (search rules, refl))) (λ c κs. search rules)
+    (λ c. search rules)
     (λ c.
-    let w = c.before.before.write-for.ensures in
+    let w = c.write_for-written.ensures in
     let l = penned-within w in
-    (written-so _ _ _ _ c.before.before.before.before.before.before.before.before.read-for.ensures c.before.before.before.before.before.before.if1.false _ _ _ w, (l, sym (length-take-le _ _ l)))))
+    (written-so _ _ _ _ c.read_for-fault.ensures c.if-fault-ne0.false _ _ _ w, (l, sym (length-take-le _ _ l)))))

@@ -2,9 +2,9 @@ use borrow.Author.Rules.{rules}
 use Rattle.form_lib.proofs.write_for.Statement.{statement}
 use Rattle.form_lib.proofs.write_for.Tie as tie
 
-pub write-for-spec : {M : Type 1} → statement M
-write-for-spec =
+pub write_for_spec : {M : Type 1} → statement M
+write_for_spec =
     tie.close
-    (tie.spec (λ c. search rules) (λ c κs. search rules) (λ c. search rules) (λ c κs. search rules) (λ c. search rules)
-    (λ c. rw c.before.before.before.before.enum_told.given.1 c.before.before.write-sheet.ensures) (λ c. search rules)
-    (λ c. rw c.before.before.before.before.enum-told2.given.1 c.before.before.write-form.ensures))
+    (tie.spec
+    (λ c. search rules) (λ c κs. search rules) (λ c. search rules) (λ c κs. search rules) (λ c. search rules)
+    (λ c. rw c.in-Sheet.is c.write_sheet.ensures) (λ c. search rules) (λ c. rw c.in-Form.is c.write_form.ensures))

@@ -260,9 +260,9 @@ hall-meets : {M : Type 1} {𝓤 : Ura M} (𝓛 : Logic 𝓤) (at_mem : Memory �
     → Meets 𝓛 hall.signature (WpFn 𝓤 𝓛.H 𝓣.C 𝓣.Λ code.function) (hall.spec 𝓛 at_mem run)
 hall-meets {𝓤 = 𝓤} 𝓛 at_mem run 𝓣 known = walk_Meets 𝓛 hall.ended stayed (goes 𝓛 at_mem run) (hall.clauses 𝓛 at_mem run) (WpFn 𝓤 𝓛.H 𝓣.C 𝓣.Λ code.function) (WpFn-mono 𝓤 𝓛.H 𝓛.laws 𝓣 code.function) (hall-walks 𝓛 at_mem run 𝓣.C 𝓣.Λ (fm_of 𝓤 𝓛.H 𝓛.laws 𝓣) known)
 
-pub hall-spec : {M : Type 1} → stated.statement M
+pub hall_spec : {M : Type 1} → stated.statement M
 unfolding code.routine tables_of
-hall-spec 𝓤 𝓛 𝓜 𝓡 =
+hall_spec 𝓤 𝓛 𝓜 𝓡 =
     entered 𝓤 𝓛.H (triple_of 𝓛 hall.signature (hall.spec 𝓛 𝓜.mem 𝓡.run))
     (tables 𝓤 𝓛.H 𝓜 𝓡 code.env).C (tables 𝓤 𝓛.H 𝓜 𝓡 code.env).Λ #own code.function (code.unfolded 𝓤 𝓛.H 𝓜 𝓡)
     (hall-meets 𝓛 𝓜.mem 𝓡.run (tables_of 𝓤 𝓛.H 𝓜 (tables 𝓤 𝓛.H 𝓜 𝓡 code.env))

@@ -21,15 +21,16 @@ module _ (x y z a b c d : Bool) (p : x ≡ a) (q : y ≡ b) (r : z ≡ c) where
   passes e o f = rw (← after, not-false (x && (y && z)) e) f
 
 -- the program in a sheet of as many types as the tables have
-program : (c : tie.After-program-lawful)
-    → let s = c.before.before.args in c.program-lawful.result ≡ (eqb (program_in s.program.now).edition 1 && program_lawful (tables_in s.tables.now).count (program_in s.program.now))
-program c = rw c.before.types.ensures at c.program-lawful.ensures
+program : (c : tie.After-program_lawful-program_law)
+    → let s = c.args in c.program_lawful-program_law.result ≡ (eqb (program_in s.program.now).edition 1 && program_lawful (tables_in s.tables.now).count (program_in s.program.now))
+program c = rw c.types.ensures at c.program_lawful-program_law.ensures
 
-pub lent-lawful-spec : {M : Type 1} → statement M
+pub lent_lawful_spec : {M : Type 1} → statement M
 unfolding lent_lawful
-lent-lawful-spec =
+lent_lawful_spec =
     tie.close
-    (tie.spec (λ c κs. search rules) (λ c κs. search rules) (λ c κs. search rules) (λ c κs. search rules)
-    (λ c. let s = c.before in fails _ _ _ _ _ _ _ s.before.tables-lawful.ensures (program s.before.before) s.step-lawful.ensures c.if1.true)
+    (tie.spec
+    (λ c κs. search rules) (λ c κs. search rules) (λ c κs. search rules) (λ c κs. search rules)
+    (λ c. let s = c in fails _ _ _ _ _ _ _ s.tables_lawful.ensures (program c.before.before.before) s.step_lawful.ensures c.if-not-first.true)
     (λ c. search rules) (λ c κs. search rules)
-    (λ c. let s = c.before.before in passes _ _ _ _ _ _ _ s.before.tables-lawful.ensures (program s.before.before) s.step-lawful.ensures c.before.if1.false _ c.configuration-lawful.ensures))
+    (λ c. let s = c in passes _ _ _ _ _ _ _ s.tables_lawful.ensures (program c.before.before.before.before) s.step_lawful.ensures c.if-not-first.false _ c.configuration_lawful.ensures))

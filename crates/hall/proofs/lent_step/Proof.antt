@@ -10,15 +10,16 @@ use Rattle.hall.proofs.Words.{broken-left, ruled-left}
 use Rattle.hall.proofs.lent_step.Statement.{statement}
 use Rattle.hall.proofs.lent_step.Tie as tie
 
-returns : tie.Need-returns
-returns c = broken-left _ _ _ _ _ c.before.before.lent-lawful.ensures c.before.if1.true _ c.about-none.ensures
+returns : tie.Need-returns-then-not-lent_lawful
+returns c = broken-left _ _ _ _ _ c.lent_lawful.ensures c.if-not-lent_lawful.true _ c.about_none.ensures
 
-returns-2 : tie.Need-returns-2
+returns-2 : tie.Need-returns
 returns-2 c =
-    let e = c.before.before.before in
-    let a = e.before.before.before.args in
-    ruled-left _ _ _ _ _ e.before.lent-lawful.ensures e.if1.false _ _
+    let e = c in
+    let a = c.args in
+    ruled-left _ _ _ _ _ e.lent_lawful.ensures e.if-not-lent_lawful.false _ _
     (c.step.ensures ∙ ap (λ (p : Program). held_step default_depth (tables_in a.tables.now) p (state_in a.configuration.now) (step_of a.verb a.i a.n)) (from-none a.program.now 1))
 
-pub lent-step-spec : {M : Type 1} → statement M
-lent-step-spec = tie.close (tie.spec (λ c κs. search rules) (λ c κs. search rules) returns (λ c. search rules) (λ c. search rules) (λ c κs. search rules) returns-2)
+pub lent_step_spec : {M : Type 1} → statement M
+lent_step_spec = tie.close (tie.spec
+    (λ c κs. search rules) (λ c κs. search rules) returns (λ c. search rules) (λ c. search rules) (λ c κs. search rules) returns-2)

@@ -6,8 +6,9 @@ use Rattle.hall_configuration.proofs.configuration_lawful.Tie as tie
 returns : tie.Need-returns
 unfolding configuration_lawful
 returns c =
-    let i = c.before in
-    rw (← i.before.before.instances-lawful.ensures, ← c.connections-lawful.ensures, ← i.instructions.ensures, ← i.before.done.ensures)
+    let i = c in
+    rw (← i.instances_lawful-instances.ensures, ← c.connections_lawful.ensures, ← i.instructions.ensures, ← i.done.ensures)
 
-pub configuration-lawful-spec : {M : Type 1} → statement M
-configuration-lawful-spec = tie.close (tie.spec (λ c κs. search rules) (λ c κs. search rules) (λ c κs. search rules) (λ c κs. search rules) returns)
+pub configuration_lawful_spec : {M : Type 1} → statement M
+configuration_lawful_spec = tie.close (tie.spec
+    (λ c κs. search rules) (λ c κs. search rules) (λ c κs. search rules) (λ c κs. search rules) returns)

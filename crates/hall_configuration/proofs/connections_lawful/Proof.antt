@@ -12,43 +12,45 @@ use borrow.Author.Rules.{rules}
 use Rattle.hall_configuration.proofs.connections_lawful.Statement.{statement}
 use Rattle.hall_configuration.proofs.connections_lawful.Tie as tie
 
-abbrev invariant-loop : tie.invariant-loop
+abbrev invariant-loop : tie.invariant-loop-s
 invariant-loop tables state s₀ s = Passed 512 (lawful_at (tables_in tables) (state_in state) (state_in state).servers) s
 
-abbrev decreases-loop : tie.decreases-loop
+abbrev decreases-loop : tie.decreases-loop-s
 decreases-loop tables state s₀ s = 512 - s
 
-returns : tie.Need-returns invariant-loop decreases-loop
+returns : tie.Need-returns-then-entries-gt64 invariant-loop decreases-loop
 unfolding connections_lawful
-returns c = rw (← c.before.entries.ensures.0, lt-leb _ _ c.if1.true)
+returns c = rw (← c.entries.ensures.0, lt-leb _ _ c.if-entries-gt64.true)
 
 -- few enough, and so by each use port
-each : (e : tie.Else1 invariant-loop decreases-loop) (r : Bool)
-    → let s = e.before.before.args in
+each : (e : tie.Else-entries-gt64 invariant-loop decreases-loop) (r : Bool)
+    → let s = e.args in
     r ≡ all_below 512 (lawful_at (tables_in s.tables.now) (state_in s.state.now) (state_in s.state.now).servers)
     → r ≡ connections_lawful (tables_in s.tables.now) (state_in s.state.now)
 unfolding connections_lawful
 each e r is =
-    let s = e.before.before.args in
-    rw (← e.before.entries.ensures.0, le-leb _ _ e.if1.false) (is ∙ sym (lawful-all (tables_in s.tables.now) (state_in s.state.now) _ (servers-length _)))
+    let s = e.args in
+    rw (← e.entries.ensures.0, le-leb _ _ e.if-entries-gt64.false) (is ∙ sym (lawful-all (tables_in s.tables.now) (state_in s.state.now) _ (servers-length _)))
 
-loop-holds : tie.Need-loop-init invariant-loop decreases-loop
+loop-holds : tie.Need-loop-s-init invariant-loop decreases-loop
 loop-holds c = none_yet _ _
 
-returns-2 : tie.Need-returns-2 invariant-loop decreases-loop
+returns-2 : tie.Need-returns-then-not-connection_lawful invariant-loop decreases-loop
 returns-2 c =
-    let l = c.before.before.before in
-    each l.before _ (one-fails _ _ l.loop.s _ c.before.before.loop-test.true c.before.connection-lawful.ensures c.if2.true)
+    let l = c in
+    each c.before.before.before.before _ (one-fails _ _ l.loop-s.s _ c.loop-s-test.true c.connection_lawful.ensures c.if-not-connection_lawful.true)
 
-loop-again : tie.Need-loop-preserved invariant-loop decreases-loop
+loop-again : tie.Need-loop-s-preserved invariant-loop decreases-loop
 loop-again c =
-    let l = c.before.before.before in
-    one_more _ _ l.loop.s _ c.before.before.loop-test.true c.before.connection-lawful.ensures l.loop.invariant c.if2.false
+    let l = c in
+    one_more _ _ l.loop-s.s _ c.loop-s-test.true c.connection_lawful.ensures l.loop-s.invariant c.if-not-connection_lawful.false
 
-returns-3 : tie.Need-returns-3 invariant-loop decreases-loop
-returns-3 c = let l = c.before in each l.before _ (all-passed _ _ l.loop.s l.loop.invariant c.loop-test.false)
+returns-3 : tie.Need-returns invariant-loop decreases-loop
+returns-3 c = let l = c in each c.before.before _ (all-passed _ _ l.loop-s.s l.loop-s.invariant c.loop-s-test.false)
 
-pub connections-lawful-spec : {M : Type 1} → statement M
-connections-lawful-spec =
+pub connections_lawful_spec : {M : Type 1} → statement M
+connections_lawful_spec =
     tie.close
-    (tie.spec invariant-loop decreases-loop (λ c κs. search rules) returns loop-holds (λ c κs. search rules) returns-2 (λ c. search rules) (λ c. search rules) loop-again returns-3)
+    (tie.spec
+    invariant-loop decreases-loop (λ c κs. search rules) returns loop-holds (λ c κs. search rules) returns-2 (λ c. search rules) (λ c. search rules)
+    loop-again returns-3)

@@ -5,7 +5,8 @@ use Rattle.hall_configuration.proofs.ends_lawful.Tie as tie
 
 returns : tie.Need-returns
 unfolding ends_lawful
-returns c = rw (← c.before.before.before.present.ensures, ← c.before.before.present2.ensures, ← c.before.is-port.ensures, ← c.is-port2.ensures)
+returns c = rw (← c.present-user.ensures, ← c.present-provider.ensures, ← c.is_port-uses.ensures, ← c.is_port-provides.ensures)
 
-pub ends-lawful-spec : {M : Type 1} → statement M
-ends-lawful-spec = tie.close (tie.spec (λ c κs. search rules) (λ c κs. search rules) (λ c κs. search rules) (λ c κs. search rules) returns)
+pub ends_lawful_spec : {M : Type 1} → statement M
+ends_lawful_spec = tie.close (tie.spec
+    (λ c κs. search rules) (λ c κs. search rules) (λ c κs. search rules) (λ c κs. search rules) returns)

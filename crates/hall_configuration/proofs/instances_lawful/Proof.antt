@@ -6,14 +6,16 @@ use borrow.Author.Rules.{rules}
 use Rattle.hall_configuration.proofs.instances_lawful.Statement.{statement}
 use Rattle.hall_configuration.proofs.instances_lawful.Tie as tie
 
-abbrev invariant-loop : tie.invariant-loop
+abbrev invariant-loop : tie.invariant-loop-i
 invariant-loop default tables state i₀ i = Passed 32 (instance_lawful default (tables_in tables) (state_in state)) i
 
-abbrev decreases-loop : tie.decreases-loop
+abbrev decreases-loop : tie.decreases-loop-i
 decreases-loop default tables state i₀ i = 32 - i
 
-pub instances-lawful-spec : {M : Type 1} → statement M
-instances-lawful-spec = tie.close (tie.spec invariant-loop decreases-loop (λ c. none_yet _ _) (λ c κs. search rules)
-    (λ c. let l = c.before.before.before in one-fails _ _ l.loop.i _ c.before.before.loop-test.true c.before.instance-lawful.ensures c.if1.true) (λ c. search rules) (λ c. search rules)
-    (λ c. let l = c.before.before.before in one_more _ _ l.loop.i _ c.before.before.loop-test.true c.before.instance-lawful.ensures l.loop.invariant c.if1.false)
-    (λ c. all-passed _ _ c.before.loop.i c.before.loop.invariant c.loop-test.false))
+pub instances_lawful_spec : {M : Type 1} → statement M
+instances_lawful_spec = tie.close (tie.spec
+    invariant-loop decreases-loop (λ c. none_yet _ _) (λ c κs. search rules)
+    (λ c. let l = c in one-fails _ _ l.loop-i.i _ c.loop-i-test.true c.instance_lawful.ensures c.if-not-instance_lawful.true) (λ c. search rules)
+    (λ c. search rules)
+    (λ c. let l = c in one_more _ _ l.loop-i.i _ c.loop-i-test.true c.instance_lawful.ensures l.loop-i.invariant c.if-not-instance_lawful.false)
+    (λ c. all-passed _ _ c.loop-i.i c.loop-i.invariant c.loop-i-test.false))

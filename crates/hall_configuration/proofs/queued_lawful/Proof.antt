@@ -5,7 +5,8 @@ use Rattle.hall_configuration.proofs.queued_lawful.Tie as tie
 
 returns : tie.Need-returns
 unfolding queued_lawful
-returns c = rw (← c.before.before.slot.ensures, ← c.before.kind.ensures, ← c.behaviors-of.ensures)
+returns c = rw (← c.slot.ensures, ← c.kind.ensures, ← c.behaviors_of.ensures)
 
-pub queued-lawful-spec : {M : Type 1} → statement M
-queued-lawful-spec = tie.close (tie.spec (λ c κs. search rules) (λ c κs. search rules) (λ c κs. search rules) returns)
+pub queued_lawful_spec : {M : Type 1} → statement M
+queued_lawful_spec = tie.close (tie.spec
+    (λ c κs. search rules) (λ c κs. search rules) (λ c κs. search rules) returns)

@@ -4,7 +4,8 @@ use borrow.Author.Rules.{rules}
 use Rattle.hall_lawful.proofs.instruction_lawful.Statement.{statement}
 use Rattle.hall_lawful.proofs.instruction_lawful.Tie as tie
 
-pub instruction-lawful-spec : {M : Type 1} → statement M
+pub instruction_lawful_spec : {M : Type 1} → statement M
 unfolding instruction_lawful
-instruction-lawful-spec =
-    tie.close (tie.spec (λ c κs. search rules) (λ c κs. search rules) (λ c. rw (← c.before.before.instruction.ensures, c.verb-lawful.ensures)))
+instruction_lawful_spec =
+    tie.close (tie.spec
+    (λ c κs. search rules) (λ c κs. search rules) (λ c. rw (← c.instruction-k.ensures, c.verb_lawful.ensures)))

@@ -4,16 +4,17 @@ use Rattle.hall_lawful.proofs.Heads.{head-fails, head-holds}
 use Rattle.hall_lawful.proofs.tables_lawful.Statement.{statement}
 use Rattle.hall_lawful.proofs.tables_lawful.Tie as tie
 
-returns : tie.Need-returns
+returns : tie.Need-returns-then-not-head
 returns c =
-    let d = c.before in
-    head-fails (tables_in d.before.before.args.tables.now) _ _ d.depth.ensures d.before.types.ensures c.if1.true
+    let d = c in
+    head-fails (tables_in d.args.tables.now) _ _ d.depth.ensures d.types-n.ensures c.if-not-head.true
 
-returns-2 : tie.Need-returns-2
+returns-2 : tie.Need-returns
 returns-2 c =
-    let e = c.before in
-    let d = e.before in
-    head-holds (tables_in d.before.before.args.tables.now) _ _ d.depth.ensures d.before.types.ensures e.if1.false _ c.types-lawful.ensures
+    let e = c in
+    let d = c in
+    head-holds (tables_in d.args.tables.now) _ _ d.depth.ensures d.types-n.ensures e.if-not-head.false _ c.types_lawful.ensures
 
-pub tables-lawful-spec : {M : Type 1} → statement M
-tables-lawful-spec = tie.close (tie.spec (λ c κs. search rules) (λ c κs. search rules) returns (λ c κs. search rules) returns-2)
+pub tables_lawful_spec : {M : Type 1} → statement M
+tables_lawful_spec = tie.close (tie.spec
+    (λ c κs. search rules) (λ c κs. search rules) returns (λ c κs. search rules) returns-2)

@@ -4,13 +4,14 @@ use Rattle.judge_verdicts.specs.Fits.{place_for}
 use Rattle.judge_verdicts.proofs.walk_place.Statement.{statement}
 use Rattle.judge_verdicts.proofs.walk_place.Tie as tie
 
-returns : tie.Need-returns
+returns : tie.Need-returns-then-fits
 unfolding place_for
-returns c = rw (c.before.if1.true, place_for) c.step-place.ensures
+returns c = rw (c.if-fits.true, place_for) c.step_place.ensures
 
-returns-2 : tie.Need-returns-2
+returns-2 : tie.Need-returns-else-fits
 unfolding place_for no_room
-returns-2 c = rw (c.before.if1.false, place_for) c.empty-at.ensures
+returns-2 c = rw (c.if-fits.false, place_for) c.empty_at.ensures
 
-pub walk-place-spec : {M : Type 1} → statement M
-walk-place-spec = tie.close (tie.spec (λ c κs. search rules) (λ c κs. search rules) returns returns-2)
+pub walk_place_spec : {M : Type 1} → statement M
+walk_place_spec = tie.close (tie.spec
+    (λ c κs. search rules) (λ c κs. search rules) returns returns-2)

@@ -4,5 +4,6 @@ use Rattle.judge_verdicts.proofs.walk_verdict.Tie as tie
 returns : tie.Need-returns
 returns x c e = rw e
 
-pub walk-verdict-spec : {M : Type 1} → statement M
-walk-verdict-spec = tie.close (tie.spec returns)
+pub walk_verdict_spec : {M : Type 1} → statement M
+walk_verdict_spec = tie.close (tie.spec
+    returns)

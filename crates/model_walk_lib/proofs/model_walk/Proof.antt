@@ -12,31 +12,32 @@ use Rattle.model_walk_lib.proofs.Papers.{fault-models, walk-models}
 use Rattle.model_walk_lib.proofs.model_walk.Statement.{statement}
 use Rattle.model_walk_lib.proofs.model_walk.Tie as tie
 
-returns : tie.Need-returns
+returns : tie.Need-returns-then-fault-ne0
 returns c =
-    let i = c.before in
-    let r = i.before.before in (
-      fault-models _ _ r.read-paper.result r.read-paper.ensures.0 i.if1.true _ c.no-model.ensures,
-      rw c.no-model.ensures (omega arith, refl),
+    let i = c in
+    let r = c in (
+      fault-models _ _ r.read_paper-fault.result r.read_paper-fault.ensures.0 i.if-fault-ne0.true _ c.no_model.ensures,
+      rw c.no_model.ensures (omega arith, refl),
     )
 
 -- the paper that was lent, and what the words say of it
-abbrev lent : tie.Else1 → Paper
-lent i = let a = i.before.before.before.before.before.before.before.before.before.before.args in paper a.sheet.now a.given a.start.now
+abbrev lent : tie.Else-fault-ne0 → Paper
+lent i = let a = i.args in paper a.sheet.now a.given a.start.now
 
-abbrev said : tie.Else1 → Said
-said i = let w = i.before.before.read-paper.new.1.1.1 in (tables_in w.0, program_from w.1.0 w.1.1.1.0, state_in w.1.1.0)
+abbrev said : tie.Else-fault-ne0 → Said
+said i = let w = i.read_paper-fault.new.1.1.1 in (tables_in w.0, program_from w.1.0 w.1.1.1.0, state_in w.1.1.0)
 
-is_read : (i : tie.Else1) → paper_course (lent i) ≡ reached (said i)
+is_read : (i : tie.Else-fault-ne0) → paper_course (lent i) ≡ reached (said i)
 is_read i =
-    let e = i.before.before.read-paper.ensures in
-    said-reached (lent i) (said i) (sym (ap (λ (x : PaperFault). x.refused) e.0) ∙ i.if1.false) e.1
+    let e = i.read_paper-fault.ensures in
+    said-reached (lent i) (said i) (sym (ap (λ (x : PaperFault). x.refused) e.0) ∙ i.if-fault-ne0.false) e.1
 
-returns-2 : tie.Need-returns-2
+returns-2 : tie.Need-returns
 returns-2 c =
-    let w = c.before.before in
-    let i = w.before.before.before.before.before.before in
-    (walk-models (lent i) _ (said i) (is_read i) _ _ (w.write-model.ensures.0 (paper-fits (lent i) (said i) (is_read i))), w.write-model.ensures.1)
+    let w = c in
+    let i = c in
+    (walk-models (lent c.before.before.before.before.before.before.before.before) _ (said c.before.before.before.before.before.before.before.before) (is_read c.before.before.before.before.before.before.before.before) _ _ (w.write_model.ensures.0 (paper-fits (lent c.before.before.before.before.before.before.before.before) (said c.before.before.before.before.before.before.before.before) (is_read c.before.before.before.before.before.before.before.before))), w.write_model.ensures.1)
 
-pub model-walk-spec : {M : Type 1} → statement M
-model-walk-spec = tie.close (tie.spec (λ c κs. search rules) (λ c κs. search rules) returns (λ c κs. search rules) (λ c. search rules) returns-2)
+pub model_walk_spec : {M : Type 1} → statement M
+model_walk_spec = tie.close (tie.spec
+    (λ c κs. search rules) (λ c κs. search rules) returns (λ c κs. search rules) (λ c. search rules) returns-2)

@@ -13,40 +13,42 @@ use Rattle.model_walk_lib.proofs.write_model.Statement.{statement}
 use Rattle.model_walk_lib.proofs.write_model.Tie as tie
 
 -- what the walk goes on from
-abbrev at : tie.After-put-steps → Said
-at s = let a = s.before.before.before.before.before.before.before.args in (tables_in a.tables.now, program_from a.program.now a.begun.now, state_in a.state.now)
+abbrev at : tie.After-put_steps → Said
+at s = let a = s.args in (tables_in a.tables.now, program_from a.program.now a.begun.now, state_in a.state.now)
 
-walked : (s : tie.After-put-steps) → PortsFit (at s).1
-    → Holds (at s) (answer_in s.put-steps.new.0) s.before.before.model-steps.result
+walked : (s : tie.After-put_steps) → PortsFit (at s).1
+    → Holds (at s) (answer_in s.put_steps.new.0) s.model_steps-steps.result
 walked s fits =
-    let m = s.before.before in
-    let e = m.model-steps.ensures in
-    held-so (at s) _ (answer_in m.model-steps.new.1.1.1.1.0) m.model-steps.result s.put-steps.ensures (answer-full _) e.0 (e.1 fits).0
+    let m = s in
+    let e = s.model_steps-steps.ensures in
+    held-so (at s) _ (answer_in m.model_steps-steps.new.1.1.1.1.0) m.model_steps-steps.result s.put_steps.ensures (answer-full _) e.0 (e.1 fits).0
 
-returns : tie.Need-returns
+returns : tie.Need-returns-then-text-ne0
 returns c =
-    let w = c.before.before.before.before.before in
-    let s = w.before.before.before.before.before in (
+    let w = c in
+    let s = c in (
       λ fits.
-          let h = walked s fits in
-          rw c.no-model.ensures (refused-so (at s) _ h.full h.few h.is w.write-answer.ensures c.before.if1.true),
-      rw c.no-model.ensures (omega arith, refl),
+          let h = walked c.before.before.before.before.before.before.before.before.before fits in
+          rw c.no_model.ensures (refused-so (at c.before.before.before.before.before.before.before.before.before) _ h.full h.few h.is w.write_answer-text.ensures c.if-text-ne0.true),
+      rw c.no_model.ensures (omega arith, refl),
     )
 
-returns-2 : tie.Need-returns-2
+returns-2 : tie.Need-returns
 unfolding all_done
 returns-2 c =
-    let w = c.before.before.before.before in
-    let g = w.before.before.before in
-    let s = g.before.before in
-    let m = s.before.before in (
+    let w = c in
+    let g = c in
+    let s = c in
+    let m = c in (
       λ fits.
-          let h = walked s fits in
-          written-so (at s) _ h.full h.few h.is w.write-answer.ensures c.if1.false _ _ _ h.size (m.model-steps.ensures.1 fits).1 g.Ending-of.ensures,
-      counted _ _ (penned-within w.write-answer.ensures),
+          let h = walked c.before.before.before.before.before.before.before.before fits in
+          written-so (at c.before.before.before.before.before.before.before.before) _ h.full h.few h.is w.write_answer-text.ensures c.if-text-ne0.false _ _ _ h.size (m.model_steps-steps.ensures.1 fits).1 g.Ending-of.ensures,
+      counted _ _ (penned-within w.write_answer-text.ensures),
     )
 
-pub write-model-spec : {M : Type 1} → statement M
-write-model-spec =
+pub write_model_spec : {M : Type 1} → statement M
+write_model_spec =
     tie.close
-    (tie.spec (λ c κs. search rules) (λ c κs. search rules) (λ c κs. search rules) (λ c κs. search rules) (λ c κs. search rules) (λ c. search rules) returns (λ c. search rules) returns-2)
+    (tie.spec
+    (λ c κs. search rules) (λ c κs. search rules) (λ c κs. search rules) (λ c κs. search rules) (λ c κs. search rules) (λ c. search rules) returns
+    (λ c. search rules) returns-2)

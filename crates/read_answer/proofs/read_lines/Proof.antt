@@ -10,12 +10,13 @@ use Rattle.read_answer.proofs.read_lines.Tie as tie
 returns : tie.Need-returns
 unfolding shortly answer answer_of no_answer
 returns c =
-    run-after _ _ c.before.before.before.before.before.before.before.before.before.length_run.ensures
-    (after_then _ _ c.before.before.before.before.before.before.before.then-due.ensures
-    (after_then _ _ c.before.before.before.before.before.then-number.ensures.0
-    (after_then _ _ (rw (c.before.before.before.put-steps.ensures, c.before.before.before.before.before.before.before.before.before.before.before.requires) at c.before.then-steps.ensures)
-    (after-give _ _ c.then-end.ensures))))
+    run-after _ _ c.length_run-length.ensures
+    (after_then _ _ c.then_due-first.ensures
+    (after_then _ _ c.then_number-count.ensures.0
+    (after_then _ _ (rw (c.put_steps.ensures, c.requires) at c.then_steps-steps.ensures)
+    (after-give _ _ c.then_end.ensures))))
 
-pub read-lines-spec : {M : Type 1} → statement M
-read-lines-spec =
-    tie.close (tie.spec (λ c κs. search rules) (λ c. search rules) (λ c κs. search rules) (λ c. search rules) (λ c κs. search rules) (λ c κs. search rules) (λ c κs. search rules) (λ c κs. search rules) returns)
+pub read_lines_spec : {M : Type 1} → statement M
+read_lines_spec =
+    tie.close (tie.spec
+    (λ c κs. search rules) (λ c κs. search rules) (λ c κs. search rules) (λ c κs. search rules) (λ c κs. search rules) (λ c κs. search rules) returns)

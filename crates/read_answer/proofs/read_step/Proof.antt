@@ -10,11 +10,14 @@ use borrow.Author.Rules.{rules}
 use Rattle.read_answer.proofs.read_step.Statement.{statement}
 use Rattle.read_answer.proofs.read_step.Tie as tie
 
-pub read-step-spec : {M : Type 1} → statement M
+pub read_step_spec : {M : Type 1} → statement M
 unfolding step_at
-read-step-spec =
+read_step_spec =
     tie.close
-    (tie.spec (λ c κs. search rules) (λ c. search rules) (λ c. search rules) (λ c. search rules) (λ c κs. search rules) (λ c. search rules) (λ c. search rules) (λ c κs. search rules)
-    (λ c. put_refused step_says step_line (with_step (answer_in c.before.before.before.before.before.before.before.args.answer.now) c.before.before.before.before.before.before.before.args.n) _ _ _ c.before.before.before.before.before.place_in.ensures _ c.before.before.before.step_line.ensures c.before.enum_told.given.1 refl c.step-refusal.ensures) (λ c κs. search rules)
-    (λ c. omega (arith, (put-line step_says step_line (with_step (answer_in c.before.before.before.before.before.before.before.before.before.args.answer.now) c.before.before.before.before.before.before.before.before.before.args.n) c.before.before.before.before.before.before.before.before.before.args.text.now c.before.before.before.before.before.before.before.before.before.args.start c.before.before.before.before.before.before.before.place_in.result c.before.before.before.before.before.before.before.place_in.ensures _ c.before.before.before.before.before.step_line.ensures c.before.before.before.line.given.1 refl).within))
-    (λ c. rw c.put_step.ensures (put-line step_says step_line (with_step (answer_in c.before.before.before.before.before.before.before.before.before.args.answer.now) c.before.before.before.before.before.before.before.before.before.args.n) _ _ _ c.before.before.before.before.before.before.before.place_in.ensures _ c.before.before.before.before.before.step_line.ensures c.before.before.before.line.given.1 refl)))
+    (tie.spec
+    (λ c κs. search rules) (λ c. search rules) (λ c. search rules) (λ c. search rules) (λ c κs. search rules) (λ c. search rules) (λ c. search rules)
+    (λ c κs. search rules)
+    (λ c. put_refused step_says step_line (with_step (answer_in c.args.answer.now) c.args.n) _ _ _ c.place_in-at.ensures _ c.step_line-line.ensures c.in_default.is refl c.step_refusal-refused.ensures)
+    (λ c κs. search rules)
+    (λ c. omega (arith, (put-line step_says step_line (with_step (answer_in c.args.answer.now) c.args.n) c.args.text.now c.args.start c.place_in-at.result c.place_in-at.ensures _ c.step_line-line.ensures c.in-Got.is refl).within))
+    (λ c. rw c.put_step.ensures (put-line step_says step_line (with_step (answer_in c.args.answer.now) c.args.n) _ _ _ c.place_in-at.ensures _ c.step_line-line.ensures c.in-Got.is refl)))

@@ -10,61 +10,60 @@ use Rattle.read_answer.proofs.Numbers.{id-is, number_is}
 use Rattle.read_answer.proofs.step_line.Statement.{statement}
 use Rattle.read_answer.proofs.step_line.Tie as tie
 
-no-next : (c : tie.After-enum-told) → key (bytes "step=next\n") c.before.before.before.before.before.args.s.now ≡ refused 2
-no-next c = sym (told due_says _ c.before.before.past-key.ensures c.enum_told.given.1).same
+no-next : (c : tie.In_default) → key (bytes "step=next\n") c.args.s.now ≡ refused 2
+no-next c = sym (told due_says _ c.past_key.ensures c.in_default.is).same
 
-no-fire : (c : tie.After-enum-told2) → key (bytes "step=fire,") c.before.before.before.before.before.before.before.before.before.args.s.now ≡ refused 2
-no-fire c = sym (told due_says _ c.before.before.past-key2.ensures c.enum-told2.given.1).same
+no-fire : (c : tie.In_default-past_key) → key (bytes "step=fire,") c.args.s.now ≡ refused 2
+no-fire c = sym (told due_says _ c.past_key-2.ensures c.in_default-past_key.is).same
 
-no_end : (c : tie.After-enum-told3) → key (bytes "step=end,") c.before.before.before.before.before.before.before.before.before.before.before.before.before.args.s.now ≡ refused 2
-no_end c = sym (told due_says _ c.before.before.past-key3.ensures c.enum-told3.given.1).same
+no_end : (c : tie.In_default-past_key-2) → key (bytes "step=end,") c.args.s.now ≡ refused 2
+no_end c = sym (told due_says _ c.past_key-3.ensures c.in_default-past_key-2.is).same
 
-no-enter : (c : tie.After-enum-told4) → key (bytes "step=enter,") c.before.before.before.before.before.before.before.before.before.before.before.before.before.before.before.before.before.args.s.now ≡ refused 2
-no-enter c = sym (told due_says _ c.before.before.past-key4.ensures c.enum-told4.given.1).same
+no-enter : (c : tie.In_default-past_key-3) → key (bytes "step=enter,") c.args.s.now ≡ refused 2
+no-enter c = sym (told due_says _ c.past_key-4.ensures c.in_default-past_key-3.is).same
 
-no_finish : (c : tie.After-enum-told5) → key (bytes "step=finish,") c.before.before.before.before.before.before.before.before.before.before.before.before.before.before.before.before.before.before.before.before.before.args.s.now ≡ refused 2
-no_finish c = sym (told due_says _ c.before.before.past-key5.ensures c.enum-told5.given.1).same
+no_finish : (c : tie.In_default-past_key-4) → key (bytes "step=finish,") c.args.s.now ≡ refused 2
+no_finish c = sym (told due_says _ c.past_key-5.ensures c.in_default-past_key-4.is).same
 
-returns : tie.Need-returns
+returns : tie.Need-returns-in-Past
 unfolding step_line
 returns c =
-    let h = told due_says _ c.before.before.before.past-key.ensures c.before.used.given.1 in
+    let h = told due_says _ c.past_key.ensures c.in-Past.is in
     record { within = h.within; same = sym (rw (sym h.same, given)) }
 
-returns-2 : tie.Need-returns-2
+returns-2 : tie.Need-returns-in-Past-past_key
 unfolding step_line
 returns-2 c =
-    let h = told due_says _ c.before.before.before.before.past-key2.ensures c.before.before.i.given.1 in
-    rw (no-next c.before.before.before.before.before.before, sym h.same, given) (rw (number_is _ _ 15) at c.step-numbers.ensures)
+    let h = told due_says _ c.past_key-2.ensures c.in-Past-past_key.is in
+    rw (no-next c.before.before.before.before.before, sym h.same, given) (rw (number_is _ _ 15) at c.step_numbers.ensures)
 
-returns-3 : tie.Need-returns-3
+returns-3 : tie.Need-returns-in-Past-past_key-2
 unfolding step_line
 returns-3 c =
-    let h = told due_says _ c.before.before.before.before.past-key3.ensures c.before.before.i2.given.1 in
-    rw (no-next c.before.before.before.before.before.before.before.before.before.before, no-fire c.before.before.before.before.before.before, sym h.same, given) (rw (number_is _ _ 31) at c.step-numbers2.ensures)
+    let h = told due_says _ c.past_key-3.ensures c.in-Past-past_key-2.is in
+    rw (no-next c.before.before.before.before.before.before.before.before.before, no-fire c.before.before.before.before.before, sym h.same, given) (rw (number_is _ _ 31) at c.step_numbers-in-Past-past_key-2.ensures)
 
-returns-4 : tie.Need-returns-4
+returns-4 : tie.Need-returns-in-Past-past_key-3
 unfolding step_line
 returns-4 c =
-    let h = told due_says _ c.before.before.before.before.past-key4.ensures c.before.before.i3.given.1 in
-    rw (no-next c.before.before.before.before.before.before.before.before.before.before.before.before.before.before, no-fire c.before.before.before.before.before.before.before.before.before.before, no_end c.before.before.before.before.before.before, sym h.same, given) (rw (number_is _ _ 15) at c.step-numbers3.ensures)
+    let h = told due_says _ c.past_key-4.ensures c.in-Past-past_key-3.is in
+    rw (no-next c.before.before.before.before.before.before.before.before.before.before.before.before.before, no-fire c.before.before.before.before.before.before.before.before.before, no_end c.before.before.before.before.before, sym h.same, given) (rw (number_is _ _ 15) at c.step_numbers-in-Past-past_key-3.ensures)
 
-returns-5 : tie.Need-returns-5
+returns-5 : tie.Need-returns-in-Past-past_key-4
 unfolding step_line
 returns-5 c =
-    let h = told due_says _ c.before.before.before.before.past-key5.ensures c.before.before.i4.given.1 in
-    rw (no-next c.before.before.before.before.before.before.before.before.before.before.before.before.before.before.before.before.before.before, no-fire c.before.before.before.before.before.before.before.before.before.before.before.before.before.before, no_end c.before.before.before.before.before.before.before.before.before.before, no-enter c.before.before.before.before.before.before, sym h.same, given) (rw id-is at c.step-numbers4.ensures)
+    let h = told due_says _ c.past_key-5.ensures c.in-Past-past_key-4.is in
+    rw (no-next c.before.before.before.before.before.before.before.before.before.before.before.before.before.before.before.before.before, no-fire c.before.before.before.before.before.before.before.before.before.before.before.before.before, no_end c.before.before.before.before.before.before.before.before.before, no-enter c.before.before.before.before.before, sym h.same, given) (rw id-is at c.step_numbers-in-Past-past_key-4.ensures)
 
-returns-6 : tie.Need-returns-6
+returns-6 : tie.Need-returns
 unfolding step_line
 returns-6 c = record { within = zero-le; same = sym (rw (no-next c.before.before.before.before.before.before.before.before.before.before.before.before.before.before.before.before, no-fire c.before.before.before.before.before.before.before.before.before.before.before.before, no_end c.before.before.before.before.before.before.before.before, no-enter c.before.before.before.before, no_finish c, given)) }
 
-pub step-line-spec : {M : Type 1} → statement M
-step-line-spec =
+pub step_line_spec : {M : Type 1} → statement M
+step_line_spec =
     tie.close
     (tie.spec
-    (λ c. search rules) (λ c κs. search rules) (λ c. search rules) returns (λ c. search rules) (λ c. search rules)
-    (λ c κs. search rules) (λ c. search rules) (λ c κs. search rules) returns-2 (λ c. search rules) (λ c. search rules)
-    (λ c κs. search rules) (λ c. search rules) (λ c κs. search rules) returns-3 (λ c. search rules) (λ c. search rules)
-    (λ c κs. search rules) (λ c. search rules) (λ c κs. search rules) returns-4 (λ c. search rules) (λ c. search rules)
-    (λ c κs. search rules) (λ c. search rules) (λ c κs. search rules) returns-5 (λ c. search rules) returns-6)
+    (λ c κs. search rules) (λ c. search rules) returns (λ c. search rules) (λ c κs. search rules) (λ c. search rules) (λ c κs. search rules) returns-2
+    (λ c. search rules) (λ c κs. search rules) (λ c. search rules) (λ c κs. search rules) returns-3 (λ c. search rules) (λ c κs. search rules)
+    (λ c. search rules) (λ c κs. search rules) returns-4 (λ c. search rules) (λ c κs. search rules) (λ c. search rules) (λ c κs. search rules)
+    returns-5 (λ c. search rules) returns-6)

@@ -7,11 +7,11 @@ use Rattle.read_answer.specs.Says.{step_numbers}
 use Rattle.read_answer.proofs.step_numbers.Statement.{statement}
 use Rattle.read_answer.proofs.step_numbers.Tie as tie
 
-pub step-numbers-spec : {M : Type 1} → statement M
+pub step_numbers_spec : {M : Type 1} → statement M
 unfolding step_numbers
-step-numbers-spec =
+step_numbers_spec =
     tie.close
     (tie.spec
     (λ c κs. search rules) (λ c. search rules) (λ c. search rules) (λ c κs. search rules)
-    (λ c. rw (c.refusal.ensures, c.before.enum_told.given.1) (form-fault _ _ (told numbers_says _ c.before.before.before.numbers-within.ensures c.before.enum_told.given.1)))
-    (λ c. limit-kept _ _ (told numbers_says _ c.before.before.before.numbers-within.ensures c.before.line.given.1) refl))
+    (λ c. rw (c.refusal.ensures, c.in_default.is) (form-fault _ _ (told numbers_says _ c.numbers_within-line.ensures c.in_default.is)))
+    (λ c. limit-kept _ _ (told numbers_says _ c.numbers_within-line.ensures c.in-Got.is) refl))

@@ -8,15 +8,16 @@ use borrow.Author.Rules.{rules}
 use Rattle.read_chain.proofs.due_run.Statement.{statement}
 use Rattle.read_chain.proofs.due_run.Tie as tie
 
-returns : tie.Need-returns
+returns : tie.Need-returns-in_default
 returns c =
-    let d = told due_says _ c.before.before.before.due-at.ensures c.before.enum_told.given.1 in
-    stopped (omega (arith, c.place_in.ensures)) (rw (sym d.same, same_rest _ _ _ c.place_in.ensures))
+    let d = told due_says _ c.due_at.ensures c.in_default.is in
+    stopped (omega (arith, c.place_in-at.ensures)) (rw (sym d.same, same_rest _ _ _ c.place_in-at.ensures))
 
-returns-2 : tie.Need-returns-2
+returns-2 : tie.Need-returns
 returns-2 c =
-    let d = told due_says _ c.before.before.before.due-at.ensures c.before.at.given.1 in
+    let d = told due_says _ c.due_at.ensures c.in-Past.is in
     went_on d.within (rw (sym d.same))
 
-pub due-run-spec : {M : Type 1} → statement M
-due-run-spec = tie.close (tie.spec (λ c κs. search rules) (λ c. search rules) (λ c. search rules) (λ c κs. search rules) returns returns-2)
+pub due_run_spec : {M : Type 1} → statement M
+due_run_spec = tie.close (tie.spec
+    (λ c κs. search rules) (λ c. search rules) (λ c. search rules) (λ c κs. search rules) returns returns-2)

@@ -8,7 +8,8 @@ use Rattle.read_chain.proofs.end_run.Tie as tie
 
 returns : tie.Need-returns
 returns c =
-    record { within = omega (arith, c.before.place_in.ensures); same = c.at-end.ensures ∙ ap at_end (same_rest _ _ _ c.before.place_in.ensures) }
+    record { within = omega (arith, c.place_in-at.ensures); same = c.at_end-went.ensures ∙ ap at_end (same_rest _ _ _ c.place_in-at.ensures) }
 
-pub end-run-spec : {M : Type 1} → statement M
-end-run-spec = tie.close (tie.spec (λ c κs. search rules) (λ c κs. search rules) returns)
+pub end_run_spec : {M : Type 1} → statement M
+end_run_spec = tie.close (tie.spec
+    (λ c κs. search rules) (λ c κs. search rules) returns)

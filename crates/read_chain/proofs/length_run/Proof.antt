@@ -2,5 +2,6 @@ use Rattle.read_chain.proofs.Chain.{short-long, short-fits}
 use Rattle.read_chain.proofs.length_run.Statement.{statement}
 use Rattle.read_chain.proofs.length_run.Tie as tie
 
-pub length-run-spec : {M : Type 1} → statement M
-length-run-spec = tie.close (tie.spec (λ c. short-long _ c.if1.true) (λ c. short-fits _ c.if1.false))
+pub length_run_spec : {M : Type 1} → statement M
+length_run_spec = tie.close (tie.spec
+    (λ c. short-long _ c.if-text-gt-LONGEST.true) (λ c. short-fits _ c.if-text-gt-LONGEST.false))

@@ -7,9 +7,10 @@ use Rattle.read_chain.proofs.Chain.{after-stopped, after-went}
 use Rattle.read_chain.proofs.then_nothing.Statement.{statement}
 use Rattle.read_chain.proofs.then_nothing.Tie as tie
 
-pub then-nothing-spec : {M : Type 1} → statement M
-then-nothing-spec =
+pub then_nothing_spec : {M : Type 1} → statement M
+then_nothing_spec =
     tie.close
-    (tie.spec (λ c. search rules) (λ c. search rules) (λ c. after-stopped c.enum-told2.given.1) (λ c κs. search rules)
-    (λ c. after-went c.before.enum_told.given.1
-    (rw c.before.enum_told.given.1 (went_on (omega (arith, c.place_in.ensures)) (rw (same_rest _ _ _ c.place_in.ensures))))))
+    (tie.spec
+    (λ c. search rules) (λ c. search rules) (λ c. after-stopped c.in_default.is) (λ c κs. search rules)
+    (λ c. after-went c.in-On.is
+    (rw c.in-On.is (went_on (omega (arith, c.place_in-at.ensures)) (rw (same_rest _ _ _ c.place_in-at.ensures))))))

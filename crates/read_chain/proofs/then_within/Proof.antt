@@ -5,15 +5,16 @@ use Rattle.read_chain.proofs.Chain.{number-stopped, number-went}
 use Rattle.read_chain.proofs.then_within.Statement.{statement}
 use Rattle.read_chain.proofs.then_within.Tie as tie
 
-returns : tie.Need-returns
+returns : tie.Need-returns-in_default
 returns c =
-    let a = c.before.before.before.before.args in
-    number-stopped a.text.now a.read (count_line a.key.now (in_range a.least a.greatest)) c.enum-told2.given.1
+    let a = c.args in
+    number-stopped a.text.now a.read (count_line a.key.now (in_range a.least a.greatest)) c.in_default.is
 
-returns-2 : tie.Need-returns-2
+returns-2 : tie.Need-returns
 returns-2 c =
-    let a = c.before.before.before.before.before.before.args in
-    number-went a.text.now a.read (count_line a.key.now (in_range a.least a.greatest)) _ c.before.before.enum_told.given.1 c.before.within-at.ensures c.number-run.ensures
+    let a = c.args in
+    number-went a.text.now a.read (count_line a.key.now (in_range a.least a.greatest)) _ c.in-On.is c.within_at-line.ensures c.number_run.ensures
 
-pub then-within-spec : {M : Type 1} → statement M
-then-within-spec = tie.close (tie.spec (λ c. search rules) (λ c. search rules) returns (λ c κs. search rules) (λ c κs. search rules) returns-2)
+pub then_within_spec : {M : Type 1} → statement M
+then_within_spec = tie.close (tie.spec
+    (λ c. search rules) (λ c. search rules) returns (λ c κs. search rules) (λ c κs. search rules) returns-2)

@@ -5,14 +5,14 @@ use borrow.Author.Rules.{rules}
 use Rattle.read_items.proofs.list_line.Statement.{statement}
 use Rattle.read_items.proofs.list_line.Tie as tie
 
-returns : tie.Need-returns
-returns c = key-fault _ _ (told due_says _ c.before.before.past-key.ensures c.enum_told.given.1)
+returns : tie.Need-returns-in_default
+returns c = key-fault _ _ (told due_says _ c.past_key.ensures c.in_default.is)
 
-returns-2 : tie.Need-returns-2
-returns-2 c = key-then _ _ (told due_says _ c.before.before.before.before.past-key.ensures c.before.before.i.given.1) c.one_list.ensures
+returns-2 : tie.Need-returns
+returns-2 c = key-then _ _ (told due_says _ c.past_key.ensures c.in-Past.is) c.one_list.ensures
 
-pub list-line-spec : {M : Type 1} → statement M
-list-line-spec =
+pub list_line_spec : {M : Type 1} → statement M
+list_line_spec =
     tie.close
     (tie.spec
     (λ c κs. search rules) (λ c. search rules) (λ c. search rules) returns (λ c κs. search rules) returns-2)

@@ -10,38 +10,38 @@ use borrow.Author.Rules.{rules}
 use Rattle.read_items.proofs.members_then.Statement.{statement}
 use Rattle.read_items.proofs.members_then.Tie as tie
 
-abbrev invariant-loop : tie.invariant-loop
+abbrev invariant-loop : tie.invariant-loop-i
 invariant-loop s at end digits i₀ f₀ i f = Small f.count f.value × (members_on (most digits) end f (drop i s) ≡ members_from (most digits) end 0 0 0 0 (drop at s))
 
-abbrev decreases-loop : tie.decreases-loop
+abbrev decreases-loop : tie.decreases-loop-i
 decreases-loop s at end digits i₀ f₀ i f = length s - i
 
-list-byte-requires : tie.Need-list-byte-requires invariant-loop decreases-loop
-list-byte-requires c κs = c.before.before.loop.invariant.0
+list-byte-requires : tie.Need-list_byte-turn-requires invariant-loop decreases-loop
+list-byte-requires c κs = c.loop-i.invariant.0
 
 -- after a byte: the list from there on is the list from the start
-turned : (c : tie.After-list-byte invariant-loop decreases-loop) →
-    turn_reply (most c.before.before.before.before.before.args.digits) c.before.before.before.before.before.args.end (drop (c.before.before.before.loop.i + 1) c.before.before.before.before.before.args.s.now) c.list-byte.result
-    ≡ members_from (most c.before.before.before.before.before.args.digits) c.before.before.before.before.before.args.end 0 0 0 0 (drop c.before.before.before.before.before.args.at c.before.before.before.before.before.args.s.now)
+turned : (c : tie.After-list_byte-turn invariant-loop decreases-loop) →
+    turn_reply (most c.args.digits) c.args.end (drop (c.loop-i.i + 1) c.args.s.now) c.list_byte-turn.result
+    ≡ members_from (most c.args.digits) c.args.end 0 0 0 0 (drop c.args.at c.args.s.now)
 turned c =
-    let l = c.before.before.before.loop in
-    let a = c.before.before.before.before.before.args in
-    c.list-byte.ensures.same _ ∙ sym (ap (members_on (most a.digits) a.end l.f) (from a.s.now l.i (search rules))) ∙ l.invariant.1
+    let l = c.loop-i in
+    let a = c.args in
+    c.list_byte-turn.ensures.same _ ∙ sym (ap (members_on (most a.digits) a.end l.f) (from a.s.now l.i (search rules))) ∙ l.invariant.1
 
-loop-again : tie.Need-loop-preserved invariant-loop decreases-loop
-loop-again c = (rw c.before.turn.given.1 at c.before.before.before.list-byte.ensures.small, ap (turn_reply _ _ _) (sym c.before.turn.given.1) ∙ turned c.before.before.before)
+loop-again : tie.Need-loop-i-preserved invariant-loop decreases-loop
+loop-again c = (rw c.in-On.is at c.list_byte-turn.ensures.small, ap (turn_reply _ _ _) (sym c.in-On.is) ∙ turned c.before)
 
-returns : tie.Need-returns invariant-loop decreases-loop
-returns c = record { within = omega arith; same = ap (turn_reply _ _ _) (sym c.before.turn2.given.1) ∙ turned c.before.before.before }
+returns : tie.Need-returns-in-End invariant-loop decreases-loop
+returns c = record { within = omega arith; same = ap (turn_reply _ _ _) (sym c.in-End.is) ∙ turned c.before }
 
-returns-2 : tie.Need-returns-2 invariant-loop decreases-loop
-returns-2 c = record { within = search rules; same = ap (turn_reply _ _ _) (sym c.enum_told.given.1) ∙ turned c.before.before }
+returns-2 : tie.Need-returns-in-Fault invariant-loop decreases-loop
+returns-2 c = record { within = search rules; same = ap (turn_reply _ _ _) (sym c.in-Fault.is) ∙ turned c.before }
 
-returns-3 : tie.Need-returns-3 invariant-loop decreases-loop
-returns-3 c = record { within = search rules; same = sym (list_over _ _ _ _ _ _ _ _ c.loop-test.false) ∙ c.before.loop.invariant.1 }
+returns-3 : tie.Need-returns invariant-loop decreases-loop
+returns-3 c = record { within = search rules; same = sym (list_over _ _ _ _ _ _ _ _ c.loop-i-test.false) ∙ c.loop-i.invariant.1 }
 
-pub members-then-spec : {M : Type 1} → statement M
-members-then-spec =
+pub members_then_spec : {M : Type 1} → statement M
+members_then_spec =
     tie.close
     (tie.spec
     invariant-loop decreases-loop (λ c. search rules) (λ c. search rules) list-byte-requires (λ c. search rules) (λ c. search rules)

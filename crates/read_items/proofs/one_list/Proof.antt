@@ -5,7 +5,8 @@ use Rattle.read_items.proofs.one_list.Tie as tie
 
 returns : tie.Need-returns
 unfolding list_form
-returns c = c.list-then.ensures
+returns c = c.list_then.ensures
 
-pub one-list-spec : {M : Type 1} → statement M
-one-list-spec = tie.close (tie.spec (λ c κs. search rules) returns)
+pub one_list_spec : {M : Type 1} → statement M
+one_list_spec = tie.close (tie.spec
+    (λ c κs. search rules) returns)

@@ -5,7 +5,8 @@ use Rattle.read_items.proofs.one_number.Tie as tie
 
 returns : tie.Need-returns
 unfolding one_form
-returns c = c.number-then.ensures
+returns c = c.number_then.ensures
 
-pub one-number-spec : {M : Type 1} → statement M
-one-number-spec = tie.close (tie.spec (λ c κs. search rules) returns)
+pub one_number_spec : {M : Type 1} → statement M
+one_number_spec = tie.close (tie.spec
+    (λ c κs. search rules) returns)

@@ -8,23 +8,24 @@ use borrow.Author.Rules.{rules}
 use Rattle.read_lines.proofs.due_line.Statement.{statement}
 use Rattle.read_lines.proofs.due_line.Tie as tie
 
-returns : tie.Need-returns
+returns : tie.Need-returns-in_default
 unfolding due_line
 returns c =
-    let h = told number_says _ c.before.before.number-line.ensures c.enum_told.given.1 in
+    let h = told number_says _ c.number_line.ensures c.in_default.is in
     record { within = search rules; same = sym (keyed-fault _ _ _ h) }
 
-returns-2 : tie.Need-returns-2
+returns-2 : tie.Need-returns-then-a-number
 unfolding due_line
 returns-2 c =
-    let h = told number_says _ c.before.before.before.before.number-line.ensures c.before.before.a.given.1 in
-    record { within = search rules; same = sym (keyed-got _ _ _ h ∙ rw (ne_eqb _ _ c.if1.true)) }
+    let h = told number_says _ c.number_line.ensures c.in-Got.is in
+    record { within = search rules; same = sym (keyed-got _ _ _ h ∙ rw (ne_eqb _ _ c.if-a-number.true)) }
 
-returns-3 : tie.Need-returns-3
+returns-3 : tie.Need-returns
 unfolding due_line
 returns-3 c =
-    let h = told number_says _ c.before.before.before.before.number-line.ensures c.before.before.a.given.1 in
-    record { within = h.within; same = sym (keyed-got _ _ _ h ∙ rw (eq-eqb _ _ c.if1.false)) }
+    let h = told number_says _ c.number_line.ensures c.in-Got.is in
+    record { within = h.within; same = sym (keyed-got _ _ _ h ∙ rw (eq-eqb _ _ c.if-a-number.false)) }
 
-pub due-line-spec : {M : Type 1} → statement M
-due-line-spec = tie.close (tie.spec (λ c κs. search rules) (λ c. search rules) (λ c. search rules) returns returns-2 returns-3)
+pub due_line_spec : {M : Type 1} → statement M
+due_line_spec = tie.close (tie.spec
+    (λ c κs. search rules) (λ c. search rules) (λ c. search rules) returns returns-2 returns-3)

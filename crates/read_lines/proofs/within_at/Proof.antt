@@ -10,29 +10,29 @@ use borrow.Author.Rules.{rules}
 use Rattle.read_lines.proofs.within_at.Statement.{statement}
 use Rattle.read_lines.proofs.within_at.Tie as tie
 
-returns : tie.Need-returns
+returns : tie.Need-returns-in_default
 returns c =
-    let a = c.before.before.before.before.before.before.before.args in
-    rw c.enum_told.given.1
-    (record { reads = line-told line_says (count_line_in (most a.digits) a.key.now (in_range a.least a.greatest)) _ _ _ c.before.before.before.before.place_in.ensures _ c.before.before.within-line.ensures.reads c.enum_told.given.1; limited = tt })
+    let a = c.args in
+    rw c.in_default.is
+    (record { reads = line-told line_says (count_line_in (most a.digits) a.key.now (in_range a.least a.greatest)) _ _ _ c.place_in-start.ensures _ c.within_line-line.ensures.reads c.in_default.is; limited = tt })
 
 -- the line that was read, its place counted from the text's start
-read : (c : tie.After-known-told) →
-    let a = c.before.before.before.before.before.before.before.before.args in
-    Reads a.text.now (past c.before.line.given.0.0 (c.before.before.before.before.before.place_in.result + c.before.line.given.0.1.0)) (count_line_in (most a.digits) a.key.now (in_range a.least a.greatest) (drop a.at a.text.now))
+read : (c : tie.In-Got) →
+    let a = c.args in
+    Reads a.text.now (past c.in-Got.a (c.place_in-start.result + c.in-Got.used)) (count_line_in (most a.digits) a.key.now (in_range a.least a.greatest) (drop a.at a.text.now))
 read c =
-    let a = c.before.before.before.before.before.before.before.before.args in
-    line-told line_says (count_line_in (most a.digits) a.key.now (in_range a.least a.greatest)) a.text.now a.at c.before.before.before.before.before.place_in.result c.before.before.before.before.before.place_in.ensures _ c.before.before.before.within-line.ensures.reads c.before.line.given.1
+    let a = c.args in
+    line-told line_says (count_line_in (most a.digits) a.key.now (in_range a.least a.greatest)) a.text.now a.at c.place_in-start.result c.place_in-start.ensures _ c.within_line-line.ensures.reads c.in-Got.is
 
-add-next : tie.Need-overflow-add-next
+add-next : tie.Need-overflow_add-next
 add-next c = omega (arith, (read c).within)
 
-returns-2 : tie.Need-returns-2
-returns-2 c = record { reads = read c; limited = rw c.before.line.given.1 at c.before.before.before.within-line.ensures.limited }
+returns-2 : tie.Need-returns
+returns-2 c = record { reads = read c; limited = rw c.in-Got.is at c.within_line-line.ensures.limited }
 
-pub within-at-spec : {M : Type 1} → statement M
-within-at-spec =
+pub within_at_spec : {M : Type 1} → statement M
+within_at_spec =
     tie.close
     (tie.spec
-    (λ c κs. search rules) (λ c. search rules) (λ c. search rules) (λ c. search rules) (λ c κs. search rules) (λ c. search rules)
-    (λ c. search rules) returns add-next returns-2)
+    (λ c κs. search rules) (λ c. search rules) (λ c. search rules) (λ c. search rules) (λ c κs. search rules) (λ c. search rules) (λ c. search rules)
+    returns add-next returns-2)

@@ -6,8 +6,8 @@ use borrow.Author.Rules.{rules}
 use Rattle.read_sheet.proofs.fill_form.Statement.{statement}
 use Rattle.read_sheet.proofs.fill_form.Tie as tie
 
-pub fill-form-spec : {M : Type 1} → statement M
-fill-form-spec =
+pub fill_form_spec : {M : Type 1} → statement M
+fill_form_spec =
     tie.close
-    (tie.spec (λ c κs. search rules) (λ c κs. search rules)
-    (λ c. c.Handed-out.ensures ∙ came-kept (no_tables, no_program) form _ _ c.before.before.before.read-rows.ensures))
+    (tie.spec
+    (λ c κs. search rules) (λ c κs. search rules) (λ c. c.Handed-out.ensures ∙ came-kept (no_tables, no_program) form _ _ c.read_rows-read.ensures))

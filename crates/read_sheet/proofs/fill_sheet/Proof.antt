@@ -6,9 +6,9 @@ use borrow.Author.Rules.{rules}
 use Rattle.read_sheet.proofs.fill_sheet.Statement.{statement}
 use Rattle.read_sheet.proofs.fill_sheet.Tie as tie
 
-pub fill-sheet-spec : {M : Type 1} → statement M
-fill-sheet-spec =
+pub fill_sheet_spec : {M : Type 1} → statement M
+fill_sheet_spec =
     tie.close
-    (tie.spec (λ c κs. search rules) (λ c κs. search rules)
-    (λ c κs. (c.before.before.before.before.clear-tables.ensures, c.before.before.clear-program.ensures)) (λ c κs. search rules)
-    (λ c. c.Handed-out.ensures ∙ came-kept (no_tables, no_program) sheet _ _ c.before.before.before.read-lines.ensures))
+    (tie.spec
+    (λ c κs. search rules) (λ c κs. search rules) (λ c κs. (c.clear_tables.ensures, c.clear_program.ensures)) (λ c κs. search rules)
+    (λ c. c.Handed-out.ensures ∙ came-kept (no_tables, no_program) sheet _ _ c.read_lines-read.ensures))

@@ -2,9 +2,10 @@ use borrow.Author.Rules.{rules}
 use Rattle.read_sheet.proofs.handed_out.Statement.{statement}
 use Rattle.read_sheet.proofs.handed_out.Tie as tie
 
-pub handed-out-spec : {M : Type 1} → statement M
-handed-out-spec =
+pub handed_out_spec : {M : Type 1} → statement M
+handed_out_spec =
     tie.close
-    (tie.spec (λ c. search rules) (λ c. search rules) (λ c κs. search rules) (λ c κs. search rules) (λ c κs. search rules)
-    (λ c. rw (c.came-to.ensures, c.before.clear-program.ensures, c.before.before.before.clear-tables.ensures, c.before.before.before.before.before.enum-told2.given.1))
-    (λ c κs. search rules) (λ c. rw (c.came-to2.ensures, c.before.enum_told.given.1)))
+    (tie.spec
+    (λ c. search rules) (λ c. search rules) (λ c κs. search rules) (λ c κs. search rules) (λ c κs. search rules)
+    (λ c. rw (c.came_to.ensures, c.clear_program.ensures, c.clear_tables.ensures, c.in_default.is)) (λ c κs. search rules)
+    (λ c. rw (c.came_to-2.ensures, c.in-On.is)))

@@ -9,22 +9,23 @@ use Rattle.read_sheet_lines.specs.Rows.{row_line}
 use Rattle.read_sheet_lines.proofs.behavior_line.Statement.{statement}
 use Rattle.read_sheet_lines.proofs.behavior_line.Tie as tie
 
-returns : tie.Need-returns
+returns : tie.Need-returns-in_default
 unfolding row_line behavior_line
-returns c = form-fault _ _ (whole-line _ _ _ (form-fault _ _ (told list_says _ c.before.before.list-line.ensures c.enum_told.given.1)))
+returns c = form-fault _ _ (whole-line _ _ _ (form-fault _ _ (told list_says _ c.list_line.ensures c.in_default.is)))
 
-returns-2 : tie.Need-returns-2
+returns-2 : tie.Need-returns-then-known-top
 unfolding row_line behavior_line
 returns-2 c =
-    let h = told list_says _ c.before.before.before.before.before.list-line.ensures c.before.before.before.mask.given.1 in
-    form-fault _ _ (whole-line _ _ _ (limit-fault _ _ h (rw (lt-leb _ _ c.if1.true))))
+    let h = told list_says _ c.list_line.ensures c.in-Got.is in
+    form-fault _ _ (whole-line _ _ _ (limit-fault _ _ h (rw (lt-leb _ _ c.if-known-top.true))))
 
-returns-3 : tie.Need-returns-3
+returns-3 : tie.Need-returns
 unfolding row_line behavior_line
 returns-3 c =
-    let h = told list_says _ c.before.before.before.before.before.list-line.ensures c.before.before.before.mask.given.1 in
-    limit-kept _ _ (whole-line _ _ _ (limit-kept _ _ h (rw (le-leb _ _ c.if1.false)))) refl
+    let h = told list_says _ c.list_line.ensures c.in-Got.is in
+    limit-kept _ _ (whole-line _ _ _ (limit-kept _ _ h (rw (le-leb _ _ c.if-known-top.false)))) refl
 
-pub behavior-line-spec : {M : Type 1} → statement M
-behavior-line-spec =
-    tie.close (tie.spec (λ c. search rules) (λ c κs. search rules) (λ c. search rules) (λ c. search rules) returns returns-2 returns-3)
+pub behavior_line_spec : {M : Type 1} → statement M
+behavior_line_spec =
+    tie.close (tie.spec
+    (λ c κs. search rules) (λ c. search rules) (λ c. search rules) returns returns-2 returns-3)

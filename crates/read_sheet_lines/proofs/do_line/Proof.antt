@@ -35,54 +35,53 @@ from_del e = upon (bytes "do=del,") (do_id del_verb) or from_pushb e
 abbrev Onward : List ℕ → ℕ → ℕ → Reader Instruction → Type 0
 Onward s e n rest = (o : Outcome Instruction) → Reads s o (rest s) → Reads s o (do_line e n s)
 
-returns : tie.Need-returns
+returns : tie.Need-returns-in-Past
 unfolding do_line
-returns c = verb-here _ _ _ (told due_says _ c.before.before.before.before.past-key.ensures c.before.before.i.given.1) (rw number_is at c.do-numbers.ensures)
+returns c = verb-here _ _ _ (told due_says _ c.past_key.ensures c.in-Past.is) (rw number_is at c.do_numbers.ensures)
 
-not-add : (c : tie.After-enum-told) → Onward c.before.before.before.before.before.args.s.now c.before.before.before.before.before.args.edition c.before.before.before.before.before.args.types (from_del c.before.before.before.before.before.args.edition)
+not-add : (c : tie.In_default) → Onward c.args.s.now c.args.edition c.args.types (from_del c.args.edition)
 unfolding do_line
-not-add c o h = verb-other _ _ _ (told due_says _ c.before.before.past-key.ensures c.enum_told.given.1) h
+not-add c o h = verb-other _ _ _ (told due_says _ c.past_key.ensures c.in_default.is) h
 
-returns-2 : tie.Need-returns-2
-returns-2 c = not-add c.before.before.before.before.before.before _ (verb-here _ _ _ (told due_says _ c.before.before.before.before.past-key2.ensures c.before.before.i2.given.1) (rw id-is at c.do-numbers2.ensures))
+returns-2 : tie.Need-returns-in-Past-past_key
+returns-2 c = not-add c.before.before.before.before.before _ (verb-here _ _ _ (told due_says _ c.past_key-2.ensures c.in-Past-past_key.is) (rw id-is at c.do_numbers-in-Past-past_key.ensures))
 
-not-del : (c : tie.After-enum-told2) → Onward c.before.before.before.before.before.before.before.before.before.args.s.now c.before.before.before.before.before.before.before.before.before.args.edition c.before.before.before.before.before.before.before.before.before.args.types (from_pushb c.before.before.before.before.before.before.before.before.before.args.edition)
-not-del c o h = not-add c.before.before.before.before o (verb-other _ _ _ (told due_says _ c.before.before.past-key2.ensures c.enum-told2.given.1) h)
+not-del : (c : tie.In_default-past_key) → Onward c.args.s.now c.args.edition c.args.types (from_pushb c.args.edition)
+not-del c o h = not-add c.before.before.before.before o (verb-other _ _ _ (told due_says _ c.past_key-2.ensures c.in_default-past_key.is) h)
 
-returns-3 : tie.Need-returns-3
-returns-3 c = not-del c.before.before.before.before.before.before _ (verb-here _ _ _ (told due_says _ c.before.before.before.before.past-key3.ensures c.before.before.i3.given.1) c.push-after.ensures)
+returns-3 : tie.Need-returns-in-Past-past_key-2
+returns-3 c = not-del c.before.before.before.before.before _ (verb-here _ _ _ (told due_says _ c.past_key-3.ensures c.in-Past-past_key-2.is) c.push_after.ensures)
 
-not-pushb : (c : tie.After-enum-told3) → Onward c.before.before.before.before.before.before.before.before.before.before.before.before.before.args.s.now c.before.before.before.before.before.before.before.before.before.before.before.before.before.args.edition c.before.before.before.before.before.before.before.before.before.before.before.before.before.args.types (from_con c.before.before.before.before.before.before.before.before.before.before.before.before.before.args.edition)
-not-pushb c o h = not-del c.before.before.before.before o (verb-other _ _ _ (told due_says _ c.before.before.past-key3.ensures c.enum-told3.given.1) h)
+not-pushb : (c : tie.In_default-past_key-2) → Onward c.args.s.now c.args.edition c.args.types (from_con c.args.edition)
+not-pushb c o h = not-del c.before.before.before.before o (verb-other _ _ _ (told due_says _ c.past_key-3.ensures c.in_default-past_key-2.is) h)
 
-returns-4 : tie.Need-returns-4
-returns-4 c = not-pushb c.before.before.before.before.before.before _ (verb-here _ _ _ (told due_says _ c.before.before.before.before.past-key4.ensures c.before.before.i4.given.1) (rw ends_is at c.do-numbers3.ensures))
+returns-4 : tie.Need-returns-in-Past-past_key-3
+returns-4 c = not-pushb c.before.before.before.before.before _ (verb-here _ _ _ (told due_says _ c.past_key-4.ensures c.in-Past-past_key-3.is) (rw ends_is at c.do_numbers-in-Past-past_key-3.ensures))
 
-not-con : (c : tie.After-enum-told4) → Onward c.before.before.before.before.before.before.before.before.before.before.before.before.before.before.before.before.before.args.s.now c.before.before.before.before.before.before.before.before.before.before.before.before.before.before.before.before.before.args.edition c.before.before.before.before.before.before.before.before.before.before.before.before.before.before.before.before.before.args.types (from_dcon c.before.before.before.before.before.before.before.before.before.before.before.before.before.before.before.before.before.args.edition)
-not-con c o h = not-pushb c.before.before.before.before o (verb-other _ _ _ (told due_says _ c.before.before.past-key4.ensures c.enum-told4.given.1) h)
+not-con : (c : tie.In_default-past_key-3) → Onward c.args.s.now c.args.edition c.args.types (from_dcon c.args.edition)
+not-con c o h = not-pushb c.before.before.before.before o (verb-other _ _ _ (told due_says _ c.past_key-4.ensures c.in_default-past_key-3.is) h)
 
-returns-5 : tie.Need-returns-5
-returns-5 c = not-con c.before.before.before.before.before.before _ (verb-here _ _ _ (told due_says _ c.before.before.before.before.past-key5.ensures c.before.before.i5.given.1) (rw ends_is at c.do-numbers4.ensures))
+returns-5 : tie.Need-returns-in-Past-past_key-4
+returns-5 c = not-con c.before.before.before.before.before _ (verb-here _ _ _ (told due_says _ c.past_key-5.ensures c.in-Past-past_key-4.is) (rw ends_is at c.do_numbers-in-Past-past_key-4.ensures))
 
-not-dcon : (c : tie.After-enum-told5) → Onward c.before.before.before.before.before.before.before.before.before.before.before.before.before.before.before.before.before.before.before.before.before.args.s.now c.before.before.before.before.before.before.before.before.before.before.before.before.before.before.before.before.before.before.before.before.before.args.edition c.before.before.before.before.before.before.before.before.before.before.before.before.before.before.before.before.before.before.before.before.before.args.types (from_wait c.before.before.before.before.before.before.before.before.before.before.before.before.before.before.before.before.before.before.before.before.before.args.edition)
-not-dcon c o h = not-con c.before.before.before.before o (verb-other _ _ _ (told due_says _ c.before.before.past-key5.ensures c.enum-told5.given.1) h)
+not-dcon : (c : tie.In_default-past_key-4) → Onward c.args.s.now c.args.edition c.args.types (from_wait c.args.edition)
+not-dcon c o h = not-con c.before.before.before.before o (verb-other _ _ _ (told due_says _ c.past_key-5.ensures c.in_default-past_key-4.is) h)
 
-returns-6 : tie.Need-returns-6
-returns-6 c = not-dcon c.before.before.before.before.before.before _ (verb-here _ _ _ (told due_says _ c.before.before.before.before.past-key6.ensures c.before.before.i6.given.1) c.wait-after.ensures)
+returns-6 : tie.Need-returns-in-Past-past_key-5
+returns-6 c = not-dcon c.before.before.before.before.before _ (verb-here _ _ _ (told due_says _ c.past_key-6.ensures c.in-Past-past_key-5.is) c.wait_after.ensures)
 
-not-wait : (c : tie.After-enum-told6) → Onward c.before.before.before.before.before.before.before.before.before.before.before.before.before.before.before.before.before.before.before.before.before.before.before.before.before.args.s.now c.before.before.before.before.before.before.before.before.before.before.before.before.before.before.before.before.before.before.before.before.before.before.before.before.before.args.edition c.before.before.before.before.before.before.before.before.before.before.before.before.before.before.before.before.before.before.before.before.before.before.before.before.before.args.types no_line
-not-wait c o h = not-dcon c.before.before.before.before o (verb-other _ _ _ (told due_says _ c.before.before.past-key6.ensures c.enum-told6.given.1) h)
+not-wait : (c : tie.In_default-past_key-5) → Onward c.args.s.now c.args.edition c.args.types no_line
+not-wait c o h = not-dcon c.before.before.before.before o (verb-other _ _ _ (told due_says _ c.past_key-6.ensures c.in_default-past_key-5.is) h)
 
-returns-7 : tie.Need-returns-7
+returns-7 : tie.Need-returns
 returns-7 c = not-wait c _ (record { within = zero-le; same = refl })
 
-pub do-line-spec : {M : Type 1} → statement M
-do-line-spec =
+pub do_line_spec : {M : Type 1} → statement M
+do_line_spec =
     tie.close
     (tie.spec
-    (λ c. search rules) (λ c κs. search rules) (λ c. search rules) (λ c κs. search rules) returns (λ c. search rules)
-    (λ c. search rules) (λ c κs. search rules) (λ c. search rules) (λ c κs. search rules) returns-2 (λ c. search rules)
-    (λ c. search rules) (λ c κs. search rules) (λ c. search rules) (λ c κs. search rules) returns-3 (λ c. search rules)
-    (λ c. search rules) (λ c κs. search rules) (λ c. search rules) (λ c κs. search rules) returns-4 (λ c. search rules)
-    (λ c. search rules) (λ c κs. search rules) (λ c. search rules) (λ c κs. search rules) returns-5 (λ c. search rules)
-    (λ c. search rules) (λ c κs. search rules) (λ c. search rules) (λ c κs. search rules) returns-6 (λ c. search rules) returns-7)
+    (λ c κs. search rules) (λ c. search rules) (λ c κs. search rules) returns (λ c. search rules) (λ c κs. search rules) (λ c. search rules)
+    (λ c κs. search rules) returns-2 (λ c. search rules) (λ c κs. search rules) (λ c. search rules) (λ c κs. search rules) returns-3
+    (λ c. search rules) (λ c κs. search rules) (λ c. search rules) (λ c κs. search rules) returns-4 (λ c. search rules) (λ c κs. search rules)
+    (λ c. search rules) (λ c κs. search rules) returns-5 (λ c. search rules) (λ c κs. search rules) (λ c. search rules) (λ c κs. search rules)
+    returns-6 (λ c. search rules) returns-7)

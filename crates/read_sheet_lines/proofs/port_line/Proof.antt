@@ -9,25 +9,25 @@ use Rattle.read_sheet_lines.proofs.Limits.{row_here, row_other, use-row, provide
 use Rattle.read_sheet_lines.proofs.port_line.Statement.{statement}
 use Rattle.read_sheet_lines.proofs.port_line.Tie as tie
 
-returns : tie.Need-returns
+returns : tie.Need-returns-in-Past
 unfolding row_line port_line
-returns c = row_here _ _ _ _ (told due_says _ c.before.before.before.before.past-key.ensures c.before.before.i.given.1) (rw use-row at c.port-after.ensures)
+returns c = row_here _ _ _ _ (told due_says _ c.past_key.ensures c.in-Past.is) (rw use-row at c.port_after.ensures)
 
-returns-2 : tie.Need-returns-2
+returns-2 : tie.Need-returns-in-Past-past_key
 unfolding row_line port_line
 returns-2 c =
-    row_other _ _ _ _ (told due_says _ c.before.before.before.before.before.before.before.before.past-key.ensures c.before.before.before.before.before.before.enum_told.given.1)
-    (row_here _ _ _ _ (told due_says _ c.before.before.before.before.past-key2.ensures c.before.before.i2.given.1) (rw provide-row at c.port-after2.ensures))
+    row_other _ _ _ _ (told due_says _ c.past_key.ensures c.in_default.is)
+    (row_here _ _ _ _ (told due_says _ c.past_key-2.ensures c.in-Past-past_key.is) (rw provide-row at c.port_after-in-Past-past_key.ensures))
 
-returns-3 : tie.Need-returns-3
+returns-3 : tie.Need-returns
 unfolding row_line port_line
 returns-3 c =
-    row_other _ _ _ _ (told due_says _ c.before.before.before.before.before.before.past-key.ensures c.before.before.before.before.enum_told.given.1)
-    (row_other _ _ _ _ (told due_says _ c.before.before.past-key2.ensures c.enum-told2.given.1) (record { within = zero-le; same = refl }))
+    row_other _ _ _ _ (told due_says _ c.past_key.ensures c.in_default.is)
+    (row_other _ _ _ _ (told due_says _ c.past_key-2.ensures c.in_default-past_key.is) (record { within = zero-le; same = refl }))
 
-pub port-line-spec : {M : Type 1} → statement M
-port-line-spec =
+pub port_line_spec : {M : Type 1} → statement M
+port_line_spec =
     tie.close
     (tie.spec
-    (λ c. search rules) (λ c κs. search rules) (λ c. search rules) (λ c κs. search rules) returns (λ c. search rules)
-    (λ c. search rules) (λ c κs. search rules) (λ c. search rules) (λ c κs. search rules) returns-2 (λ c. search rules) returns-3)
+    (λ c κs. search rules) (λ c. search rules) (λ c κs. search rules) returns (λ c. search rules) (λ c κs. search rules) (λ c. search rules)
+    (λ c κs. search rules) returns-2 (λ c. search rules) returns-3)

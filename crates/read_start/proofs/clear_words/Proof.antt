@@ -3,7 +3,8 @@ use Rattle.read_start.proofs.clear_words.Statement.{statement}
 use Rattle.read_start.proofs.clear_words.Tie as tie
 
 returns : tie.Need-returns
-returns c = (c.before.before.clear-state.ensures, c.clear-begun.ensures)
+returns c = (c.clear_state.ensures, c.clear_begun.ensures)
 
-pub clear-words-spec : {M : Type 1} → statement M
-clear-words-spec = tie.close (tie.spec (λ c κs. search rules) (λ c κs. search rules) returns)
+pub clear_words_spec : {M : Type 1} → statement M
+clear_words_spec = tie.close (tie.spec
+    (λ c κs. search rules) (λ c κs. search rules) returns)

@@ -5,14 +5,15 @@ use borrow.Author.Rules.{rules}
 use Rattle.read_start.proofs.fails_still.Statement.{statement}
 use Rattle.read_start.proofs.fails_still.Tie as tie
 
-returns : tie.Need-returns
+returns : tie.Need-returns-then-not-present
 unfolding fails_still
-returns c = rw (sym c.before.present.ensures ∙ not-true c.before.present.result c.if1.true)
+returns c = rw (sym c.present.ensures ∙ not-true c.present.result c.if-not-present.true)
 
-returns-2 : tie.Need-returns-2
+returns-2 : tie.Need-returns
 unfolding fails_still
 returns-2 c =
-    rw (c.before.still-check.ensures, sym c.before.before.before.present.ensures ∙ not-false c.before.before.before.present.result c.before.before.if1.false)
+    rw (c.still_check.ensures, sym c.present.ensures ∙ not-false c.present.result c.if-not-present.false)
 
-pub fails-still-spec : {M : Type 1} → statement M
-fails-still-spec = tie.close (tie.spec (λ c κs. search rules) returns (λ c κs. search rules) returns-2)
+pub fails_still_spec : {M : Type 1} → statement M
+fails_still_spec = tie.close (tie.spec
+    (λ c κs. search rules) returns (λ c κs. search rules) returns-2)

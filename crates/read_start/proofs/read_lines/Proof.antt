@@ -10,18 +10,20 @@ use Rattle.read_start.proofs.read_lines.Tie as tie
 returns : tie.Need-returns
 unfolding start_run start_lines
 returns c =
-    let n = c.before.before.before.before.before in
-    let w = n.before.before.before in
-    let d = w.before.before in
-    let l = d.before.before in
-    let pre = l.before.before.requires in
-    run-after _ _ l.length_run.ensures
-    (after_then _ _ d.then-due.ensures
-    (after_then _ _ (rw (none-least 32) at w.then-within.ensures.0)
-    (after_then _ _ (rw (pre.0, pre.1) at n.then-instances.ensures)
-    (after_then _ _ (rw (none-least 64) at c.before.before.before.then-within2.ensures.0)
-    (after_then _ _ (c.before.then-connections.ensures _)
-    (after-give _ _ c.then-end.ensures))))))
+    let n = c in
+    let w = c in
+    let d = c in
+    let l = c in
+    let pre = c.requires in
+    run-after _ _ l.length_run-length.ensures
+    (after_then _ _ d.then_due-first.ensures
+    (after_then _ _ (rw (none-least 32) at w.then_within-instances.ensures.0)
+    (after_then _ _ (rw (pre.0, pre.1) at n.then_instances-stood.ensures)
+    (after_then _ _ (rw (none-least 64) at c.then_within-count.ensures.0)
+    (after_then _ _ (c.then_connections-joined.ensures _)
+    (after-give _ _ c.then_end.ensures))))))
 
-pub read-lines-spec : {M : Type 1} → statement M
-read-lines-spec = tie.close (tie.spec (λ c κs. search rules) (λ c. search rules) (λ c κs. search rules) (λ c. search rules) (λ c κs. search rules) (λ c κs. search rules) (λ c. search rules) (λ c κs. search rules) (λ c κs. search rules) (λ c κs. search rules) returns)
+pub read_lines_spec : {M : Type 1} → statement M
+read_lines_spec = tie.close (tie.spec
+    (λ c κs. search rules) (λ c κs. search rules) (λ c κs. search rules) (λ c κs. search rules) (λ c κs. search rules) (λ c κs. search rules)
+    (λ c κs. search rules) returns)

@@ -20,10 +20,10 @@ record Shown (state old now : List ℕ) (n : ℕ) : Type 0 where
   same : (r : ℕ) → r < n → get_or (begun_in now).queue r 0 ≡ get_or (state_in state).queue r 0
   last : (begun_in now).last ≡ (begun_in old).last
 
-abbrev invariant-loop : tie.invariant-loop
+abbrev invariant-loop : tie.invariant-loop-n
 invariant-loop state begun₀ n₀ begun n = Shown state begun₀ begun n
 
-abbrev decreases-loop : tie.decreases-loop
+abbrev decreases-loop : tie.decreases-loop-n
 decreases-loop state begun₀ n₀ begun n = 256 - n
 
 wide-begun : (ws : List ℕ) → length (begun_in ws).queue ≡ 256
@@ -55,17 +55,18 @@ all_shown state old now n h l i = record {
   last = h.last i;
 }
 
-loop-holds : tie.Need-loop-init invariant-loop decreases-loop
+loop-holds : tie.Need-loop-n-init invariant-loop decreases-loop
 loop-holds c = start-shown _ _
 
-loop-again : tie.Need-loop-preserved invariant-loop decreases-loop
+loop-again : tie.Need-loop-n-preserved invariant-loop decreases-loop
 loop-again c =
-    let s = c.before in
-    let t = s.before.before in
-    one-shown _ _ _ _ _ t.before.loop.invariant t.loop-test.true (c.put-begun-slot.ensures ∙ rw s.slot_at.ensures)
+    let s = c in
+    let t = c in
+    one-shown _ _ _ _ _ t.loop-n.invariant t.loop-n-test.true (c.put_begun_slot.ensures ∙ rw s.slot_at.ensures)
 
 returns : tie.Need-returns invariant-loop decreases-loop
-returns c = all_shown _ _ _ _ c.before.loop.invariant (omega (arith, c.loop-test.false))
+returns c = all_shown _ _ _ _ c.loop-n.invariant (omega (arith, c.loop-n-test.false))
 
-pub show-queues-spec : {M : Type 1} → statement M
-show-queues-spec = tie.close (tie.spec invariant-loop decreases-loop loop-holds (λ c κs. search rules) (λ c κs. search rules) (λ c. search rules) (λ c. search rules) loop-again returns)
+pub show_queues_spec : {M : Type 1} → statement M
+show_queues_spec = tie.close (tie.spec
+    invariant-loop decreases-loop loop-holds (λ c κs. search rules) (λ c κs. search rules) (λ c. search rules) (λ c. search rules) loop-again returns)

@@ -10,26 +10,26 @@ use borrow.Author.Rules.{rules}
 use Rattle.read_start.proofs.then_connections.Statement.{statement}
 use Rattle.read_start.proofs.then_connections.Tie as tie
 
-abbrev invariant-loop : tie.invariant-loop
+abbrev invariant-loop : tie.invariant-loop-i
 invariant-loop text tables state₀ most stood₀ i₀ state stood i =
     (lasts : List ℕ) → Turns (connection_at (tables_in tables)) most 0 (state_in state₀, 0, lasts) text stood₀.read i stood.read (state_in state, stood.least, lasts)
 
-abbrev decreases-loop : tie.decreases-loop
+abbrev decreases-loop : tie.decreases-loop-i
 decreases-loop text tables state₀ most stood₀ i₀ state stood i = most - i
 
-loop-holds : tie.Need-loop-init invariant-loop decreases-loop
-loop-holds c = λ lasts. rw c.from-here.ensures.1 (no-turn _ _ _ _ c.from-here.ensures.0)
+loop-holds : tie.Need-loop-i-init invariant-loop decreases-loop
+loop-holds c = λ lasts. rw c.from_here-stood.ensures.1 (no-turn _ _ _ _ c.from_here-stood.ensures.0)
 
-loop-again : tie.Need-loop-preserved invariant-loop decreases-loop
-loop-again c = λ lasts. turn_on _ _ _ _ (c.before.before.before.before.loop.invariant lasts) _ c.before.before.before.goes_on.ensures _ c.before.before.if1.true (sym (zero-add _)) (c.read-connection.ensures _ lasts)
+loop-again : tie.Need-loop-i-preserved invariant-loop decreases-loop
+loop-again c = λ lasts. turn_on _ _ _ _ (c.loop-i.invariant lasts) _ c.goes_on.ensures _ c.loop-i-test.true (sym (zero-add _)) (c.read_connection-stood.ensures _ lasts)
 
 returns : tie.Need-returns invariant-loop decreases-loop
-returns c = λ lasts. turns-over _ _ _ _ c.before.before.before.from-here.ensures.0 (c.before.before.loop.invariant lasts) _ c.before.goes_on.ensures c.if1.false
+returns c = λ lasts. turns-over _ _ _ _ c.from_here-stood.ensures.0 (c.loop-i.invariant lasts) _ c.goes_on.ensures c.loop-i-test.false
 
-pub then-connections-spec : {M : Type 1} → statement M
-then-connections-spec =
+pub then_connections_spec : {M : Type 1} → statement M
+then_connections_spec =
     tie.close
-    (tie.spec invariant-loop decreases-loop (λ c κs. search rules) loop-holds (λ c κs. search rules) (λ c κs. search rules)
-    (λ c. omega (arith, below c.before.before.before.before.loop.i c.before.before.before.before.before.before.before.args.count.number c.before.before.before.goes_on.result c.before.before.if1.true))
-    (λ c. omega (arith, below c.before.before.before.before.loop.i c.before.before.before.before.before.before.before.args.count.number c.before.before.before.goes_on.result c.before.before.if1.true))
-    loop-again returns)
+    (tie.spec
+    invariant-loop decreases-loop (λ c κs. search rules) loop-holds (λ c κs. search rules) (λ c κs. search rules)
+    (λ c. omega (arith, below c.loop-i.i c.args.count.number c.goes_on.result c.loop-i-test.true))
+    (λ c. omega (arith, below c.loop-i.i c.args.count.number c.goes_on.result c.loop-i-test.true)) loop-again returns)

@@ -10,28 +10,28 @@ use borrow.Author.Rules.{rules}
 use Rattle.read_start.proofs.then_instances.Statement.{statement}
 use Rattle.read_start.proofs.then_instances.Tie as tie
 
-abbrev invariant-loop : tie.invariant-loop
+abbrev invariant-loop : tie.invariant-loop-i
 invariant-loop default edition text tables state₀ begun₀ most stood₀ i₀ state begun stood i =
     Turns (instance_at edition (queue_room default (tables_in tables)) (tables_in tables)) most 0 (state_in state₀, 0, (begun_in begun₀).last) text stood₀.read i stood.read (state_in state, stood.least, (begun_in begun).last)
 
-abbrev decreases-loop : tie.decreases-loop
+abbrev decreases-loop : tie.decreases-loop-i
 decreases-loop default edition text tables state₀ begun₀ most stood₀ i₀ state begun stood i = most - i
 
-loop-holds : tie.Need-loop-init invariant-loop decreases-loop
-loop-holds c = rw c.from-here.ensures.1 (no-turn _ _ _ _ c.from-here.ensures.0)
+loop-holds : tie.Need-loop-i-init invariant-loop decreases-loop
+loop-holds c = rw c.from_here-stood.ensures.1 (no-turn _ _ _ _ c.from_here-stood.ensures.0)
 
-loop-again : tie.Need-loop-preserved invariant-loop decreases-loop
+loop-again : tie.Need-loop-i-preserved invariant-loop decreases-loop
 loop-again c =
-    let i = c.before.before.before in
-    turn_on _ _ _ _ i.before.before.loop.invariant _ i.before.goes_on.ensures _ i.if1.true (sym (zero-add _)) (c.read-instance.ensures _)
+    let i = c in
+    turn_on _ _ _ _ i.loop-i.invariant _ i.goes_on.ensures _ i.loop-i-test.true (sym (zero-add _)) (c.read_instance-stood.ensures _)
 
 returns : tie.Need-returns invariant-loop decreases-loop
-returns c = turns-over _ _ _ _ c.before.before.before.from-here.ensures.0 c.before.before.loop.invariant _ c.before.goes_on.ensures c.if1.false
+returns c = turns-over _ _ _ _ c.from_here-stood.ensures.0 c.loop-i.invariant _ c.goes_on.ensures c.loop-i-test.false
 
-pub then-instances-spec : {M : Type 1} → statement M
-then-instances-spec =
+pub then_instances_spec : {M : Type 1} → statement M
+then_instances_spec =
     tie.close
-    (tie.spec invariant-loop decreases-loop (λ c κs. search rules) loop-holds (λ c κs. search rules) (λ c κs. search rules)
-    (λ c. omega (arith, below c.before.before.before.before.before.loop.i c.before.before.before.before.before.before.before.before.args.count.number c.before.before.before.before.goes_on.result c.before.before.before.if1.true))
-    (λ c. omega (arith, below c.before.before.before.before.before.loop.i c.before.before.before.before.before.before.before.before.args.count.number c.before.before.before.before.goes_on.result c.before.before.before.if1.true))
-    loop-again returns)
+    (tie.spec
+    invariant-loop decreases-loop (λ c κs. search rules) loop-holds (λ c κs. search rules) (λ c κs. search rules)
+    (λ c. omega (arith, below c.loop-i.i c.args.count.number c.goes_on.result c.loop-i-test.true))
+    (λ c. omega (arith, below c.loop-i.i c.args.count.number c.goes_on.result c.loop-i-test.true)) loop-again returns)

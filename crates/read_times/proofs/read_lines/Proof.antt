@@ -12,42 +12,41 @@ use Rattle.read_times.proofs.read_lines.Statement.{statement}
 use Rattle.read_times.proofs.read_lines.Tie as tie
 
 -- the first two lines, each as it was read
-due : (c : tie.After-known-told) → let s = c.before.before.before.before.before.before.args.text.now in Reads s (past tt c.before.par-at.given.0.0) (due_line (bytes "times=") 1 s)
-due c = told due_says _ c.before.before.before.due-at.ensures c.before.par-at.given.1
+due : (c : tie.In-Past) → let s = c.args.text.now in Reads s (past tt c.in-Past.par_at) (due_line (bytes "times=") 1 s)
+due c = told due_says _ c.due_at.ensures c.in-Past.is
 
-par : (c : tie.After-known-told2) →
-    let d = c.before.before.before.before.before in
-    let s = d.before.before.before.before.before.before.args.text.now in
-    Reads s (past c.before.line.given.0.0 c.before.line.given.0.1.0) (count_line_in 7 (bytes "par=") par_ok (drop d.before.par-at.given.0.0 s))
-par c = told line_says _ c.before.before.before.within-at.ensures.reads c.before.line.given.1
+par : (c : tie.In-Got) →
+    let d = c in
+    let s = c.args.text.now in
+    Reads s (past c.in-Got.par c.in-Got.rows_at) (count_line_in 7 (bytes "par=") par_ok (drop d.in-Past.par_at s))
+par c = told line_says _ c.within_at-line.ensures.reads c.in-Got.is
 
-returns : tie.Need-returns
-returns c = record { runs = due-fault _ (told due_says _ c.before.before.due-at.ensures c.enum_told.given.1) }
+returns : tie.Need-returns-in_default
+returns c = record { runs = due-fault _ (told due_says _ c.due_at.ensures c.in_default.is) }
 
-returns-2 : tie.Need-returns-2
+returns-2 : tie.Need-returns-in_default-line
 returns-2 c =
-    let q = c.before.enum-told2.given.1 in
-    let h = told line_says _ c.before.before.before.within-at.ensures.reads q in
-    record { runs = rw (c.line-refusal.ensures, q) (par-fault _ (due c.before.before.before.before.before) h) }
+    let q = c.in_default-line.is in
+    let h = told line_says _ c.within_at-line.ensures.reads q in
+    record { runs = rw (c.line_refusal-k.ensures, q) (par-fault _ (due c.before.before.before.before.before) h) }
 
-returns-3 : tie.Need-returns-3
+returns-3 : tie.Need-returns-in_default-line-2
 returns-3 c =
-    let q = c.before.enum-told3.given.1 in
-    let p = c.before.before.before.before.before in
-    let h = told line_says _ c.before.before.before.within-at2.ensures.reads q in
-    record { runs = rw (c.line-refusal2.ensures, q) (rows-fault _ (due p.before.before.before.before.before) (par p) h) }
+    let q = c.in_default-line-2.is in
+    let p = c in
+    let h = told line_says _ c.within_at-line-2.ensures.reads q in
+    record { runs = rw (c.line_refusal-k-in_default-line-2.ensures, q) (rows-fault _ (due c.before.before.before.before.before.before.before.before.before) (par c.before.before.before.before.before) h) }
 
-returns-4 : tie.Need-returns-4
+returns-4 : tie.Need-returns
 returns-4 c =
-    let p = c.before.before.before.before.before.before.before.before in
-    let h = told line_says _ c.before.before.before.before.before.before.within-at2.ensures.reads c.before.before.before.before.line2.given.1 in
-    reads_same (head_read _ (due p.before.before.before.before.before) (par p) h) c.read-from-rows.ensures
+    let p = c in
+    let h = told line_says _ c.within_at-line-2.ensures.reads c.in-Got-line.is in
+    reads_same (head_read _ (due c.before.before.before.before.before.before.before.before.before.before.before) (par c.before.before.before.before.before.before.before) h) c.read_from_rows.ensures
 
-pub read-lines-spec : {M : Type 1} → statement M
-read-lines-spec =
+pub read_lines_spec : {M : Type 1} → statement M
+read_lines_spec =
     tie.close
     (tie.spec
-    (λ c. search rules) (λ c κs. search rules) (λ c. search rules) (λ c. search rules) returns (λ c. search rules)
-    (λ c κs. search rules) (λ c. search rules) (λ c. search rules) (λ c κs. search rules) returns-2 (λ c. search rules)
-    (λ c κs. search rules) (λ c. search rules) (λ c. search rules) (λ c κs. search rules) returns-3 (λ c. search rules)
-    (λ c κs. c.before.before.before.before.before.before.before.before.before.before.before.before.before.before.before.before.before.before.requires) returns-4)
+    (λ c κs. search rules) (λ c. search rules) (λ c. search rules) returns (λ c κs. search rules) (λ c. search rules) (λ c. search rules)
+    (λ c κs. search rules) returns-2 (λ c κs. search rules) (λ c. search rules) (λ c. search rules) (λ c κs. search rules) returns-3
+    (λ c. search rules) (λ c κs. c.requires) returns-4)

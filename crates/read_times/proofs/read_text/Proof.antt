@@ -3,11 +3,12 @@ use Rattle.read_times.proofs.Laws.{lines-read, too_long}
 use Rattle.read_times.proofs.read_text.Statement.{statement}
 use Rattle.read_times.proofs.read_text.Tie as tie
 
-returns : tie.Need-returns
-returns c = too_long _ c.if1.true
+returns : tie.Need-returns-then-text-gt-LONGEST
+returns c = too_long _ c.if-text-gt-LONGEST.true
 
-returns-2 : tie.Need-returns-2
-returns-2 c = lines-read _ _ c.before.before.before.if1.false c.read-lines.ensures
+returns-2 : tie.Need-returns
+returns-2 c = lines-read _ _ c.if-text-gt-LONGEST.false c.read_lines.ensures
 
-pub read-text-spec : {M : Type 1} → statement M
-read-text-spec = tie.close (tie.spec returns (λ c κs. search rules) returns-2)
+pub read_text_spec : {M : Type 1} → statement M
+read_text_spec = tie.close (tie.spec
+    returns (λ c κs. search rules) returns-2)

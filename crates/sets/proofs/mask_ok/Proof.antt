@@ -9,14 +9,14 @@ use borrow.Author.Rules.{rules}
 use Rattle.sets.proofs.mask_ok.Statement.{statement}
 use Rattle.sets.proofs.mask_ok.Tie as tie
 
-returns : tie.Need-returns
-returns c = ap (ltb c.before.args.m) (shl_exact 1 c.before.args.n 32 (omega arith) (omega (arith, c.if1.true)) ∙ one-mul (2 ^ c.before.args.n))
+returns : tie.Need-returns-then-n-lt32
+returns c = ap (ltb c.args.m) (shl_exact 1 c.args.n 32 (omega arith) (omega (arith, c.if-n-lt32.true)) ∙ one-mul (2 ^ c.args.n))
 
-returns-2 : tie.Need-returns-2
-returns-2 c = sym (lt-ltb _ _ (lt_of_lt_of_le c.before.ranges.m.fits (pow_mono {j = c.before.args.n} c.if1.false)))
+returns-2 : tie.Need-returns-else-n-lt32
+returns-2 c = sym (lt-ltb _ _ (lt_of_lt_of_le c.ranges.m.fits (pow_mono {j = c.args.n} c.if-n-lt32.false)))
 
-pub mask-ok-spec : {M : Type 1} → statement M
-mask-ok-spec =
+pub mask_ok_spec : {M : Type 1} → statement M
+mask_ok_spec =
     tie.close
     (tie.spec
     (λ c. search rules) returns returns-2)

@@ -4,9 +4,9 @@ use Rattle.sitting_shown.specs.Shown.{quote}
 use Rattle.sitting_shown.proofs.is_quote.Statement.{statement}
 use Rattle.sitting_shown.proofs.is_quote.Tie as tie
 
-pub is-quote-spec : {M : Type 1} → statement M
+pub is_quote_spec : {M : Type 1} → statement M
 unfolding quote
-is-quote-spec =
+is_quote_spec =
     tie.close
-    (tie.spec (λ c. rw (eq-eqb _ _ c.if1.true, quote))
-    (λ c. rw (ne_eqb _ _ c.if1.false, quote)))
+    (tie.spec
+    (λ c. rw (eq-eqb _ _ c.if-b-eq34.true, quote)) (λ c. rw (ne_eqb _ _ c.if-b-eq34.false, quote)))

@@ -7,19 +7,20 @@ use Rattle.sitting_shown.proofs.write_place.Tie as tie
 returns : tie.Need-returns
 unfolding place_text
 returns c =
-    let end = c.before.before in
-    let size = end.before.before.before.before in
-    let start-end = size.before.before.before.before in
-    let start = start-end.before.before.before.before in
-    let which-end = start.before.before.before.before in
-    let which = which-end.before.before.before.before in
-    let key = which.before.before.before.before in
-    let to-which = then (then key.write-key.ensures which.write-which.ensures) which-end.write_byte.ensures in
-    let to_start = then (then to-which start.write-number.ensures) start-end.write-byte2.ensures in
-    then (then to_start size.write-number2.ensures) end.write-byte3.ensures
+    let end = c in
+    let size = c in
+    let start-end = c in
+    let start = c in
+    let which-end = c in
+    let which = c in
+    let key = c in
+    let to-which = then (then key.write_key-a.ensures which.write_which-b.ensures) which-end.write_byte-c.ensures in
+    let to_start = then (then to-which start.write_number-d.ensures) start-end.write_byte-e.ensures in
+    then (then to_start size.write_number-f.ensures) end.write_byte.ensures
 
-pub write-place-spec : {M : Type 1} → statement M
-write-place-spec =
+pub write_place_spec : {M : Type 1} → statement M
+write_place_spec =
     tie.close
-    (tie.spec (λ c. search rules) (λ c κs. search rules) (λ c κs. search rules) (λ c κs. search rules) (λ c κs. search rules) (λ c κs. search rules)
-    (λ c κs. search rules) (λ c κs. search rules) (λ c. length-written (returns c)) returns)
+    (tie.spec
+    (λ c κs. search rules) (λ c κs. search rules) (λ c κs. search rules) (λ c κs. search rules) (λ c κs. search rules) (λ c κs. search rules)
+    (λ c κs. search rules) (λ c. length-written (returns c)) returns)

@@ -13,8 +13,9 @@ use Rattle.step_connections.proofs.connect.Tie as tie
 returns : tie.Need-returns
 unfolding connected disconnected
 returns c =
-    let a = c.before.before.before.args in
-    c.put-server.ensures ∙ rw c.before.before.server-number.ensures (by_cases (dec_lt (port_number a.v a.p) 4294967295) (λ h. rw (lt-ltb _ _ h) refl) (λ h. rw (le-ltb (port_number a.v a.p) 4294967295 (omega arith)) refl))
+    let a = c.args in
+    c.put_server.ensures ∙ rw c.server_number-x.ensures (by_cases (dec_lt (port_number a.v a.p) 4294967295) (λ h. rw (lt-ltb _ _ h) refl) (λ h. rw (le-ltb (port_number a.v a.p) 4294967295 (omega arith)) refl))
 
-pub connect-spec : {M : Type 1} → statement M
-connect-spec = tie.close (tie.spec (λ c κs. search rules) (λ c. search rules) (λ c. search rules) (λ c κs. search rules) returns)
+pub connect_spec : {M : Type 1} → statement M
+connect_spec = tie.close (tie.spec
+    (λ c κs. search rules) (λ c. search rules) (λ c. search rules) (λ c κs. search rules) returns)

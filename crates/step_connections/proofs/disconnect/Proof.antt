@@ -5,7 +5,8 @@ use Rattle.step_connections.proofs.disconnect.Tie as tie
 
 returns : tie.Need-returns
 unfolding disconnected
-returns c = λ v p. c.put-server.ensures
+returns c = λ v p. c.put_server.ensures
 
-pub disconnect-spec : {M : Type 1} → statement M
-disconnect-spec = tie.close (tie.spec (λ c. search rules) (λ c. search rules) (λ c κs. search rules) returns)
+pub disconnect_spec : {M : Type 1} → statement M
+disconnect_spec = tie.close (tie.spec
+    (λ c. search rules) (λ c. search rules) (λ c κs. search rules) returns)

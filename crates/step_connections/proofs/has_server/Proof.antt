@@ -5,7 +5,8 @@ use Rattle.step_connections.proofs.has_server.Statement.{statement}
 use Rattle.step_connections.proofs.has_server.Tie as tie
 
 returns : tie.Need-returns
-returns c = rw c.server-of.ensures (sym (taken-looked _ _ _))
+returns c = rw c.server_of.ensures (sym (taken-looked _ _ _))
 
-pub has-server-spec : {M : Type 1} → statement M
-has-server-spec = tie.close (tie.spec (λ c κs. search rules) returns)
+pub has_server_spec : {M : Type 1} → statement M
+has_server_spec = tie.close (tie.spec
+    (λ c κs. search rules) returns)

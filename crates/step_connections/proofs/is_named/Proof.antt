@@ -12,26 +12,27 @@ use borrow.Author.Rules.{rules}
 use Rattle.step_connections.proofs.is_named.Statement.{statement}
 use Rattle.step_connections.proofs.is_named.Tie as tie
 
-abbrev invariant-loop : tie.invariant-loop
+abbrev invariant-loop : tie.invariant-loop-s
 invariant-loop state i found₀ s₀ found s =
     (s ≤ 512) × (found ≡ any_below s (λ n. named_by i (connection_at (state_in state).servers n) && is_served (state_in state).servers n))
 
-abbrev decreases-loop : tie.decreases-loop
+abbrev decreases-loop : tie.decreases-loop-s
 decreases-loop state i found₀ s₀ found s = 512 - s
 
-loop-holds : tie.Need-loop-init invariant-loop decreases-loop
+loop-holds : tie.Need-loop-s-init invariant-loop decreases-loop
 unfolding any_below
 loop-holds c = (search rules, refl)
 
-loop-again : tie.Need-loop-preserved invariant-loop decreases-loop
+loop-again : tie.Need-loop-s-preserved invariant-loop decreases-loop
 unfolding any_below
 loop-again c =
-    let l = c.before.before.loop in
-    (search rules, rw (l.invariant.1, c.names.ensures, add-one l.s))
+    let l = c.loop-s in
+    (search rules, rw (l.invariant.1, c.names-found.ensures, add-one l.s))
 
 returns : tie.Need-returns invariant-loop decreases-loop
 unfolding in_table
-returns c = let e : c.before.loop.s ≡ 512 = omega arith in rw e at c.before.loop.invariant.1
+returns c = let e : c.loop-s.s ≡ 512 = omega arith in rw e at c.loop-s.invariant.1
 
-pub is-named-spec : {M : Type 1} → statement M
-is-named-spec = tie.close (tie.spec invariant-loop decreases-loop loop-holds (λ c κs. search rules) (λ c. search rules) (λ c. search rules) loop-again returns)
+pub is_named_spec : {M : Type 1} → statement M
+is_named_spec = tie.close (tie.spec
+    invariant-loop decreases-loop loop-holds (λ c κs. search rules) (λ c. search rules) (λ c. search rules) loop-again returns)

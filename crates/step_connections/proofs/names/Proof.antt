@@ -6,7 +6,8 @@ use Rattle.step_connections.proofs.names.Tie as tie
 
 returns : tie.Need-returns
 unfolding named_by is_served
-returns c = rw (← c.before.server.ensures, ← c.provider.ensures)
+returns c = rw (← c.server-x.ensures, ← c.provider.ensures)
 
-pub names-spec : {M : Type 1} → statement M
-names-spec = tie.close (tie.spec (λ c κs. search rules) (λ c κs. search rules) returns)
+pub names_spec : {M : Type 1} → statement M
+names_spec = tie.close (tie.spec
+    (λ c κs. search rules) (λ c κs. search rules) returns)

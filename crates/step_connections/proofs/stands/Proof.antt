@@ -5,7 +5,8 @@ use Rattle.step_connections.proofs.stands.Statement.{statement}
 use Rattle.step_connections.proofs.stands.Tie as tie
 
 returns : tie.Need-returns
-returns c = rw (c.provideport.ensures, c.before.provider.ensures, c.before.before.server-of.ensures) (sym (same-looked _ _ _ _ _))
+returns c = rw (c.provideport.ensures, c.provider.ensures, c.server_of-x.ensures) (sym (same-looked _ _ _ _ _))
 
-pub stands-spec : {M : Type 1} → statement M
-stands-spec = tie.close (tie.spec (λ c κs. search rules) (λ c κs. search rules) (λ c κs. search rules) returns)
+pub stands_spec : {M : Type 1} → statement M
+stands_spec = tie.close (tie.spec
+    (λ c κs. search rules) (λ c κs. search rules) (λ c κs. search rules) returns)

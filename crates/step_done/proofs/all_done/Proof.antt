@@ -6,7 +6,8 @@ use Rattle.step_done.proofs.all_done.Tie as tie
 
 returns : tie.Need-returns
 unfolding all_done
-returns c = rw (← c.before.before.queues-empty.ensures, ← c.before.instructions.ensures, ← c.done.ensures) refl
+returns c = rw (← c.queues_empty-empty.ensures, ← c.instructions.ensures, ← c.done.ensures) refl
 
-pub all-done-spec : {M : Type 1} → statement M
-all-done-spec = tie.close (tie.spec (λ c κs. search rules) (λ c κs. search rules) (λ c κs. search rules) returns)
+pub all_done_spec : {M : Type 1} → statement M
+all_done_spec = tie.close (tie.spec
+    (λ c κs. search rules) (λ c κs. search rules) (λ c κs. search rules) returns)

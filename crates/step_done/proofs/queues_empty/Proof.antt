@@ -13,17 +13,18 @@ use Rattle.words.specs.Words.{state_in}
 use Rattle.step_done.proofs.queues_empty.Statement.{statement}
 use Rattle.step_done.proofs.queues_empty.Tie as tie
 
-abbrev invariant-loop : tie.invariant-loop
+abbrev invariant-loop : tie.invariant-loop-i
 invariant-loop state i₀ i = (i ≤ 32) × (all_below i (λ j. eqb (instance (state_in state) j).queued 0) ≡ true)
 
-abbrev decreases-loop : tie.decreases-loop
+abbrev decreases-loop : tie.decreases-loop-i
 decreases-loop state i₀ i = 32 - i
 
-pub queues-empty-spec : {M : Type 1} → statement M
-queues-empty-spec =
+pub queues_empty_spec : {M : Type 1} → statement M
+queues_empty_spec =
     tie.close
-    (tie.spec invariant-loop decreases-loop (λ c. (search rules, all_start _)) (λ c κs. search rules)
-    (λ c. let q = c.before in let l = q.before.before in sym (all-miss 32 _ l.loop.i q.before.loop-test.true (rw (← q.queued.ensures) (ne_eqb _ _ c.if1.true))))
+    (tie.spec
+    invariant-loop decreases-loop (λ c. (search rules, all_start _)) (λ c κs. search rules)
+    (λ c. let q = c in let l = c in sym (all-miss 32 _ l.loop-i.i q.loop-i-test.true (rw (← q.queued.ensures) (ne_eqb _ _ c.if-queued-ne0.true))))
     (λ c. search rules) (λ c. search rules)
-    (λ c. let q = c.before in let l = q.before.before in (search rules, all_more l.loop.i _ l.loop.invariant.1 (rw (← q.queued.ensures) (eq-eqb _ _ c.if1.false))))
-    (λ c. let l = c.before in sym (all_end 32 l.loop.i _ l.loop.invariant.0 c.loop-test.false l.loop.invariant.1)))
+    (λ c. let q = c in let l = c in (search rules, all_more l.loop-i.i _ l.loop-i.invariant.1 (rw (← q.queued.ensures) (eq-eqb _ _ c.if-queued-ne0.false))))
+    (λ c. let l = c in sym (all_end 32 l.loop-i.i _ l.loop-i.invariant.0 c.loop-i-test.false l.loop-i.invariant.1)))

@@ -5,7 +5,8 @@ use Rattle.step_instance.proofs.active.Tie as tie
 
 returns : tie.Need-returns
 unfolding active
-returns c = rw (← c.before.before.before.kind.ensures, ← c.before.before.marked.ensures, ← c.before.held.ensures) c.active-with.ensures
+returns c = rw (← c.kind.ensures, ← c.marked.ensures, ← c.held.ensures) c.active_with.ensures
 
-pub active-spec : {M : Type 1} → statement M
-active-spec = tie.close (tie.spec (λ c κs. search rules) (λ c κs. search rules) (λ c κs. search rules) (λ c κs. search rules) returns)
+pub active_spec : {M : Type 1} → statement M
+active_spec = tie.close (tie.spec
+    (λ c κs. search rules) (λ c κs. search rules) (λ c κs. search rules) (λ c κs. search rules) returns)

@@ -4,8 +4,9 @@ use Rattle.step_instance.proofs.active_with.Tie as tie
 
 returns : tie.Need-returns
 returns c =
-    let o = c.before.before in
-    rw (← o.before.group-places.ensures, ← o.overlaps.ensures, ← c.before.group-transitions.ensures, ← c.overlaps2.ensures)
+    let o = c in
+    rw (← o.group_places.ensures, ← o.overlaps.ensures, ← c.group_transitions.ensures, ← c.overlaps-2.ensures)
 
-pub active-with-spec : {M : Type 1} → statement M
-active-with-spec = tie.close (tie.spec (λ c κs. search rules) (λ c κs. search rules) (λ c κs. search rules) (λ c κs. search rules) returns)
+pub active_with_spec : {M : Type 1} → statement M
+active_with_spec = tie.close (tie.spec
+    (λ c κs. search rules) (λ c κs. search rules) (λ c κs. search rules) (λ c κs. search rules) returns)

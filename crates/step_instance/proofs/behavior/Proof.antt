@@ -4,15 +4,16 @@ use borrow.Author.Rules.{rules}
 use Rattle.step_instance.proofs.behavior.Statement.{statement}
 use Rattle.step_instance.proofs.behavior.Tie as tie
 
-returns : tie.Need-returns
+returns : tie.Need-returns-then-queued-eq0
 unfolding current
-returns c = rw (← c.before.queued.ensures, eq-eqb _ _ c.if1.true)
+returns c = rw (← c.queued.ensures, eq-eqb _ _ c.if-queued-eq0.true)
 
-returns-2 : tie.Need-returns-2
+returns-2 : tie.Need-returns
 unfolding current
 returns-2 c =
-    let a = c.before.before.before in
-    rw (← a.before.queued.ensures, ne_eqb _ _ a.if1.false, ← c.before.before.kind.ensures, ← c.before.slot.ensures) c.behavior-of.ensures
+    let a = c in
+    rw (← a.queued.ensures, ne_eqb _ _ a.if-queued-eq0.false, ← c.kind.ensures, ← c.slot.ensures) c.behavior_of.ensures
 
-pub behavior-spec : {M : Type 1} → statement M
-behavior-spec = tie.close (tie.spec (λ c κs. search rules) returns (λ c κs. search rules) (λ c κs. search rules) (λ c κs. search rules) returns-2)
+pub behavior_spec : {M : Type 1} → statement M
+behavior_spec = tie.close (tie.spec
+    (λ c κs. search rules) returns (λ c κs. search rules) (λ c κs. search rules) (λ c κs. search rules) returns-2)

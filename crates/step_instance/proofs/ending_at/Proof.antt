@@ -13,49 +13,50 @@ use Rattle.step_instance.specs.Alone.{end_of}
 use Rattle.step_instance.proofs.ending_at.Statement.{statement}
 use Rattle.step_instance.proofs.ending_at.Tie as tie
 
-abbrev invariant-loop : tie.invariant-loop
+abbrev invariant-loop : tie.invariant-loop-rest
 invariant-loop tables out k m p xs₀ rest₀ xs rest = Rest m rest × (xs ≡ collect 32 (behind m (λ x. eqb (end_of (tables_in tables) out k x) p) rest))
 
-abbrev decreases-loop : tie.decreases-loop
+abbrev decreases-loop : tie.decreases-loop-rest
 decreases-loop tables out k m p xs₀ rest₀ xs rest = left rest
 
-loop-holds : tie.Need-loop-init invariant-loop decreases-loop
+loop-holds : tie.Need-loop-rest-init invariant-loop decreases-loop
 loop-holds c = (rest-start c.args.m c.ranges.m.fits, members-start c.args.m _)
 
-loop-less : tie.Need-loop-smaller invariant-loop decreases-loop
+loop-less : tie.Need-loop-rest-smaller invariant-loop decreases-loop
 loop-less c =
-    let t = c.before.before.before.before in
-    rw c.later.ensures (left_less _ t.before.loop.rest t.before.loop.invariant.0 t.loop-test.true)
+    let t = c in
+    rw c.later-rest.ensures (left_less _ t.loop-rest.rest t.loop-rest.invariant.0 t.loop-rest-test.true)
 
 -- the transition looked at
-abbrev passed : tie.After-end-of invariant-loop decreases-loop → Bool → Type 0
+abbrev passed : tie.After-end_of invariant-loop decreases-loop → Bool → Type 0
 passed e b =
-    let a = e.before.before.before.before.args in
-    eqb (end_of (tables_in a.tables.now) a.out a.k (least e.before.before.before.loop.rest)) a.p ≡ b
+    let a = e.args in
+    eqb (end_of (tables_in a.tables.now) a.out a.k (least e.loop-rest.rest)) a.p ≡ b
 
-own : (e : tie.After-end-of invariant-loop decreases-loop) (b : Bool) → eqb e.end_of_lem.result e.before.before.before.before.args.p ≡ b → passed e b
-own e b h = rw (← e.before.least.ensures, ← e.end_of_lem.ensures) h
+own : (e : tie.After-end_of invariant-loop decreases-loop) (b : Bool) → eqb e.end_of.result e.args.p ≡ b → passed e b
+own e b h = rw (← e.least-x.ensures, ← e.end_of.ensures) h
 
-loop-again : tie.Need-loop-preserved invariant-loop decreases-loop
+loop-again : tie.Need-loop-rest-preserved invariant-loop decreases-loop
 loop-again c =
-    let e = c.before.before in
-    let t = e.before.before in
-    let l = t.before.loop in
-    let some = t.loop-test.true in
-    rw c.later.ensures (
+    let e = c in
+    let t = c in
+    let l = c.loop-rest in
+    let some = c.loop-rest-test.true in
+    rw c.later-rest.ensures (
       rest-later _ l.rest l.invariant.0 some,
       ⊎_elim
-          (λ w. w.2 ∙ w.1.ensures ∙ ap₂ with e.before.least.ensures l.invariant.1 ∙ members-in _ _ l.rest l.invariant.0 some (own e true (eq-eqb _ _ w.0.taken)))
-          (λ w. w.1 ∙ l.invariant.1 ∙ members-out _ _ l.rest l.invariant.0 some (own e false (ne_eqb _ _ w.0.left)))
-          c.before.if1.branch,
+          (λ w. w.2 ∙ w.1.ensures ∙ ap₂ with e.least-x.ensures l.invariant.1 ∙ members-in _ _ l.rest l.invariant.0 some (own c.before.before true (eq-eqb _ _ w.0.taken)))
+          (λ w. w.1 ∙ l.invariant.1 ∙ members-out _ _ l.rest l.invariant.0 some (own c.before.before false (ne_eqb _ _ w.0.left)))
+          c.if-end_of-p.branch-raw,
     )
 
 returns : tie.Need-returns invariant-loop decreases-loop
 unfolding ends_at
-returns c = let l = c.before.loop in l.invariant.1 ∙ members-end _ _ l.rest c.loop-test.false
+returns c = let l = c.loop-rest in l.invariant.1 ∙ members-end _ _ l.rest c.loop-rest-test.false
 
-pub ending-at-spec : {M : Type 1} → statement M
-ending-at-spec =
+pub ending_at_spec : {M : Type 1} → statement M
+ending_at_spec =
     tie.close
-    (tie.spec invariant-loop decreases-loop loop-holds (λ c κs. search rules) (λ c κs. search rules) (λ c κs. search rules) (λ c κs. search rules)
-    loop-less loop-again returns)
+    (tie.spec
+    invariant-loop decreases-loop loop-holds (λ c κs. search rules) (λ c κs. search rules) (λ c κs. search rules) (λ c κs. search rules) loop-less
+    loop-again returns)

@@ -7,5 +7,6 @@ returns : tie.Need-returns
 unfolding entering
 returns c = c.ending_at.ensures
 
-pub entering-spec : {M : Type 1} → statement M
-entering-spec = tie.close (tie.spec (λ c κs. search rules) returns)
+pub entering_spec : {M : Type 1} → statement M
+entering_spec = tie.close (tie.spec
+    (λ c κs. search rules) returns)

@@ -7,5 +7,6 @@ returns : tie.Need-returns
 unfolding leaving
 returns c = c.ending_at.ensures
 
-pub leaving-spec : {M : Type 1} → statement M
-leaving-spec = tie.close (tie.spec (λ c κs. search rules) returns)
+pub leaving_spec : {M : Type 1} → statement M
+leaving_spec = tie.close (tie.spec
+    (λ c κs. search rules) returns)

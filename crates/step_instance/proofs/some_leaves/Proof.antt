@@ -12,52 +12,53 @@ use Rattle.step_instance.proofs.Marked.{marked-leaves}
 use Rattle.step_instance.proofs.some_leaves.Statement.{statement}
 use Rattle.step_instance.proofs.some_leaves.Tie as tie
 
-abbrev invariant-loop : tie.invariant-loop
+abbrev invariant-loop : tie.invariant-loop-rest
 invariant-loop tables state i any q m rest₀ rest = Rest rest₀ rest × (any_below 32 (behind rest₀ (leaves_by (tables_in tables) (instance (state_in state) i) m any q) rest) ≡ false)
 
-abbrev decreases-loop : tie.decreases-loop
+abbrev decreases-loop : tie.decreases-loop-rest
 decreases-loop tables state i any q m rest₀ rest = left rest
 
-loop-holds : tie.Need-loop-init invariant-loop decreases-loop
-loop-holds c = (rest-start c.marked.result c.marked.type-inv, none-start c.marked.result _)
+loop-holds : tie.Need-loop-rest-init invariant-loop decreases-loop
+loop-holds c = (rest-start c.marked-rest.result c.marked-rest.type_inv, none-start c.marked-rest.result _)
 
 -- the search over the marked places tells
-told : (c : tie.After-marked invariant-loop decreases-loop) (r : Bool)
-    → let a = c.before.before.args in
-    any_below 32 (λ p. member p c.marked.result && leaves_by (tables_in a.tables.now) (instance (state_in a.state.now) a.i) c.before.behavior.result a.any a.q p) ≡ r
+told : (c : tie.After-marked-rest invariant-loop decreases-loop) (r : Bool)
+    → let a = c.args in
+    any_below 32 (λ p. member p c.marked-rest.result && leaves_by (tables_in a.tables.now) (instance (state_in a.state.now) a.i) c.behavior-m.result a.any a.q p) ≡ r
     → r ≡ some_leaves (tables_in a.tables.now) (state_in a.state.now) a.i a.any a.q
-told c r e = sym e ∙ rw (c.marked.ensures, c.before.behavior.ensures) (marked-leaves _ _ _ _ _)
+told c r e = sym e ∙ rw (c.marked-rest.ensures, c.behavior-m.ensures) (marked-leaves _ _ _ _ _)
 
 -- the place looked at
-own : (e : tie.After-would-leave invariant-loop decreases-loop) (r : Bool) → e.would-leave.result ≡ r
-    → let l = e.before.before.before in
-    let b = l.before.before in
-    let a = b.before.args in
-    leaves_by (tables_in a.tables.now) (instance (state_in a.state.now) a.i) b.behavior.result a.any a.q (least l.loop.rest) ≡ r
-own e r h = rw (← e.before.least.ensures) (sym e.would-leave.ensures ∙ h)
+own : (e : tie.After-would_leave invariant-loop decreases-loop) (r : Bool) → e.would_leave.result ≡ r
+    → let l = e in
+    let b = e in
+    let a = e.args in
+    leaves_by (tables_in a.tables.now) (instance (state_in a.state.now) a.i) b.behavior-m.result a.any a.q (least l.loop-rest.rest) ≡ r
+own e r h = rw (← e.least.ensures) (sym e.would_leave.ensures ∙ h)
 
-returns : tie.Need-returns invariant-loop decreases-loop
+returns : tie.Need-returns-then-would_leave invariant-loop decreases-loop
 returns c =
-    let e = c.before in
-    let l = e.before.before.before in
-    told l.before true (members-hit _ _ l.loop.rest l.loop.invariant.0 e.before.before.loop-test.true (own e true c.if1.true))
+    let e = c in
+    let l = c in
+    told c.before.before.before.before.before true (members-hit _ _ l.loop-rest.rest l.loop-rest.invariant.0 e.loop-rest-test.true (own c.before true c.if-would_leave.true))
 
-loop-less : tie.Need-loop-smaller invariant-loop decreases-loop
+loop-less : tie.Need-loop-rest-smaller invariant-loop decreases-loop
 loop-less c =
-    let t = c.before.before.before.before in
-    rw c.later.ensures (left_less _ t.before.loop.rest t.before.loop.invariant.0 t.loop-test.true)
+    let t = c in
+    rw c.later-rest.ensures (left_less _ t.loop-rest.rest t.loop-rest.invariant.0 t.loop-rest-test.true)
 
-loop-again : tie.Need-loop-preserved invariant-loop decreases-loop
+loop-again : tie.Need-loop-rest-preserved invariant-loop decreases-loop
 loop-again c =
-    let e = c.before.before in
-    let l = e.before.before.before.loop in
-    rw c.later.ensures (searched _ _ l.rest l.invariant.0 e.before.before.loop-test.true l.invariant.1 (own e false c.before.if1.false))
+    let e = c in
+    let l = c.loop-rest in
+    rw c.later-rest.ensures (searched _ _ l.rest l.invariant.0 e.loop-rest-test.true l.invariant.1 (own c.before.before false c.if-would_leave.false))
 
-returns-2 : tie.Need-returns-2 invariant-loop decreases-loop
-returns-2 c = let l = c.before in told l.before false (none_end _ _ l.loop.rest c.loop-test.false l.loop.invariant.1)
+returns-2 : tie.Need-returns invariant-loop decreases-loop
+returns-2 c = let l = c in told c.before.before false (none_end _ _ l.loop-rest.rest c.loop-rest-test.false l.loop-rest.invariant.1)
 
-pub some-leaves-spec : {M : Type 1} → statement M
-some-leaves-spec =
+pub some_leaves_spec : {M : Type 1} → statement M
+some_leaves_spec =
     tie.close
-    (tie.spec invariant-loop decreases-loop (λ c κs. search rules) (λ c κs. search rules) loop-holds (λ c κs. search rules) (λ c κs. search rules)
-    returns (λ c κs. search rules) loop-less loop-again returns-2)
+    (tie.spec
+    invariant-loop decreases-loop (λ c κs. search rules) (λ c κs. search rules) loop-holds (λ c κs. search rules) (λ c κs. search rules) returns
+    (λ c κs. search rules) loop-less loop-again returns-2)

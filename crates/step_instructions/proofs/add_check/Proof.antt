@@ -5,7 +5,8 @@ use Rattle.step_instructions.proofs.add_check.Tie as tie
 
 returns : tie.Need-returns
 unfolding add_check
-returns c = rw (← c.before.present.ensures) c.refuse-if.ensures
+returns c = rw (← c.present.ensures) c.refuse_if.ensures
 
-pub add-check-spec : {M : Type 1} → statement M
-add-check-spec = tie.close (tie.spec (λ c κs. search rules) (λ c κs. search rules) returns)
+pub add_check_spec : {M : Type 1} → statement M
+add_check_spec = tie.close (tie.spec
+    (λ c κs. search rules) (λ c κs. search rules) returns)

@@ -6,9 +6,10 @@ use Rattle.step_instructions.proofs.del_check.Tie as tie
 returns : tie.Need-returns
 unfolding del_check
 returns c =
-    let l = c.before.before in
-    let n = l.before.before in
-    rw (← n.before.present.ensures, ← n.is-named.ensures, ← l.before.queued.ensures, ← l.refuse-if.ensures, ← c.before.refuse-if2.ensures) c.refuse-if3.ensures
+    let l = c in
+    let n = c in
+    rw (← n.present-here.ensures, ← n.is_named-named.ensures, ← l.queued.ensures, ← l.refuse_if-late.ensures, ← c.refuse_if.ensures) c.refuse_if-2.ensures
 
-pub del-check-spec : {M : Type 1} → statement M
-del-check-spec = tie.close (tie.spec (λ c κs. search rules) (λ c κs. search rules) (λ c κs. search rules) (λ c κs. search rules) (λ c κs. search rules) (λ c κs. search rules) returns)
+pub del_check_spec : {M : Type 1} → statement M
+del_check_spec = tie.close (tie.spec
+    (λ c κs. search rules) (λ c κs. search rules) (λ c κs. search rules) (λ c κs. search rules) (λ c κs. search rules) (λ c κs. search rules) returns)

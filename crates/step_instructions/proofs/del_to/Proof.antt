@@ -7,5 +7,6 @@ returns : tie.Need-returns
 unfolding deleted
 returns c = c.renew.ensures
 
-pub del-to-spec : {M : Type 1} → statement M
-del-to-spec = tie.close (tie.spec (λ c κs. search rules) returns)
+pub del_to_spec : {M : Type 1} → statement M
+del_to_spec = tie.close (tie.spec
+    (λ c κs. search rules) returns)

@@ -3,11 +3,12 @@ use borrow.Author.Rules.{rules}
 use Rattle.step_instructions.proofs.depth_of.Statement.{statement}
 use Rattle.step_instructions.proofs.depth_of.Tie as tie
 
-returns : tie.Need-returns
-returns c = rw (← c.before.depth.ensures, eq-eqb _ _ c.if1.true)
+returns : tie.Need-returns-then-own-eq0
+returns c = rw (← c.depth-own.ensures, eq-eqb _ _ c.if-own-eq0.true)
 
-returns-2 : tie.Need-returns-2
-returns-2 c = rw (← c.before.depth.ensures, ne_eqb _ _ c.if1.false)
+returns-2 : tie.Need-returns-else-own-eq0
+returns-2 c = rw (← c.depth-own.ensures, ne_eqb _ _ c.if-own-eq0.false)
 
-pub depth-of-spec : {M : Type 1} → statement M
-depth-of-spec = tie.close (tie.spec (λ c κs. search rules) returns returns-2)
+pub depth_of_spec : {M : Type 1} → statement M
+depth_of_spec = tie.close (tie.spec
+    (λ c κs. search rules) returns returns-2)

@@ -11,30 +11,31 @@ use Rattle.step_instructions.proofs.is_port.Statement.{statement}
 use Rattle.step_instructions.proofs.is_port.Tie as tie
 
 -- how many ports the instance has
-many : (p : tie.After-ports-of) → let a = p.before.before.args in p.ports-of.result ≡ ports_of (tables_in a.tables.now) (instance (state_in a.state.now) a.i)
+many : (p : tie.After-ports_of) → let a = p.args in p.ports_of.result ≡ ports_of (tables_in a.tables.now) (instance (state_in a.state.now) a.i)
 many p =
-    let a = p.before.before.args in
-    p.ports-of.ensures ∙ ap (λ (k : ℕ). (type_of (tables_in a.tables.now) k).ports) p.before.kind.ensures
+    let a = p.args in
+    p.ports_of.ensures ∙ ap (λ (k : ℕ). (type_of (tables_in a.tables.now) k).ports) p.kind-k.ensures
 
 if-same : (b x : Bool) → x ≡ cond b x x
 if-same true x = refl
 if-same false x = refl
 
-returns : tie.Need-returns
+returns : tie.Need-returns-then-ports_of-q
 unfolding is_use_port is_provide_port
-returns c = rw (← many c.before, le-ltb _ _ c.if1.true) (if-same c.before.before.before.args.used false)
+returns c = rw (← many c.before, le-ltb _ _ c.if-ports_of-q.true) (if-same c.args.used false)
 
-returns-2 : tie.Need-returns-2
+returns-2 : tie.Need-returns-then-used
 unfolding is_use_port is_provide_port
 returns-2 c =
-    let e = c.before.before in
-    rw (c.before.if2.true, ← many e.before, lt-ltb _ _ e.if1.false, ← e.before.before.kind.ensures) c.is-use.ensures
+    let e = c in
+    rw (c.if-used.true, ← many c.before.before.before, lt-ltb _ _ e.if-ports_of-q.false, ← e.kind-k.ensures) c.is_use.ensures
 
-returns-3 : tie.Need-returns-3
+returns-3 : tie.Need-returns-else-used
 unfolding is_use_port is_provide_port
 returns-3 c =
-    let e = c.before.before in
-    rw (c.before.if2.false, ← many e.before, lt-ltb _ _ e.if1.false, ← e.before.before.kind.ensures) (ap not c.is-use2.ensures)
+    let e = c in
+    rw (c.if-used.false, ← many c.before.before.before, lt-ltb _ _ e.if-ports_of-q.false, ← e.kind-k.ensures) (ap not c.is_use-else-used.ensures)
 
-pub is-port-spec : {M : Type 1} → statement M
-is-port-spec = tie.close (tie.spec (λ c κs. search rules) (λ c κs. search rules) returns (λ c κs. search rules) (λ c κs. search rules) returns-2 returns-3)
+pub is_port_spec : {M : Type 1} → statement M
+is_port_spec = tie.close (tie.spec
+    (λ c κs. search rules) (λ c κs. search rules) returns (λ c κs. search rules) (λ c κs. search rules) returns-2 returns-3)

@@ -5,5 +5,6 @@ use borrow.Author.Tests.{lt-ltb, le-ltb}
 use Rattle.step_instructions.proofs.one_more.Statement.{statement}
 use Rattle.step_instructions.proofs.one_more.Tie as tie
 
-pub one-more-spec : {M : Type 1} → statement M
-one-more-spec = tie.close (tie.spec (λ c. search rules) (λ c. rw (lt-ltb _ _ c.if1.true) (omega arith)) (λ c. rw (le-ltb _ _ c.if1.false) refl))
+pub one_more_spec : {M : Type 1} → statement M
+one_more_spec = tie.close (tie.spec
+    (λ c. search rules) (λ c. rw (lt-ltb _ _ c.if-n-lt4294967295.true) (omega arith)) (λ c. rw (le-ltb _ _ c.if-n-lt4294967295.false) refl))

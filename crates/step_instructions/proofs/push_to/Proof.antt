@@ -37,11 +37,13 @@ counted c i b long =
 returns : tie.Need-returns
 unfolding with_queue
 returns c =
-    let m = c.before in
-    let p = m.before.before in
-    let n = p.before.before in
-    let a = n.before.before.args in
-    c.put-queued.ensures ∙ rw (p.put-slot.ensures, m.one_more.ensures, n.queued.ensures) (counted (state_in a.state.now) a.i a.b (queue_long a.state.now))
+    let m = c in
+    let p = c in
+    let n = c in
+    let a = c.args in
+    c.put_queued.ensures ∙ rw (p.put_slot.ensures, m.one_more.ensures, n.queued-n.ensures) (counted (state_in a.state.now) a.i a.b (queue_long a.state.now))
 
-pub push-to-spec : {M : Type 1} → statement M
-push-to-spec = tie.close (tie.spec (λ c κs. search rules) (λ c. search rules) (λ c. search rules) (λ c. search rules) (λ c κs. search rules) (λ c κs. search rules) (λ c κs. search rules) returns)
+pub push_to_spec : {M : Type 1} → statement M
+push_to_spec = tie.close (tie.spec
+    (λ c κs. search rules) (λ c. search rules) (λ c. search rules) (λ c. search rules) (λ c κs. search rules) (λ c κs. search rules)
+    (λ c κs. search rules) returns)

@@ -6,7 +6,8 @@ use Rattle.step_instructions.proofs.renew.Tie as tie
 
 returns : tie.Need-returns
 unfolding renewed
-returns c = c.put-bare.ensures ∙ rw c.before.before.zero-slots.ensures
+returns c = c.put_bare.ensures ∙ rw c.zero_slots.ensures
 
-pub renew-spec : {M : Type 1} → statement M
-renew-spec = tie.close (tie.spec (λ c κs. search rules) (λ c κs. search rules) returns)
+pub renew_spec : {M : Type 1} → statement M
+renew_spec = tie.close (tie.spec
+    (λ c κs. search rules) (λ c κs. search rules) returns)

@@ -9,14 +9,15 @@ use borrow.Author.Rules.{rules}
 use Rattle.step_instructions.proofs.zero_slots.Statement.{statement}
 use Rattle.step_instructions.proofs.zero_slots.Tie as tie
 
-abbrev invariant-loop : tie.invariant-loop
+abbrev invariant-loop : tie.invariant-loop-r
 invariant-loop state₀ i at r₀ state r = (r ≤ 8) × (state_in state ≡ with_queue (state_in state₀) (zeroed (state_in state₀).queue at r))
 
-abbrev decreases-loop : tie.decreases-loop
+abbrev decreases-loop : tie.decreases-loop-r
 decreases-loop state₀ i at r₀ state r = 8 - r
 
-pub zero-slots-spec : {M : Type 1} → statement M
-zero-slots-spec = tie.close (tie.spec invariant-loop decreases-loop (λ c. search rules)
-    (λ c. (search rules, zero-start _ _)) (λ c. search rules) (λ c κs. search rules) (λ c. search rules) (λ c. search rules)
-    (λ c. let l = c.before.before.before.loop in (search rules, c.put-slot.ensures ∙ zero_more _ _ (state_in l.state) l.r l.invariant.1))
-    (λ c. let e : c.before.loop.r ≡ 8 = omega arith in rw e at c.before.loop.invariant.1))
+pub zero_slots_spec : {M : Type 1} → statement M
+zero_slots_spec = tie.close (tie.spec
+    invariant-loop decreases-loop (λ c. search rules) (λ c. (search rules, zero-start _ _)) (λ c. search rules) (λ c κs. search rules)
+    (λ c. search rules) (λ c. search rules)
+    (λ c. let l = c.loop-r in (search rules, c.put_slot.ensures ∙ zero_more _ _ (state_in l.state) l.r l.invariant.1))
+    (λ c. let e : c.loop-r.r ≡ 8 = omega arith in rw e at c.loop-r.invariant.1))

@@ -5,7 +5,8 @@ use Rattle.step_moves.proofs.end_check.Tie as tie
 
 returns : tie.Need-returns
 unfolding end_check
-returns c = rw (← c.before.before.before.running.ensures, ← c.before.before.member.ensures, ← c.before.refuse-if.ensures) c.first.ensures
+returns c = rw (← c.running.ensures, ← c.member-runs.ensures, ← c.refuse_if.ensures) c.first.ensures
 
-pub end-check-spec : {M : Type 1} → statement M
-end-check-spec = tie.close (tie.spec (λ c κs. search rules) (λ c κs. search rules) (λ c κs. search rules) (λ c κs. search rules) returns)
+pub end_check_spec : {M : Type 1} → statement M
+end_check_spec = tie.close (tie.spec
+    (λ c κs. search rules) (λ c κs. search rules) (λ c κs. search rules) (λ c κs. search rules) returns)

@@ -5,9 +5,11 @@ use borrow.Author.Rules.{rules}
 use Rattle.step_moves.proofs.end_to.Statement.{statement}
 use Rattle.step_moves.proofs.end_to.Tie as tie
 
-pub end-to-spec : {M : Type 1} → statement M
+pub end_to_spec : {M : Type 1} → statement M
 unfolding end_to ended_by
-end-to-spec =
+end_to_spec =
     tie.close
-    (tie.spec (λ c κs. search rules) (λ c κs. search rules) (λ c κs. search rules) (λ c κs. search rules) (λ c κs. search rules) (λ c κs. search rules) (λ c κs. search rules)
-    (λ c. c.put-sets.ensures ∙ rw (c.before.before.with.ensures, c.before.before.before.ended.ensures, c.before.before.before.before.before.without.ensures, c.before.before.before.before.before.before.only.ensures, c.before.before.before.before.before.before.before.running.ensures, c.before.before.before.before.before.before.before.before.before.marked.ensures)))
+    (tie.spec
+    (λ c κs. search rules) (λ c κs. search rules) (λ c κs. search rules) (λ c κs. search rules) (λ c κs. search rules) (λ c κs. search rules)
+    (λ c κs. search rules)
+    (λ c. c.put_sets.ensures ∙ rw (c.with-ends.ensures, c.ended.ensures, c.without-runs.ensures, c.only.ensures, c.running.ensures, c.marked-marks.ensures)))

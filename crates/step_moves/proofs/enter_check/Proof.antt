@@ -4,8 +4,10 @@ use borrow.Author.Rules.{rules}
 use Rattle.step_moves.proofs.enter_check.Statement.{statement}
 use Rattle.step_moves.proofs.enter_check.Tie as tie
 
-pub enter-check-spec : {M : Type 1} → statement M
-enter-check-spec =
+pub enter_check_spec : {M : Type 1} → statement M
+enter_check_spec =
     tie.close
-    (tie.spec (λ c κs. search rules) (λ c κs. search rules) (λ c κs. search rules) (λ c κs. search rules) (λ c κs. search rules) (λ c κs. search rules) (λ c κs. search rules) (λ c κs. search rules) (λ c κs. search rules)
-    (λ c. c.asked.ensures ∙ rw (c.before.first.ensures, c.before.before.row.ensures, c.before.before.before.only.ensures, c.before.before.before.before.member.ensures, c.before.before.before.before.before.marked.ensures, c.before.before.before.before.before.before.within.ensures, c.before.before.before.before.before.before.before.ended.ensures, c.before.before.before.before.before.before.before.before.enterers.ensures) (enter-settled _ _ _ _)))
+    (tie.spec
+    (λ c κs. search rules) (λ c κs. search rules) (λ c κs. search rules) (λ c κs. search rules) (λ c κs. search rules) (λ c κs. search rules)
+    (λ c κs. search rules) (λ c κs. search rules) (λ c κs. search rules)
+    (λ c. c.asked.ensures ∙ rw (c.first-refused.ensures, c.row.ensures, c.only.ensures, c.member-taken.ensures, c.marked.ensures, c.within-ready.ensures, c.ended.ensures, c.enterers-xs.ensures) (enter-settled _ _ _ _)))

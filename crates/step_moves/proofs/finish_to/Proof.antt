@@ -8,10 +8,12 @@ use Rattle.step_moves.proofs.finish_to.Tie as tie
 returns : tie.Need-returns
 unfolding finished with_queue
 returns c =
-    let f = c.before in
-    let s = f.before.before in
-    let q = s.before.before in
-    c.put-queued.ensures ∙ rw (s.close-slots.ensures, f.fewer.ensures, q.queued.ensures)
+    let f = c in
+    let s = c in
+    let q = c in
+    c.put_queued.ensures ∙ rw (s.close_slots.ensures, f.fewer.ensures, q.queued-n.ensures)
 
-pub finish-to-spec : {M : Type 1} → statement M
-finish-to-spec = tie.close (tie.spec (λ c κs. search rules) (λ c. search rules) (λ c. search rules) (λ c. search rules) (λ c κs. search rules) (λ c κs. search rules) (λ c κs. search rules) returns)
+pub finish_to_spec : {M : Type 1} → statement M
+finish_to_spec = tie.close (tie.spec
+    (λ c κs. search rules) (λ c. search rules) (λ c. search rules) (λ c. search rules) (λ c κs. search rules) (λ c κs. search rules)
+    (λ c κs. search rules) returns)

@@ -4,8 +4,10 @@ use borrow.Author.Rules.{rules}
 use Rattle.step_moves.proofs.fire_check.Statement.{statement}
 use Rattle.step_moves.proofs.fire_check.Tie as tie
 
-pub fire-check-spec : {M : Type 1} → statement M
-fire-check-spec =
+pub fire_check_spec : {M : Type 1} → statement M
+fire_check_spec =
     tie.close
-    (tie.spec (λ c κs. search rules) (λ c κs. search rules) (λ c κs. search rules) (λ c κs. search rules) (λ c κs. search rules) (λ c κs. search rules) (λ c κs. search rules) (λ c κs. search rules) (λ c κs. search rules)
-    (λ c. c.asked.ensures ∙ rw (c.before.first.ensures, c.before.before.row.ensures, c.before.before.before.only.ensures, c.before.before.before.before.overlaps.ensures, c.before.before.before.before.before.held.ensures, c.before.before.before.before.before.before.member.ensures, c.before.before.before.before.before.before.before.marked.ensures, c.before.before.before.before.before.before.before.before.leavers.ensures) (fire-settled _ _ _ _)))
+    (tie.spec
+    (λ c κs. search rules) (λ c κs. search rules) (λ c κs. search rules) (λ c κs. search rules) (λ c κs. search rules) (λ c κs. search rules)
+    (λ c κs. search rules) (λ c κs. search rules) (λ c κs. search rules)
+    (λ c. c.asked.ensures ∙ rw (c.first-refused.ensures, c.row.ensures, c.only.ensures, c.overlaps-taken.ensures, c.held.ensures, c.member-ready.ensures, c.marked.ensures, c.leavers-xs.ensures) (fire-settled _ _ _ _)))

@@ -20,15 +20,15 @@ use Rattle.step_ports.proofs.First.{first-named, first-late}
 use Rattle.step_ports.proofs.first_refusal.Statement.{statement}
 use Rattle.step_ports.proofs.first_refusal.Tie as tie
 
-abbrev invariant-loop : tie.invariant-loop
+abbrev invariant-loop : tie.invariant-loop-q
 invariant-loop tables state i next k was n refuses₀ ending₀ q₀ refuses ending q =
     (q ≤ n) × (any_below q (fails (tables_in tables) (state_in state) i next) ≡ false)
     × (refuses ≡ any_below q (gets (tables_in tables) (state_in state) i next provider_refusing)) × (ending ≡ ending_below (tables_in tables) (state_in state) i next q)
 
-abbrev decreases-loop : tie.decreases-loop
+abbrev decreases-loop : tie.decreases-loop-q
 decreases-loop tables state i next k was n refuses₀ ending₀ q₀ refuses ending q = n - q
 
-loop-holds : tie.Need-loop-init invariant-loop decreases-loop
+loop-holds : tie.Need-loop-q-init invariant-loop decreases-loop
 loop-holds c = (omega arith, any-start _, sym (any-start _), below-start _)
 
 -- port q gets the number n
@@ -40,123 +40,125 @@ abbrev used : tie.Start invariant-loop decreases-loop → ℕ
 used s = let a = s.args in in_use (tables_in a.tables.now) (standing (state_in a.state.now)) (state_in a.state.now) a.i
 
 -- as many ports as were read
-many : (p : tie.After-ports-of invariant-loop decreases-loop)
-    → let a = p.before.before.before.before.args in
-    p.ports-of.result ≡ ports_of (tables_in a.tables.now) (instance (state_in a.state.now) a.i)
+many : (p : tie.After-ports_of-n invariant-loop decreases-loop)
+    → let a = p.args in
+    p.ports_of-n.result ≡ ports_of (tables_in a.tables.now) (instance (state_in a.state.now) a.i)
 many p =
-    let k = p.before.before.before in
-    let a = k.before.args in
-    p.ports-of.ensures ∙ ap (λ (k : ℕ). (type_of (tables_in a.tables.now) k).ports) k.kind.ensures
+    let k = p in
+    let a = p.args in
+    p.ports_of-n.ensures ∙ ap (λ (k : ℕ). (type_of (tables_in a.tables.now) k).ports) k.kind.ensures
 
 -- the port looked at gets what was answered
-own : (x : tie.After-port-refusal invariant-loop decreases-loop)
-    → let a = x.before.before.before.before.before.before.before.args in
+own : (x : tie.After-port_refusal-x invariant-loop decreases-loop)
+    → let a = x.args in
     let v = instance (state_in a.state.now) a.i in
-    port_refusal (tables_in a.tables.now) (state_in a.state.now) a.i v.kind (sets_of v) a.next x.before.before.loop.q ≡ x.port-refusal.result
+    port_refusal (tables_in a.tables.now) (state_in a.state.now) a.i v.kind (sets_of v) a.next x.loop-q.q ≡ x.port_refusal-x.result
 own x =
-    let h = x.before.before.before.before in
-    sym (x.port-refusal.ensures ∙ rw (h.held.ensures, h.before.marked.ensures, h.before.before.kind.ensures))
+    let h = x in
+    sym (x.port_refusal-x.ensures ∙ rw (h.held.ensures, h.marked.ensures, h.kind-k.ensures))
 
-told : (x : tie.After-port-refusal invariant-loop decreases-loop) (n : ℕ) (b : Bool) → eqb x.port-refusal.result n ≡ b
-    → getting x.before.before.before.before.before.before.before n x.before.before.loop.q ≡ b
+told : (x : tie.After-port_refusal-x invariant-loop decreases-loop) (n : ℕ) (b : Bool) → eqb x.port_refusal-x.result n ≡ b
+    → getting x.before.before.before.before.before.before.before n x.loop-q.q ≡ b
 told x n b e = ap (λ (m : ℕ). eqb m n) (own x) ∙ e
 
 -- a port that fails is a use port, and so below 256
-low : (x : tie.After-port-refusal invariant-loop decreases-loop) → (eqb x.port-refusal.result unconnected || eqb x.port-refusal.result unserved) ≡ true
-    → x.before.before.loop.q < 256
+low : (x : tie.After-port_refusal-x invariant-loop decreases-loop) → (eqb x.port_refusal-x.result unconnected || eqb x.port_refusal-x.result unserved) ≡ true
+    → x.loop-q.q < 256
 low x e =
-    let a = x.before.before.before.before.before.before.before.args in
+    let a = x.args in
     let d = state_in a.state.now in
-    let q = x.before.before.loop.q in
+    let q = x.loop-q.q in
     use-low a.tables.now (instance d a.i).kind q (gets-use (tables_in a.tables.now) d a.i a.next q (rw (own x) e))
 
 about-requires : tie.Need-about-requires invariant-loop decreases-loop
-about-requires c κs = low c.before (rw c.if1.true)
+about-requires c κs = low c.before (rw c.if-x-eq-UNCONNECTED.true)
 
-returns : tie.Need-returns invariant-loop decreases-loop
+returns : tie.Need-returns-then-x-eq-UNCONNECTED invariant-loop decreases-loop
 returns c =
-    let x = c.before.before in
-    let l = x.before.before in
-    let a = l.before.before.before.before.before.args in
+    let x = c in
+    let l = c in
+    let a = c.args in
     c.about.ensures
-    ∙ first-named (tables_in a.tables.now) (state_in a.state.now) a.i a.next l.loop.q _ (rw (← many l.before) x.before.loop-test.true) l.loop.invariant.1 (own x ∙ c.before.if1.true) refl
+    ∙ first-named (tables_in a.tables.now) (state_in a.state.now) a.i a.next l.loop-q.q _ (rw (← many c.before.before.before.before.before) x.loop-q-test.true) l.loop-q.invariant.1 (own c.before.before ∙ c.if-x-eq-UNCONNECTED.true) refl
 
-about-requires-2 : tie.Need-about-requires-2 invariant-loop decreases-loop
-about-requires-2 c κs = low c.before.before (rw c.if2.true)
+about-requires-2 : tie.Need-about-requires-then-x-eq-UNSERVED invariant-loop decreases-loop
+about-requires-2 c κs = low c.before.before (rw c.if-x-eq-UNSERVED.true)
 
-returns-2 : tie.Need-returns-2 invariant-loop decreases-loop
+returns-2 : tie.Need-returns-then-x-eq-UNSERVED invariant-loop decreases-loop
 returns-2 c =
-    let x = c.before.before.before in
-    let l = x.before.before in
-    let a = l.before.before.before.before.before.args in
-    c.about2.ensures
-    ∙ first-named (tables_in a.tables.now) (state_in a.state.now) a.i a.next l.loop.q _ (rw (← many l.before) x.before.loop-test.true) l.loop.invariant.1 (own x ∙ c.before.if2.true) refl
+    let x = c in
+    let l = c in
+    let a = c.args in
+    c.about-then-x-eq-UNSERVED.ensures
+    ∙ first-named (tables_in a.tables.now) (state_in a.state.now) a.i a.next l.loop-q.q _ (rw (← many c.before.before.before.before.before.before) x.loop-q-test.true) l.loop-q.invariant.1 (own c.before.before.before ∙ c.if-x-eq-UNSERVED.true) refl
 
-loop-again : tie.Need-loop-preserved invariant-loop decreases-loop
+loop-again : tie.Need-loop-q-preserved invariant-loop decreases-loop
 loop-again c =
-    let x = c.before.before.before in
-    let l = x.before.before in
-    let s = l.before.before.before.before.before in
-    let i = l.loop.invariant in (
+    let x = c in
+    let l = c in
+    let s = c in
+    let i = c.loop-q.invariant in (
       search rules,
-      any-more _ _ i.1 (rw (own x, ne_eqb _ _ c.before.before.if1.false, ne_eqb _ _ c.before.if2.false)),
-      ap₂ ◌||◌ i.2 (sym (told x provider_refusing _ refl)) ∙ sym (any_next l.loop.q (getting s provider_refusing)),
+      any-more _ _ i.1 (rw (own c.before.before.before, ne_eqb _ _ c.if-x-eq-UNCONNECTED.false, ne_eqb _ _ c.if-x-eq-UNSERVED.false)),
+      ap₂ ◌||◌ i.2 (sym (told c.before.before.before provider_refusing _ refl)) ∙ sym (any_next l.loop-q.q (getting c.before.before.before.before.before.before.before.before.before.before provider_refusing)),
       ⊎_elim
-          (λ w. w.2 ∙ w.1.ensures ∙ ap (with l.loop.q) i.3 ∙ below_in _ l.loop.q (told x service_in_use true (eq-eqb _ _ w.0.taken)))
-          (λ w. w.1 ∙ i.3 ∙ below_out _ l.loop.q (told x service_in_use false (ne_eqb _ _ w.0.left)))
-          c.if3.branch,
+          (λ w. w.2 ∙ w.1.ensures ∙ ap (with l.loop-q.q) i.3 ∙ below_in _ l.loop-q.q (told c.before.before.before service_in_use true (eq-eqb _ _ w.0.taken)))
+          (λ w. w.1 ∙ i.3 ∙ below_out _ l.loop-q.q (told c.before.before.before service_in_use false (ne_eqb _ _ w.0.left)))
+          c.if-x-eq-SERVICE_IN_USE.branch-raw,
     )
 
 -- after the last port
-ended : (l : tie.After-loop invariant-loop decreases-loop)
-    → let a = l.before.before.before.before.before.before.args in
-    l.before.loop.q ≡ ports_of (tables_in a.tables.now) (instance (state_in a.state.now) a.i)
-ended l = le_antisymm l.before.loop.invariant.0 l.loop-test.false ∙ many l.before.before
+ended : (l : tie.After-loop-q invariant-loop decreases-loop)
+    → let a = l.args in
+    l.loop-q.q ≡ ports_of (tables_in a.tables.now) (instance (state_in a.state.now) a.i)
+ended l = le_antisymm l.loop-q.invariant.0 l.loop-q-test.false ∙ many l.before.before
 
 -- none fails
-late : (l : tie.After-loop invariant-loop decreases-loop)
-    → let a = l.before.before.before.before.before.before.args in
+late : (l : tie.After-loop-q invariant-loop decreases-loop)
+    → let a = l.args in
     ◌≡◌ {A = Answered} (record { refused = late_number (tables_in a.tables.now) (state_in a.state.now) a.i a.next; port = NoPort })
     (first_refusal (tables_in a.tables.now) (state_in a.state.now) a.i a.next)
 late l =
-    let a = l.before.before.before.before.before.before.args in
-    first-late (tables_in a.tables.now) (state_in a.state.now) a.i a.next (rw (← ended l) l.before.loop.invariant.1)
+    let a = l.args in
+    first-late (tables_in a.tables.now) (state_in a.state.now) a.i a.next (rw (← ended l) l.loop-q.invariant.1)
 
-returns-3 : tie.Need-returns-3 invariant-loop decreases-loop
+returns-3 : tie.Need-returns-then-refuses invariant-loop decreases-loop
 returns-3 c =
-    let l = c.before.before in
-    c.about-none.ensures ∙ (rw (← ended l, ← l.before.loop.invariant.2, c.before.if4.true) at (late l))
+    let l = c in
+    c.about_none.ensures ∙ (rw (← ended c.before.before, ← l.loop-q.invariant.2, c.if-refuses.true) at (late c.before.before))
 
-returns-4 : tie.Need-returns-4 invariant-loop decreases-loop
+returns-4 : tie.Need-returns-then-ending-eq0 invariant-loop decreases-loop
 returns-4 c =
-    let r = c.before.before in
-    let l = r.before in
-    let v = l.before.loop.invariant in
-    c.about-none2.ensures
-    ∙ (rw (← ended l, ← v.2, r.if4.false, ← v.3, c.before.if5.true, none-overlap (used l.before.before.before.before.before.before)) at (late l))
+    let r = c in
+    let l = c in
+    let v = c.loop-q.invariant in
+    c.about_none-then-ending-eq0.ensures
+    ∙ (rw (← ended c.before.before.before, ← v.2, r.if-refuses.false, ← v.3, c.if-ending-eq0.true, none-overlap (used c.before.before.before.before.before.before.before.before.before)) at (late c.before.before.before))
 
 -- a service ends, so that the instance is one of the 32
-in-use-requires : tie.Need-in-use-requires invariant-loop decreases-loop
+in-use-requires : tie.Need-in_use-used-requires invariant-loop decreases-loop
 in-use-requires c κs =
-    let l = c.before.before.before in
-    let a = l.before.before.before.before.before.args in
+    let l = c in
+    let a = c.args in
     by_cases (dec_lt a.i 32) (λ h. h)
-    (λ far. absurd (c.if5.false (l.loop.invariant.3
-    ∙ none-ends (tables_in a.tables.now) (state_in a.state.now) a.i (instance-past a.state.now a.i (omega arith)) a.next l.loop.q)))
+    (λ far. absurd (c.if-ending-eq0.false (l.loop-q.invariant.3
+    ∙ none-ends (tables_in a.tables.now) (state_in a.state.now) a.i (instance-past a.state.now a.i (omega arith)) a.next l.loop-q.q)))
 
-returns-5 : tie.Need-returns-5 invariant-loop decreases-loop
+returns-5 : tie.Need-returns invariant-loop decreases-loop
 returns-5 c =
-    let o = c.before.before in
-    let r = o.before.before.before in
-    let l = r.before in
-    let v = l.before.loop.invariant in
-    c.about-none3.ensures
-    ∙ rw (c.before.refuse-if.ensures, o.overlaps.ensures, o.before.in_use.ensures)
-    (rw (← ended l, ← v.2, r.if4.false, ← v.3) at (late l))
+    let o = c in
+    let r = c in
+    let l = c in
+    let v = c.loop-q.invariant in
+    c.about_none-2.ensures
+    ∙ rw (c.refuse_if.ensures, o.overlaps.ensures, o.in_use-used.ensures)
+    (rw (← ended c.before.before.before.before.before.before, ← v.2, r.if-refuses.false, ← v.3) at (late c.before.before.before.before.before.before))
 
-pub first-refusal-spec : {M : Type 1} → statement M
-first-refusal-spec =
+pub first_refusal_spec : {M : Type 1} → statement M
+first_refusal_spec =
     tie.close
-    (tie.spec invariant-loop decreases-loop (λ c κs. search rules) (λ c κs. search rules) (λ c κs. search rules) (λ c κs. search rules) loop-holds (λ c κs. search rules) about-requires returns
-    about-requires-2 returns-2 (λ c κs. search rules) (λ c. search rules) (λ c. search rules) loop-again (λ c κs. search rules) returns-3 (λ c κs. search rules) returns-4 in-use-requires
-    (λ c κs. search rules) (λ c κs. search rules) (λ c κs. search rules) returns-5)
+    (tie.spec
+    invariant-loop decreases-loop (λ c κs. search rules) (λ c κs. search rules) (λ c κs. search rules) (λ c κs. search rules) loop-holds
+    (λ c κs. search rules) about-requires returns about-requires-2 returns-2 (λ c κs. search rules) (λ c. search rules) (λ c. search rules) loop-again
+    (λ c κs. search rules) returns-3 (λ c κs. search rules) returns-4 in-use-requires (λ c κs. search rules) (λ c κs. search rules)
+    (λ c κs. search rules) returns-5)

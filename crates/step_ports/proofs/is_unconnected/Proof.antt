@@ -10,18 +10,19 @@ twice : (b : Bool) → b ≡ not (not b)
 twice true = refl
 twice false = refl
 
-returns : tie.Need-returns
+returns : tie.Need-returns-then-is_use
 unfolding is_unconnected
 returns c =
-    let w = c.before in
-    let u = w.before.before in
-    let a = u.before.args in
-    rw (← u.is-use.ensures, w.before.if1.true, ← w.active-with.ensures, linked-looked (tables_in a.tables.now) (state_in a.state.now) (servers-length a.state.now) a.i a.q, ← c.server-of.ensures)
-    (ap (◌&&◌ w.active-with.result) (twice _))
+    let w = c in
+    let u = c in
+    let a = c.args in
+    rw (← u.is_use.ensures, w.if-is_use.true, ← w.active_with.ensures, linked-looked (tables_in a.tables.now) (state_in a.state.now) (servers-length a.state.now) a.i a.q, ← c.server_of.ensures)
+    (ap (◌&&◌ w.active_with.result) (twice _))
 
-returns-2 : tie.Need-returns-2
+returns-2 : tie.Need-returns-else-is_use
 unfolding is_unconnected
-returns-2 c = rw (← c.before.is-use.ensures, c.if1.false)
+returns-2 c = rw (← c.is_use.ensures, c.if-is_use.false)
 
-pub is-unconnected-spec : {M : Type 1} → statement M
-is-unconnected-spec = tie.close (tie.spec (λ c κs. search rules) (λ c κs. search rules) (λ c κs. search rules) returns returns-2)
+pub is_unconnected_spec : {M : Type 1} → statement M
+is_unconnected_spec = tie.close (tie.spec
+    (λ c κs. search rules) (λ c κs. search rules) (λ c κs. search rules) returns returns-2)

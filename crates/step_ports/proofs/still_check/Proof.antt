@@ -7,8 +7,9 @@ use Rattle.step_ports.proofs.still_check.Tie as tie
 
 returns : tie.Need-returns
 returns c =
-    c.ports-refusal.ensures
-    ∙ rw (c.before.before.marked.ensures, c.before.held.ensures) (ports-check _ _ _ (instance (state_in c.before.before.before.args.state.now) c.before.before.before.args.i) refl)
+    c.ports_refusal.ensures
+    ∙ rw (c.marked.ensures, c.held.ensures) (ports-check _ _ _ (instance (state_in c.args.state.now) c.args.i) refl)
 
-pub still-check-spec : {M : Type 1} → statement M
-still-check-spec = tie.close (tie.spec (λ c κs. search rules) (λ c κs. search rules) (λ c κs. search rules) returns)
+pub still_check_spec : {M : Type 1} → statement M
+still_check_spec = tie.close (tie.spec
+    (λ c κs. search rules) (λ c κs. search rules) (λ c κs. search rules) returns)

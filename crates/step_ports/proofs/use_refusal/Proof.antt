@@ -14,8 +14,8 @@ use Rattle.step_ports.proofs.use_refusal.Statement.{statement}
 use Rattle.step_ports.proofs.use_refusal.Tie as tie
 
 -- what the one look tells
-looked : (s : tie.After-server-of)
-    → let a = s.before.args in
+looked : (s : tie.After-server_of-x)
+    → let a = s.args in
     let t = tables_in a.tables.now in
     let d = state_in a.state.now in
     let x = server_of d a.i a.q in
@@ -24,37 +24,39 @@ looked : (s : tie.After-server-of)
     ∣ not (not (eqb x no_server) && active t (instance d ((x - 1) / 16)) ((x - 1) % 16)) ⇒ unserved
     ∣ not a.before && (not (eqb x no_server) && refusing_at t d ((x - 1) / 16) ((x - 1) % 16)) ⇒ provider_refusing
     ∣ allowed)
-looked s = let a = s.before.args in use-looked (tables_in a.tables.now) (state_in a.state.now) (servers-length a.state.now) a.i a.q a.before
+looked s = let a = s.args in use-looked (tables_in a.tables.now) (state_in a.state.now) (servers-length a.state.now) a.i a.q a.before
 
-returns : tie.Need-returns
+returns : tie.Need-returns-then-x-eq0
 returns c =
-    let s = c.before in
-    rw (looked s, ← s.server-of.ensures, eq-eqb _ _ c.if1.true)
+    let s = c in
+    rw (looked c.before, ← s.server_of-x.ensures, eq-eqb _ _ c.if-x-eq0.true)
 
-returns-2 : tie.Need-returns-2
+returns-2 : tie.Need-returns-then-not-active
 returns-2 c =
-    let a = c.before in
-    let p = a.before in
-    let e = p.before.before in
-    rw (looked e.before, ← e.before.server-of.ensures, ne_eqb _ _ e.if1.false, ← p.before.provider.ensures, ← p.provideport.ensures, ← a.active.ensures, not-true a.active.result c.if2.true)
+    let a = c in
+    let p = c in
+    let e = c in
+    rw (looked c.before.before.before.before.before, ← e.server_of-x.ensures, ne_eqb _ _ e.if-x-eq0.false, ← p.provider-v.ensures, ← p.provideport-p.ensures, ← a.active.ensures, not-true a.active.result c.if-not-active.true)
 
-returns-3 : tie.Need-returns-3
+returns-3 : tie.Need-returns-then-before
 returns-3 c =
-    let a = c.before.before in
-    let p = a.before in
-    let e = p.before.before in
-    rw (looked e.before, ← e.before.server-of.ensures, ne_eqb _ _ e.if1.false, ← p.before.provider.ensures, ← p.provideport.ensures, ← a.active.ensures, not-false a.active.result c.before.if2.false, c.if3.true)
+    let a = c in
+    let p = c in
+    let e = c in
+    rw (looked c.before.before.before.before.before.before, ← e.server_of-x.ensures, ne_eqb _ _ e.if-x-eq0.false, ← p.provider-v.ensures, ← p.provideport-p.ensures, ← a.active.ensures, not-false a.active.result c.if-not-active.false, c.if-before.true)
 
-returns-4 : tie.Need-returns-4
+returns-4 : tie.Need-returns
 returns-4 c =
-    let f = c.before.before in
-    let a = f.before.before in
-    let p = a.before in
-    let e = p.before.before in
-    rw (looked e.before, ← e.before.server-of.ensures, ne_eqb _ _ e.if1.false, ← p.before.provider.ensures, ← p.provideport.ensures, ← a.active.ensures, not-false a.active.result f.before.if2.false, f.if3.false, ← c.before.refusing.ensures)
-    c.refuse-if.ensures
+    let f = c in
+    let a = c in
+    let p = c in
+    let e = c in
+    rw (looked c.before.before.before.before.before.before.before.before, ← e.server_of-x.ensures, ne_eqb _ _ e.if-x-eq0.false, ← p.provider-v.ensures, ← p.provideport-p.ensures, ← a.active.ensures, not-false a.active.result f.if-not-active.false, f.if-before.false, ← c.refusing.ensures)
+    c.refuse_if.ensures
 
-pub use-refusal-spec : {M : Type 1} → statement M
-use-refusal-spec =
+pub use_refusal_spec : {M : Type 1} → statement M
+use_refusal_spec =
     tie.close
-    (tie.spec (λ c κs. search rules) returns (λ c κs. search rules) (λ c κs. search rules) (λ c κs. search rules) returns-2 returns-3 (λ c κs. search rules) (λ c κs. search rules) returns-4)
+    (tie.spec
+    (λ c κs. search rules) returns (λ c κs. search rules) (λ c κs. search rules) (λ c κs. search rules) returns-2 returns-3 (λ c κs. search rules)
+    (λ c κs. search rules) returns-4)

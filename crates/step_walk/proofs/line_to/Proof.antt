@@ -14,17 +14,16 @@ use Rattle.step_walk.proofs.line_to.Tie as tie
 number_fits : (s : tie.Start) → s.args.line.number < 4294967296
 number_fits s = search rules
 
-pub line-to-spec : {M : Type 1} → statement M
+pub line_to_spec : {M : Type 1} → statement M
 unfolding instruction_action effect held
-line-to-spec =
+line_to_spec =
     tie.close
-    (tie.spec (λ c κs. search rules) (λ c κs. search rules) (λ c κs. search rules) (λ c κs. search rules) (λ c κs. search rules) (λ c κs. search rules)
-    (λ c l room. rw c.before.before.match.keys1 c.add-to.ensures)
-    (λ c l room. rw c.before.before.match.keys2 c.del-to.ensures)
-    (λ c l room. let m = c.before.before.match.keys3 in rw m (c.push-to.ensures ∙ rw (lt-ltb _ _ (rw m at room), lt-ltb _ _ (number_fits c.before.before.before)) refl))
-    (λ c l room. let m = c.before.before.match.keys4 in rw m c.connect.ensures)
-    (λ c l room. rw c.before.before.match.keys5 (c.disconnect.ensures _ _))
-    (λ c l room. let m = c.before.before.match.keys6 in rw m (c.push-ticket-to.ensures ∙ rw (lt-ltb _ _ (rw m at room)) refl))
-    (λ c l room. let r = c.match.rest in
+    (tie.spec
+    (λ c κs. search rules) (λ c κs. search rules) (λ c κs. search rules) (λ c κs. search rules) (λ c κs. search rules) (λ c κs. search rules)
+    (λ c l room. rw c.in-0.is c.add_to.ensures) (λ c l room. rw c.in-1.is c.del_to.ensures)
+    (λ c l room. let m = c.in-2.is in rw m (c.push_to.ensures ∙ rw (lt-ltb _ _ (rw m at room), lt-ltb _ _ (number_fits c.before.before.before)) refl))
+    (λ c l room. let m = c.in-3.is in rw m c.connect.ensures) (λ c l room. rw c.in-4.is (c.disconnect.ensures _ _))
+    (λ c l room. let m = c.in-6.is in rw m (c.push_ticket_to.ensures ∙ rw (lt-ltb _ _ (rw m at room)) refl))
+    (λ c l room. let r = c.in_default.rest in
     rw (ne_eqb _ _ r.0.0.0.0.0.1, ne_eqb _ _ r.0.0.0.0.1, ne_eqb _ _ r.0.0.0.1, ne_eqb _ _ r.0.0.1, ne_eqb _ _ r.0.1, ne_eqb _ _ r.1)
-    (by-test (eqb c.before.args.line.verb wait_ticket_verb) (λ w. rw w) (λ w. rw w))))
+    (by-test (eqb c.args.line.verb wait_ticket_verb) (λ w. rw w) (λ w. rw w))))

@@ -4,23 +4,25 @@ use borrow.Author.Rules.{rules}
 use Rattle.step_walk.proofs.move_check.Statement.{statement}
 use Rattle.step_walk.proofs.move_check.Tie as tie
 
-returns : tie.Need-returns
+returns : tie.Need-returns-in-1
 unfolding move_action action_check concern
-returns c = λ default. rw c.before.match.keys1 c.fire-check.ensures
+returns c = λ default. rw c.in-1.is c.fire_check.ensures
 
-returns-2 : tie.Need-returns-2
+returns-2 : tie.Need-returns-in-2
 unfolding move_action action_check concern
-returns-2 c = λ default. rw (c.before.before.match.keys2, ← c.before.end-check.ensures) c.about-none.ensures
+returns-2 c = λ default. rw (c.in-2.is, ← c.end_check.ensures) c.about_none.ensures
 
-returns-3 : tie.Need-returns-3
+returns-3 : tie.Need-returns-in-3
 unfolding move_action action_check concern
-returns-3 c = λ default. rw c.before.match.keys3 c.enter-check.ensures
+returns-3 c = λ default. rw c.in-3.is c.enter_check.ensures
 
-returns-4 : tie.Need-returns-4
+returns-4 : tie.Need-returns-in_default
 unfolding move_action action_check concern
 returns-4 c = λ default.
-    let r = c.before.before.match.rest in
-    rw (ne_eqb _ _ r.0.0.1, ne_eqb _ _ r.0.1, ne_eqb _ _ r.1, ← c.before.finish-check.ensures) c.about-none2.ensures
+    let r = c.in_default.rest in
+    rw (ne_eqb _ _ r.0.0.1, ne_eqb _ _ r.0.1, ne_eqb _ _ r.1, ← c.finish_check.ensures) c.about_none-in_default.ensures
 
-pub move-check-spec : {M : Type 1} → statement M
-move-check-spec = tie.close (tie.spec (λ c κs. search rules) (λ c κs. search rules) (λ c κs. search rules) (λ c κs. search rules) (λ c κs. search rules) (λ c κs. search rules) returns returns-2 returns-3 returns-4)
+pub move_check_spec : {M : Type 1} → statement M
+move_check_spec = tie.close (tie.spec
+    (λ c κs. search rules) (λ c κs. search rules) (λ c κs. search rules) (λ c κs. search rules) (λ c κs. search rules) (λ c κs. search rules) returns
+    returns-2 returns-3 returns-4)

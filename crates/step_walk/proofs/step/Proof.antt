@@ -11,59 +11,61 @@ use borrow.Author.Rules.{rules}
 use Rattle.step_walk.proofs.step.Statement.{statement}
 use Rattle.step_walk.proofs.step.Tie as tie
 
-returns : tie.Need-returns
+returns : tie.Need-returns-then-answered-ne0
 returns c =
-    let m = c.before.before in
-    move-refused _ _ _ _ _ m.before.before.if1.true _ (m.move-check.ensures m.before.before.before.before.args.default) c.if2.true
+    let m = c in
+    move-refused _ _ _ _ _ m.if-verb-ne0.true _ (m.move_check-answered.ensures m.args.default) c.if-answered-ne0.true
 
-returns-2 : tie.Need-returns-2
+returns-2 : tie.Need-returns-then-verb-ne0
 returns-2 c =
-    let e = c.before.before.before in
-    let m = e.before.before in
-    rw c.about-none.ensures (move-made _ _ _ _ _ m.before.before.if1.true _ (m.move-check.ensures m.before.before.before.before.args.default) e.if2.false _ c.before.move-to.ensures)
+    let e = c in
+    let m = c in
+    rw c.about_none.ensures (move-made _ _ _ _ _ m.if-verb-ne0.true _ (m.move_check-answered.ensures m.args.default) e.if-answered-ne0.false _ c.move_to.ensures)
 
-returns-3 : tie.Need-returns-3
+returns-3 : tie.Need-returns-then-instructions-at
 returns-3 c =
-    let i = c.before.before in
-    let d = i.before in
-    rw c.about-none2.ensures (none_left _ _ _ _ _ d.before.before.if1.false (omega (arith, i.instructions.ensures, d.done.ensures, c.before.if3.true)))
+    let i = c in
+    let d = c in
+    rw c.about_none-then-instructions-at.ensures (none_left _ _ _ _ _ d.if-verb-ne0.false (omega (arith, i.instructions.ensures, d.done-at.ensures, c.if-instructions-at.true)))
 
 -- the instruction that is due
-due : (n : tie.After-instruction)
-    → let s = n.before.before.before.before.before.before.before.args in
-    instruction_action (pushed_to (program_from s.program.now s.begun.now) n.instruction.result.id n.before.before.before.done.result) (said n.instruction.result) ≡ action_at (program_from s.program.now s.begun.now) (state_in s.state.now).done
+due : (n : tie.After-instruction-line)
+    → let s = n.args in
+    instruction_action (pushed_to (program_from s.program.now s.begun.now) n.instruction-line.result.id n.done-at.result) (said n.instruction-line.result) ≡ action_at (program_from s.program.now s.begun.now) (state_in s.state.now).done
 unfolding action_at
 due n =
-    let s = n.before.before.before.before.before.before.before.args in
-    ap (λ (x : Instruction). instruction_action (pushed_to (program_from s.program.now s.begun.now) x.id n.before.before.before.done.result) x) n.instruction.ensures
-    ∙ ap (action_at (program_from s.program.now s.begun.now)) n.before.before.before.done.ensures
+    let s = n.args in
+    ap (λ (x : Instruction). instruction_action (pushed_to (program_from s.program.now s.begun.now) x.id n.done-at.result) x) n.instruction-line.ensures
+    ∙ ap (action_at (program_from s.program.now s.begun.now)) n.done-at.ensures
 
-returns-4 : tie.Need-returns-4
+returns-4 : tie.Need-returns-then-refused-ne0
 returns-4 c =
-    let o = c.before.before in
-    let n = o.before.before in
-    let i = n.before.before in
-    let d = i.before in
-    rw c.about-none3.ensures
-    (next-refused _ _ _ _ _ d.before.before.if1.false _ (omega (arith, i.instructions.ensures, d.done.ensures, n.before.if3.false)) (rw (due n) at o.line-check.ensures.0) c.before.if4.true)
+    let o = c in
+    let n = c in
+    let i = c in
+    let d = c in
+    rw c.about_none-then-refused-ne0.ensures
+    (next-refused _ _ _ _ _ d.if-verb-ne0.false _ (omega (arith, i.instructions.ensures, d.done-at.ensures, n.if-instructions-at.false)) (rw (due c.before.before.before) at o.line_check-refused.ensures.0) c.if-refused-ne0.true)
 
-returns-5 : tie.Need-returns-5
+returns-5 : tie.Need-returns
 unfolding action_at
 returns-5 c =
-    let t = c.before.before.before in
-    let f = t.before.before in
-    let o = f.before in
-    let n = o.before.before in
-    let i = n.before.before in
-    let d = i.before in
-    let s = n.before.before.before.before.before.before.before.args in
-    let l = pushed_to (program_from s.program.now s.begun.now) n.instruction.result.id d.done.result in
-    rw c.about-none4.ensures
-    (next-made _ _ _ _ _ d.before.before.if1.false _ (omega (arith, i.instructions.ensures, d.done.ensures, n.before.if3.false)) (rw (due n) at o.line-check.ensures.0) f.if4.false _
-    (c.before.put-done.ensures ∙ rw (t.line-to.ensures l (o.line-check.ensures.1 l f.if4.false), due n, d.done.ensures)))
+    let t = c in
+    let f = c in
+    let o = c in
+    let n = c in
+    let i = c in
+    let d = c in
+    let s = c.args in
+    let l = pushed_to (program_from s.program.now s.begun.now) n.instruction-line.result.id d.done-at.result in
+    rw c.about_none-2.ensures
+    (next-made _ _ _ _ _ d.if-verb-ne0.false _ (omega (arith, i.instructions.ensures, d.done-at.ensures, n.if-instructions-at.false)) (rw (due c.before.before.before.before.before.before.before) at o.line_check-refused.ensures.0) f.if-refused-ne0.false _
+    (c.put_done.ensures ∙ rw (t.line_to.ensures l (o.line_check-refused.ensures.1 l f.if-refused-ne0.false), due c.before.before.before.before.before.before.before, d.done-at.ensures)))
 
 pub step_spec : {M : Type 1} → statement M
 step_spec =
     tie.close
-    (tie.spec (λ c κs. search rules) returns (λ c κs. search rules) (λ c κs. search rules) returns-2 (λ c κs. search rules) (λ c κs. search rules) (λ c κs. search rules) returns-3 (λ c κs. search rules) (λ c κs. search rules)
-    (λ c κs. search rules) returns-4 (λ c κs. search rules) (λ c. search rules) (λ c κs. search rules) (λ c κs. search rules) returns-5)
+    (tie.spec
+    (λ c κs. search rules) returns (λ c κs. search rules) (λ c κs. search rules) returns-2 (λ c κs. search rules) (λ c κs. search rules)
+    (λ c κs. search rules) returns-3 (λ c κs. search rules) (λ c κs. search rules) (λ c κs. search rules) returns-4 (λ c κs. search rules)
+    (λ c. search rules) (λ c κs. search rules) (λ c κs. search rules) returns-5)

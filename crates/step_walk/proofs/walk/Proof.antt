@@ -16,14 +16,14 @@ use borrow.Author.Rules.{rules}
 use Rattle.step_walk.proofs.walk.Statement.{statement}
 use Rattle.step_walk.proofs.walk.Tie as tie
 
-abbrev invariant-loop : tie.invariant-loop
+abbrev invariant-loop : tie.invariant-loop-k
 invariant-loop default tables program begun answer state₀ n k₀ state k =
     (k ≤ n) × (held_walk default (tables_in tables) (program_from program begun) (state_in state₀) (steps_of (answer_in answer)) ≡ rest default (tables_in tables) (program_from program begun) (answer_in answer) k (state_in state))
 
-abbrev decreases-loop : tie.decreases-loop
+abbrev decreases-loop : tie.decreases-loop-k
 decreases-loop default tables program begun answer state₀ n k₀ state k = n - k
 
-loop-holds : tie.Need-loop-init invariant-loop decreases-loop
+loop-holds : tie.Need-loop-k-init invariant-loop decreases-loop
 loop-holds c = (search rules, walk_start _ _ _ _ _)
 
 full : (ws : List ℕ) → length (answer_in ws).steps ≡ 1024
@@ -31,46 +31,48 @@ unfolding answer_in
 full ws = length-list 1024 (λ k. step_in k (row ws 0 3 k))
 
 -- what the turn of the loop came to is the step that is due
-abbrev came : tie.After-step invariant-loop decreases-loop → Stepped
-came s = stepped s.step.result (state_in s.step.new.1.1.1.1.0)
+abbrev came : tie.After-step-answered invariant-loop decreases-loop → Stepped
+came s = stepped s.step-answered.result (state_in s.step-answered.new.1.1.1.1.0)
 
-abbrev turn : tie.After-step invariant-loop decreases-loop → tie.In-loop invariant-loop decreases-loop
+abbrev turn : tie.After-step-answered invariant-loop decreases-loop → tie.In-loop-k invariant-loop decreases-loop
 turn s = s.before.before.before
 
-due : (s : tie.After-step invariant-loop decreases-loop)
+due : (s : tie.After-step-answered invariant-loop decreases-loop)
     → let l = (turn s).before in
     let a = l.before.before.before.args in
     came s ≡ held_step a.default (tables_in a.tables.now) (program_from a.program.now a.begun.now) (state_in l.loop.state) (get_or (answer_in a.answer.now).steps l.loop.k no_step)
 due s =
     let l = (turn s).before in
     let a = l.before.before.before.args in
-    s.step.ensures ∙ ap (held_step a.default (tables_in a.tables.now) (program_from a.program.now a.begun.now) (state_in l.loop.state)) s.before.before.step-at.ensures
+    s.step-answered.ensures ∙ ap (held_step a.default (tables_in a.tables.now) (program_from a.program.now a.begun.now) (state_in l.loop.state)) s.step_at-due.ensures
 
-returns : tie.Need-returns invariant-loop decreases-loop
+returns : tie.Need-returns-then-answered-ne0 invariant-loop decreases-loop
 returns c =
-    let s = c.before.before.before in
-    let l = (turn s).before in
+    let s = c in
+    let l = (turn c.before.before.before).before in
     let a = l.before.before.before.args in
-    rw c.come-to.ensures (sym (l.loop.inv.1
-    ∙ walk_refused a.default (tables_in a.tables.now) (program_from a.program.now a.begun.now) (answer_in a.answer.now) (state_in l.loop.state) (full a.answer.now) l.loop.k (came s) (omega (arith, l.before.step_count.ensures, (turn s).loop-test.true)) (due s) c.before.if1.true))
+    rw c.come_to.ensures (sym (l.loop.inv.1
+    ∙ walk_refused a.default (tables_in a.tables.now) (program_from a.program.now a.begun.now) (answer_in a.answer.now) (state_in l.loop.state) (full a.answer.now) l.loop.k (came c.before.before.before) (omega (arith, l.before.step_count.ensures, (turn c.before.before.before).loop-test.true)) (due c.before.before.before) c.if-answered-ne0.true))
 
-loop-again : tie.Need-loop-preserved invariant-loop decreases-loop
+loop-again : tie.Need-loop-k-preserved invariant-loop decreases-loop
 loop-again c =
-    let s = c.before.before in
-    let l = (turn s).before in
+    let s = c in
+    let l = (turn c.before.before).before in
     let a = l.before.before.before.args in (
       search rules,
       l.loop.inv.1
-          ∙ walk_more a.default (tables_in a.tables.now) (program_from a.program.now a.begun.now) (answer_in a.answer.now) (state_in l.loop.state) (full a.answer.now) l.loop.k (came s) (omega (arith, l.before.step_count.ensures, (turn s).loop-test.true)) (due s) c.if1.false,
+          ∙ walk_more a.default (tables_in a.tables.now) (program_from a.program.now a.begun.now) (answer_in a.answer.now) (state_in l.loop.state) (full a.answer.now) l.loop.k (came c.before.before) (omega (arith, l.before.step_count.ensures, (turn c.before.before).loop-test.true)) (due c.before.before) c.if-answered-ne0.false,
     )
 
-returns-2 : tie.Need-returns-2 invariant-loop decreases-loop
+returns-2 : tie.Need-returns invariant-loop decreases-loop
 returns-2 c =
-    let t = c.before.before in
-    let l = t.before in
-    let a = l.before.before.before.args in
-    rw (c.come-to2.ensures, c.before.about-none.ensures) (sym (l.loop.invariant.1
-    ∙ walk_end a.default (tables_in a.tables.now) (program_from a.program.now a.begun.now) (answer_in a.answer.now) (state_in l.loop.state) (full a.answer.now) l.loop.k (omega (arith, l.before.step_count.ensures, t.loop-test.false))))
+    let t = c in
+    let l = c in
+    let a = c.args in
+    rw (c.come_to-2.ensures, c.about_none.ensures) (sym (l.loop-k.invariant.1
+    ∙ walk_end a.default (tables_in a.tables.now) (program_from a.program.now a.begun.now) (answer_in a.answer.now) (state_in l.loop-k.state) (full a.answer.now) l.loop-k.k (omega (arith, l.step_count-n.ensures, t.loop-k-test.false))))
 
-pub walk-spec : {M : Type 1} → statement M
-walk-spec = tie.close (tie.spec invariant-loop decreases-loop (λ c κs. search rules) loop-holds (λ c κs. search rules) (λ c κs. search rules) (λ c κs. search rules) returns (λ c. search rules) (λ c. search rules) loop-again (λ c κs. search rules) (λ c κs. search rules) returns-2)
+pub walk_spec : {M : Type 1} → statement M
+walk_spec = tie.close (tie.spec
+    invariant-loop decreases-loop (λ c κs. search rules) loop-holds (λ c κs. search rules) (λ c κs. search rules) (λ c κs. search rules) returns
+    (λ c. search rules) (λ c. search rules) loop-again (λ c κs. search rules) (λ c κs. search rules) returns-2)

@@ -4,21 +4,21 @@ use lib.Seq.{set_out}
 use Rattle.timing_clock.proofs.note_at.Statement.{statement}
 use Rattle.timing_clock.proofs.note_at.Tie as tie
 
-returns : tie.Need-returns
+returns : tie.Need-returns-then-slot-noted
 returns c =
-    let m = c.before.before in
-    rw (← m.member.ensures, c.before.if1.true, ← m.before.pair-slot.ensures)
+    let m = c in
+    rw (← m.member.ensures, c.if-member.true, ← m.pair_slot-slot.ensures)
 
-returns-2 : tie.Need-returns-2
+returns-2 : tie.Need-returns-else-slot-noted
 returns-2 c =
-    let m = c.before.before in
-    rw (← m.member.ensures, c.before.if1.true, ← m.before.pair-slot.ensures) (sym (set_out _ _ _ c.if2.false))
+    let m = c in
+    rw (← m.member.ensures, c.if-member.true, ← m.pair_slot-slot.ensures) (sym (set_out _ _ _ c.if-slot-noted.false))
 
-returns-3 : tie.Need-returns-3
-returns-3 c = rw (← c.before.member.ensures, c.if1.false)
+returns-3 : tie.Need-returns-else-member
+returns-3 c = rw (← c.member.ensures, c.if-member.false)
 
-pub note-at-spec : {M : Type 1} → statement M
-note-at-spec =
+pub note_at_spec : {M : Type 1} → statement M
+note_at_spec =
     tie.close
     (tie.spec
     (λ c κs. search rules) (λ c κs. search rules) (λ c. search rules) (λ c. search rules) (λ c. search rules) returns returns-2 returns-3)

@@ -4,8 +4,9 @@ use lib.ListN.{get_or-eq_default}
 use Rattle.timing_clock.proofs.noted_at.Statement.{statement}
 use Rattle.timing_clock.proofs.noted_at.Tie as tie
 
-returns-2 : tie.Need-returns-2
-returns-2 c = sym (get_or-eq_default c.before.args.noted.now 0 c.if1.false)
+returns-2 : tie.Need-returns-else-slot-noted
+returns-2 c = sym (get_or-eq_default c.args.noted.now 0 c.if-slot-noted.false)
 
-pub noted-at-spec : {M : Type 1} → statement M
-noted-at-spec = tie.close (tie.spec (λ c. search rules) (λ c. search rules) (λ c. search rules) returns-2)
+pub noted_at_spec : {M : Type 1} → statement M
+noted_at_spec = tie.close (tie.spec
+    (λ c. search rules) (λ c. search rules) (λ c. search rules) returns-2)

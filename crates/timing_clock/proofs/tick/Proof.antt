@@ -12,40 +12,39 @@ use borrow.Author.Rules.{rules}
 use Rattle.timing_clock.proofs.tick.Statement.{statement}
 use Rattle.timing_clock.proofs.tick.Tie as tie
 
-abbrev old : tie.After-slice-known → Clock
-old x = let s = x.before.before.args in clock_at s.clock s.noted.now
+abbrev old : tie.After-slice_known-1 → Clock
+old x = let s = x.args in clock_at s.clock s.noted.now
 
-abbrev new : tie.After-slice-known → Configuration → Configuration → Clock
-new x c d = let s = x.before.before.args in tick (of_seconds s.seconds.now) c d (step_of s.verb s.id s.number) (old x)
+abbrev new : tie.After-slice_known-1 → Configuration → Configuration → Clock
+new x c d = let s = x.args in tick (of_seconds s.seconds.now) c d (step_of s.verb s.id s.number) (old x)
 
-few : (x : tie.After-slice-known) (j : ℕ) → get_or x.before.before.args.seconds.now j 0 ≤ most_seconds
-few x j = omega (arith, x.before.shared-slice-known.given j)
+few : (x : tie.After-slice_known-1) (j : ℕ) → get_or x.args.seconds.now j 0 ≤ most_seconds
+few x j = omega (arith, x.shared_slice_known-1.given j)
 
 -- what is the definition's clock keeps its pace
-paced : (x : tie.After-slice-known) (c d : Configuration) (l : Clock) → l ≡ new x c d
-    → (let s = x.before.before.args in Ticks s.seconds.now c d (step_of s.verb s.id s.number) (old x) l)
-paced x c d l e = record { value = e; pace = rw e (tick-paced most_seconds _ (few x) _ _ _ (old x) x.before.before.requires.past) }
+paced : (x : tie.After-slice_known-1) (c d : Configuration) (l : Clock) → l ≡ new x c d
+    → (let s = x.args in Ticks s.seconds.now c d (step_of s.verb s.id s.number) (old x) l)
+paced x c d l e = record { value = e; pace = rw e (tick-paced most_seconds _ (few x) _ _ _ (old x) x.requires.past) }
 
-returns : tie.Need-returns
+returns : tie.Need-returns-in-1
 unfolding tick
 returns x c d e =
-    let n = x.before.before in
-    let m = n.before.before in
-    paced m.before c d _ (rw (m.match.keys1, ← e, ← n.note.ensures))
+    let n = x in
+    let m = x in
+    paced x.before.before.before.before.before c d _ (rw (m.in-1.is, ← e, ← n.note.ensures))
 
-returns-2 : tie.Need-returns-2
+returns-2 : tie.Need-returns-in-2
 unfolding tick
 returns-2 x c d e =
-    let m = x.before.before.before in
-    paced m.before c d _ (rw (m.match.keys2, ← x.before.pair-slot.ensures, ← x.end-at.ensures))
+    let m = x in
+    paced x.before.before.before c d _ (rw (m.in-2.is, ← x.pair_slot.ensures, ← x.end_at.ensures))
 
-returns-3 : tie.Need-returns-3
+returns-3 : tie.Need-returns-in_default
 unfolding tick
-returns-3 x c d e = paced x.before c d _ (rw (ne_eqb _ _ x.match.rest.0.1, ne_eqb _ _ x.match.rest.1))
+returns-3 x c d e = paced x.before c d _ (rw (ne_eqb _ _ x.in_default.rest.0.1, ne_eqb _ _ x.in_default.rest.1))
 
-pub tick-spec : {M : Type 1} → statement M
-tick-spec =
+pub tick_spec : {M : Type 1} → statement M
+tick_spec =
     tie.close
     (tie.spec
-    (λ c κs. search rules) (λ c κs. search rules) (λ c κs. search rules) (λ c. search rules) returns (λ c. search rules) returns-2
-    returns-3)
+    (λ c κs. search rules) (λ c κs. search rules) (λ c κs. search rules) (λ c. search rules) returns (λ c. search rules) returns-2 returns-3)

@@ -15,37 +15,37 @@ use Rattle.timing_lib.proofs.after_walk.Statement.{statement}
 use Rattle.timing_lib.proofs.after_walk.Tie as tie
 
 -- whether the report with its mark has room
-told : (h : tie.After-has-room)
-    → let x = h.before.before.args in
+told : (h : tie.After-has_room)
+    → let x = h.args in
     h.has_room.result ≡ leb (length (marked_in x.w x.state.now)) (length x.lent.now)
 told h =
-    let start = h.before.before in
+    let start = h in
     fits_told (marked_in start.args.w start.args.state.now) _ _ h.has_room.ensures refl start.requires.few
 
-returns : tie.Need-returns
+returns : tie.Need-returns-then-not-has_room
 unfolding in_room no_room over mark_in_room
 returns c =
-    let d = c.before.before in
-    let h = d.before in
-    let e = sym (told h) ∙ not-true h.has_room.result d.if1.true in
-    (λ a. rw (e, in_room, c.unmarked.ensures) c.before.no_room.ensures, (rw (e, mark_in_room, c.unmarked.ensures), λ a. rw (e, in_room)))
+    let d = c in
+    let h = c in
+    let e = sym (told c.before.before.before) ∙ not-true h.has_room.result d.if-not-has_room.true in
+    (λ a. rw (e, in_room, c.unmarked.ensures) c.no_room-verdict.ensures, (rw (e, mark_in_room, c.unmarked.ensures), λ a. rw (e, in_room)))
 
-returns-2 : tie.Need-returns-2
+returns-2 : tie.Need-returns
 unfolding in_room after_walk over mark_in_room
 returns-2 c =
-    let written = c.before.before.before.before.before.before.before in
-    let d = written.before.before in
-    let h = d.before in
-    let x = h.before.before.args in
+    let written = c in
+    let d = c in
+    let h = c in
+    let x = c.args in
     let ws = x.state.now in
-    let e = sym (told h) ∙ not-false h.has_room.result d.if1.false in
-    let whole = fits_all written.write-marked.ensures (leb-true _ _ e) in
-    let is = c.walk-verdict.ensures (state_in ws) c.before.done.ensures in
+    let e = sym (told c.before.before.before.before.before.before.before.before.before.before) ∙ not-false h.has_room.result d.if-not-has_room.false in
+    let whole = fits_all written.write_marked-written.ensures (leb-true _ _ e) in
+    let is = c.walk_verdict-verdict.ensures (state_in ws) c.done.ensures in
     (λ a. rw (e, in_room) (size-verdict (walked x.w.passed (state_in ws)) (marked_in x.w ws) a is whole.0), (rw (e, mark_in_room), λ a. rw (e, in_room) whole.1))
 
-pub after-walk-spec : {M : Type 1} → statement M
-after-walk-spec =
+pub after_walk_spec : {M : Type 1} → statement M
+after_walk_spec =
     tie.close
     (tie.spec
-    (λ c κs. search rules) (λ c κs. search rules) (λ c κs. search rules) returns (λ c κs. search rules) (λ c. search rules)
-    (λ c. search rules) (λ c κs. search rules) (λ c. search rules) (λ c κs. search rules) (λ c. search rules) returns-2)
+    (λ c κs. search rules) (λ c κs. search rules) (λ c κs. search rules) returns (λ c κs. search rules) (λ c. search rules) (λ c. search rules)
+    (λ c κs. search rules) (λ c. search rules) (λ c κs. search rules) (λ c. search rules) returns-2)

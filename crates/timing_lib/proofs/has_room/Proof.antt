@@ -13,10 +13,11 @@ use Rattle.timing_lib.proofs.has_room.Tie as tie
 returns : tie.Need-returns
 unfolding marked_report
 returns c =
-    let mark = c.before in
-    let x = mark.before.before.args in
-    let e : length (report_in x.w.passed x.state.now) + mark.mark-length.result ≡ length (marked_in x.w x.state.now) = simp length-append (omega (arith, mark.mark-length.ensures)) in
+    let mark = c in
+    let x = c.args in
+    let e : length (report_in x.w.passed x.state.now) + mark.mark_length.result ≡ length (marked_in x.w x.state.now) = simp length-append (omega (arith, mark.mark_length.ensures)) in
     c.has_room.ensures ∙ ap (λ (n : ℕ). room_for n x.room) e
 
-pub has-room-spec : {M : Type 1} → statement M
-has-room-spec = tie.close (tie.spec (λ c κs. search rules) (λ c κs. search rules) returns)
+pub has_room_spec : {M : Type 1} → statement M
+has_room_spec = tie.close (tie.spec
+    (λ c κs. search rules) (λ c κs. search rules) returns)

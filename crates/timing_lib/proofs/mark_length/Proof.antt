@@ -6,10 +6,10 @@ use Rattle.timing_lib.proofs.mark_length.Statement.{statement}
 use Rattle.timing_lib.proofs.mark_length.Tie as tie
 
 returns : tie.Need-returns
-returns c = omega (arith, count-short (bytes "mark=") c.before.before.before.before.args.mark, c.before.write-count.ensures.to_is)
+returns c = omega (arith, count-short (bytes "mark=") c.args.mark, c.write_count.ensures.to_is)
 
-pub mark-length-spec : {M : Type 1} → statement M
-mark-length-spec =
+pub mark_length_spec : {M : Type 1} → statement M
+mark_length_spec =
     tie.close
     (tie.spec
-    (λ c. search rules) (λ c. search rules) (λ c κs. search rules) returns)
+    (λ c. search rules) (λ c κs. search rules) returns)

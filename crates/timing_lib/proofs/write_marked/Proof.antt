@@ -6,11 +6,11 @@ use Rattle.timing_lib.proofs.write_marked.Tie as tie
 
 returns : tie.Need-returns
 unfolding marked_report
-returns c = next c.before.before.before.before.before.before.before.write-report.ensures c.before.before.write-count.ensures
+returns c = next c.write_report-used.ensures c.write_count.ensures
 
-pub write-marked-spec : {M : Type 1} → statement M
-write-marked-spec =
+pub write_marked_spec : {M : Type 1} → statement M
+write_marked_spec =
     tie.close
     (tie.spec
-    (λ c κs. search rules) (λ c. search rules) (λ c. search rules) (λ c. search rules) (λ c. search rules) (λ c κs. search rules)
+    (λ c κs. search rules) (λ c. search rules) (λ c. search rules) (λ c. search rules) (λ c κs. search rules)
     (λ c. used-fits (returns c) (search rules)) (λ c. search rules) returns)

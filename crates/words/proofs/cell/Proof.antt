@@ -7,15 +7,16 @@ use Rattle.words.specs.Rows.{word}
 use Rattle.words.proofs.cell.Statement.{statement}
 use Rattle.words.proofs.cell.Tie as tie
 
-returns : tie.Need-returns
+returns : tie.Need-returns-then-k-n
 returns c =
-    let p = c.before in
-    let s = p.before.before.before in
-    rw (lt-ltb _ _ p.before.if1.true)
+    let p = c in
+    let s = c in
+    rw (lt-ltb _ _ p.if-k-n.true)
     (c.mask_at.ensures ∙ ap (word s.args.words.now) p.place.ensures.place ∙ sym (list_at s.args.w _ 0 s.args.f s.requires.column))
 
-returns-2 : tie.Need-returns-2
-returns-2 c = rw (le-ltb _ _ c.if1.false)
+returns-2 : tie.Need-returns-else-k-n
+returns-2 c = rw (le-ltb _ _ c.if-k-n.false)
 
-pub cell-spec : {M : Type 1} → statement M
-cell-spec = tie.close (tie.spec (λ c κs. search rules) (λ c κs. search rules) returns returns-2)
+pub cell_spec : {M : Type 1} → statement M
+cell_spec = tie.close (tie.spec
+    (λ c κs. search rules) (λ c κs. search rules) returns returns-2)

@@ -6,15 +6,16 @@ use Rattle.words.specs.Rows.{puts}
 use Rattle.words.proofs.put_row.Statement.{statement}
 use Rattle.words.proofs.put_row.Tie as tie
 
-returns : tie.Need-returns
+returns : tie.Need-returns-then-k-n
 returns c =
-    let p = c.before.before.before in
-    let s = p.before.before.before.before.before in
-    rw (lt-ltb _ _ p.before.before.if1.true)
-    (c.before.before.put-words.ensures ∙ ap (λ (q : ℕ). puts s.args.words.now q s.args.xs.now) p.place.ensures.place)
+    let p = c in
+    let s = c in
+    rw (lt-ltb _ _ p.if-k-n.true)
+    (c.put_words.ensures ∙ ap (λ (q : ℕ). puts s.args.words.now q s.args.xs.now) p.place.ensures.place)
 
-returns-2 : tie.Need-returns-2
-returns-2 c = rw (le-ltb _ _ c.if1.false)
+returns-2 : tie.Need-returns-else-k-n
+returns-2 c = rw (le-ltb _ _ c.if-k-n.false)
 
-pub put-row-spec : {M : Type 1} → statement M
-put-row-spec = tie.close (tie.spec (λ c κs. search rules) (λ c κs. search rules) (λ c. search rules) returns returns-2)
+pub put_row_spec : {M : Type 1} → statement M
+put_row_spec = tie.close (tie.spec
+    (λ c κs. search rules) (λ c κs. search rules) (λ c. search rules) returns returns-2)

@@ -26,21 +26,21 @@ abbrev claims : ℕ → lts.Claims
 claims t = (write-byte-reads.Asked, write-byte-reads.Learnt, below t, write-digits.Post)
 
 module _ (t : ℕ) where
-  returns : lts.Need-returns (claims t) (at t) write-digits.Post
-  returns c = rw (digits-none _ _ c.if1.true) (none _ _)
+  returns : lts.Need-returns-then-digits-eq0 (claims t) (at t) write-digits.Post
+  returns c = rw (digits-none _ _ c.if-digits-eq0.true) (none _ _)
 
-  returns-2 : lts.Need-returns-2 (claims t) (at t) write-digits.Post
-  returns-2 c = let k = c.before.before.before.before in rw (digits_last _ _ k.before.if1.false k.if2.true) c.before.before.write_byte.ensures
+  returns-2 : lts.Need-returns-then-v-lt10 (claims t) (at t) write-digits.Post
+  returns-2 c = let k = c in rw (digits_last _ _ k.if-digits-eq0.false k.if-v-lt10.true) c.write_byte.ensures
 
-  write-digits-requires : lts.Need-write-digits-requires (claims t) (at t) write-digits.Post
+  write-digits-requires : lts.Need-write_digits-p-requires (claims t) (at t) write-digits.Post
   write-digits-requires c κs = (omega arith, tt)
 
-  returns-3 : lts.Need-returns-3 (claims t) (at t) write-digits.Post
+  returns-3 : lts.Need-returns (claims t) (at t) write-digits.Post
   returns-3 c =
-      let k = c.before.before.before.before.before.before.before.before in
-      rw (digits_more _ _ k.before.if1.false k.if2.false) (then c.before.before.before.before.before.before.write-digits.ensures c.before.before.write-byte2.ensures)
+      let k = c in
+      rw (digits_more _ _ k.if-digits-eq0.false k.if-v-lt10.false) (then c.write_digits-p.ensures c.write_byte-2.ensures)
 
-pub +write-digits-spec : {M : Type 1} → statement M
-+write-digits-spec = close μ λ t. lts.spec (claims t) (at t) write-digits.Post
+pub +write_digits_spec : {M : Type 1} → statement M
++write_digits_spec = close μ λ t. lts.spec (claims t) (at t) write-digits.Post
     (returns t) (λ c. search rules) (λ c. search rules) (λ c κs. search rules) (λ c. search rules) (returns-2 t) (λ c. search rules)
     (write-digits-requires t) (λ c. search rules) (λ c. search rules) (λ c κs. search rules) (λ c. search rules) (returns-3 t)

@@ -10,43 +10,43 @@ use Rattle.write_items.proofs.Items.{one_more}
 use Rattle.write_items.proofs.write_key.Statement.{statement}
 use Rattle.write_items.proofs.write_key.Tie as tie
 
-abbrev invariant-loop : tie.invariant-loop
+abbrev invariant-loop : tie.invariant-loop-i
 invariant-loop t₀ at key n i₀ t i = (i ≤ n) × Written t₀ (take i key) t at (at + i)
 
-abbrev decreases-loop : tie.decreases-loop
+abbrev decreases-loop : tie.decreases-loop-i
 decreases-loop t₀ at key n i₀ t i = n - i
 
-returns : tie.Need-returns invariant-loop decreases-loop
-returns c = all_past _ _ _ c.if1.true
+returns : tie.Need-returns-then-t-at invariant-loop decreases-loop
+returns c = all_past _ _ _ c.if-t-at.true
 
-loop-holds : tie.Need-loop-init invariant-loop decreases-loop
+loop-holds : tie.Need-loop-i-init invariant-loop decreases-loop
 loop-holds c =
-    let e : c.before.before.before.before.args.at + 0 ≡ c.before.before.before.before.args.at = omega arith in
+    let e : c.args.at + 0 ≡ c.args.at = omega arith in
     (omega arith, rw e (none _ _))
 
 -- the next byte has room
-room : tie.Need-slice-write-t invariant-loop decreases-loop
+room : tie.Need-bounds-t-at invariant-loop decreases-loop
 room c =
-    let l = c.before.before in
-    omega (arith, length-written l.loop.invariant.1, l.before.smaller.ensures.0)
+    let l = c in
+    omega (arith, length-written l.loop-i.invariant.1, l.smaller-n.ensures.0)
 
-loop-again : tie.Need-loop-preserved invariant-loop decreases-loop
+loop-again : tie.Need-loop-i-preserved invariant-loop decreases-loop
 loop-again c =
-    let l = c.before.before in
-    let a = l.before.before.before.before.before.args in
-    let e : a.at + (l.loop.i + 1) ≡ a.at + l.loop.i + 1 = omega arith in
-    let w = then l.loop.invariant.1 (byte-stored l.loop.t (a.at + l.loop.i) (get_or a.key.now l.loop.i 0) (room c)) in
-    (omega arith, rw (e, one_more a.key.now l.loop.i (omega (arith, l.before.smaller.ensures.0))) w)
+    let l = c in
+    let a = c.args in
+    let e : a.at + (l.loop-i.i + 1) ≡ a.at + l.loop-i.i + 1 = omega arith in
+    let w = then l.loop-i.invariant.1 (byte-stored l.loop-i.t (a.at + l.loop-i.i) (get_or a.key.now l.loop-i.i 0) (room c)) in
+    (omega arith, rw (e, one_more a.key.now l.loop-i.i (omega (arith, l.smaller-n.ensures.0))) w)
 
-returns-2 : tie.Need-returns-2 invariant-loop decreases-loop
+returns-2 : tie.Need-returns invariant-loop decreases-loop
 returns-2 c =
-    let e : c.before.loop.i ≡ c.before.before.smaller.result = omega arith in
-    as_many c.before.before.smaller.ensures.0 (rw e at c.before.loop.invariant.1)
+    let e : c.loop-i.i ≡ c.smaller-n.result = omega arith in
+    as_many c.smaller-n.ensures.0 (rw e at c.loop-i.invariant.1)
 
-pub write-key-spec : {M : Type 1} → statement M
-write-key-spec =
+pub write_key_spec : {M : Type 1} → statement M
+write_key_spec =
     tie.close
     (tie.spec
-    invariant-loop decreases-loop returns (λ c. search rules) (λ c κs. search rules) loop-holds
-    (λ c. omega (arith, c.before.before.before.smaller.ensures.0)) (λ c. search rules) room (λ c. search rules) (λ c. omega arith) loop-again
-    (λ c. search rules) (λ c. length-written c.before.loop.invariant.1) returns-2)
+    invariant-loop decreases-loop returns (λ c. search rules) (λ c κs. search rules) loop-holds (λ c. omega (arith, c.smaller-n.ensures.0))
+    (λ c. search rules) room (λ c. search rules) (λ c. omega arith) loop-again (λ c. search rules) (λ c. length-written c.loop-i.invariant.1)
+    returns-2)

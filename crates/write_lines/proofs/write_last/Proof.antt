@@ -4,9 +4,9 @@ use borrow.Author.Rules.{rules}
 use Rattle.write_lines.proofs.write_last.Statement.{statement}
 use Rattle.write_lines.proofs.write_last.Tie as tie
 
-pub write-last-spec : {M : Type 1} → statement M
+pub write_last_spec : {M : Type 1} → statement M
 unfolding one_text
-write-last-spec =
+write_last_spec =
     tie.close
-    (tie.spec (λ c κs. search rules) (λ c κs. search rules) (λ c. search rules)
-    (λ c. then c.before.before.before.before.before.before.write-number.ensures c.before.before.write_byte.ensures))
+    (tie.spec
+    (λ c κs. search rules) (λ c κs. search rules) (λ c. search rules) (λ c. then c.write_number-end.ensures c.write_byte.ensures))

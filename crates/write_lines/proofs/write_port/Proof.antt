@@ -4,12 +4,11 @@ use borrow.Author.Rules.{rules}
 use Rattle.write_lines.proofs.write_port.Statement.{statement}
 use Rattle.write_lines.proofs.write_port.Tie as tie
 
-pub write-port-spec : {M : Type 1} → statement M
+pub write_port_spec : {M : Type 1} → statement M
 unfolding port_line_text
-write-port-spec =
+write_port_spec =
     tie.close
-    (tie.spec (λ c. search rules) (λ c κs. search rules) (λ c. search rules) (λ c κs. search rules) (λ c. search rules) (λ c κs. search rules)
-    (λ c. search rules) (λ c. rw c.before.before.before.before.before.match.keys1 c.before.before.write-sets.ensures)
-    (λ c. search rules) (λ c. rw c.before.before.before.before.before.match.keys2 c.before.before.write-sets2.ensures)
-    (λ c. search rules)
-    (λ c. rw (ne_eqb _ _ c.before.before.before.before.before.match.rest.1, ne_eqb _ _ c.before.before.before.before.before.match.rest.0.1) c.before.before.write-key.ensures))
+    (tie.spec
+    (λ c κs. search rules) (λ c κs. search rules) (λ c κs. search rules) (λ c. search rules) (λ c. rw c.in-0.is c.write_sets.ensures)
+    (λ c. search rules) (λ c. rw c.in-1.is c.write_sets-in-1.ensures) (λ c. search rules)
+    (λ c. rw (ne_eqb _ _ c.in_default.rest.1, ne_eqb _ _ c.in_default.rest.0.1) c.write_key.ensures))

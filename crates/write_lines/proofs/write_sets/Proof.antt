@@ -3,8 +3,9 @@ use borrow.Author.Rules.{rules}
 use Rattle.write_lines.proofs.write_sets.Statement.{statement}
 use Rattle.write_lines.proofs.write_sets.Tie as tie
 
-pub write-sets-spec : {M : Type 1} → statement M
-write-sets-spec =
+pub write_sets_spec : {M : Type 1} → statement M
+write_sets_spec =
     tie.close
-    (tie.spec (λ c κs. search rules) (λ c κs. search rules) (λ c κs. search rules) (λ c κs. search rules) (λ c κs. search rules) (λ c. search rules)
-    (λ c. then c.before.before.before.before.before.before.before.before.before.before.before.before.before.before.before.before.before.before.write-key.ensures (then (then (then c.before.before.before.before.before.before.before.before.before.before.before.before.before.before.write-mask.ensures c.before.before.before.before.before.before.before.before.before.before.write_byte.ensures) c.before.before.before.before.before.before.write-mask2.ensures) c.before.before.write-byte2.ensures)))
+    (tie.spec
+    (λ c κs. search rules) (λ c κs. search rules) (λ c κs. search rules) (λ c κs. search rules) (λ c κs. search rules) (λ c. search rules)
+    (λ c. then c.write_key-at.ensures (then (then (then c.write_mask-at.ensures c.write_byte-at.ensures) c.write_mask-at-2.ensures) c.write_byte.ensures)))

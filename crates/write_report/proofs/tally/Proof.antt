@@ -11,22 +11,23 @@ use borrow.Author.Rules.{rules}
 use Rattle.write_report.proofs.tally.Statement.{statement}
 use Rattle.write_report.proofs.tally.Tie as tie
 
-abbrev invariant-loop : tie.invariant-loop
+abbrev invariant-loop : tie.invariant-loop-i
 invariant-loop state n₀ i₀ n i = (i ≤ 32) × (n ≤ i) × (n ≡ tally i (λ k. (instance (state_in state) k).present))
 
-abbrev decreases-loop : tie.decreases-loop
+abbrev decreases-loop : tie.decreases-loop-i
 decreases-loop state n₀ i₀ n i = 32 - i
 
-pub tally-spec : {M : Type 1} → statement M
-tally-spec =
+pub tally_spec : {M : Type 1} → statement M
+tally_spec =
     tie.close
-    (tie.spec invariant-loop decreases-loop (λ c. (omega arith, omega arith, sym (tally-start _))) (λ c κs. search rules) (λ c. search rules) (λ c. search rules)
-    (λ c. omega arith)
+    (tie.spec
+    invariant-loop decreases-loop (λ c. (omega arith, omega arith, sym (tally-start _))) (λ c κs. search rules) (λ c. search rules)
+    (λ c. search rules) (λ c. omega arith)
     (λ c.
-    let l = c.before.before.before.loop in
-    let here = sym c.before.present.ensures in
+    let l = c.loop-i in
+    let here = sym c.present.ensures in
     ⊎_elim
     (λ w. (omega arith, omega (arith, w.1), w.1 ∙ rw l.invariant.2 (sym (tally-in _ _ (here ∙ w.0.taken)))))
     (λ w. (omega arith, omega (arith, w.1), w.1 ∙ rw l.invariant.2 (sym (tally-out _ _ (here ∙ w.0.left)))))
-    c.if1.branch)
-    (λ c. let e : c.before.loop.i ≡ 32 = omega arith in rw e at c.before.loop.invariant.2))
+    c.if-present.branch-raw)
+    (λ c. let e : c.loop-i.i ≡ 32 = omega arith in rw e at c.loop-i.invariant.2))

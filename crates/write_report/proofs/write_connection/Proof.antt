@@ -8,23 +8,24 @@ use Rattle.write_report.proofs.write_connection.Tie as tie
 returns : tie.Need-returns
 unfolding connection_text four_text three_text two_text one_text
 returns c =
-    let end = c.before.before in
-    let provideport = end.before.before.before.before in
-    let provider-end = provideport.before.before.before.before.before in
-    let provider = provider-end.before.before.before.before in
-    let useport-end = provider.before.before.before.before.before in
-    let useport = useport-end.before.before.before.before in
-    let user-end = useport.before.before.before.before in
-    let user = user-end.before.before.before.before in
-    let key = user.before.before.before.before in
-    let from-provideport = then (rw provideport.before.provideport.ensures at provideport.write-number4.ensures) end.write-byte4.ensures in
-    let from-provider = then (then (rw provider.before.provider.ensures at provider.write-number3.ensures) provider-end.write-byte3.ensures) from-provideport in
-    let from-useport = then (then useport.write-number2.ensures useport-end.write-byte2.ensures) from-provider in
-    then key.write-key.ensures (then (then user.write-number.ensures user-end.write_byte.ensures) from-useport)
+    let end = c in
+    let provideport = c in
+    let provider-end = c in
+    let provider = c in
+    let useport-end = c in
+    let useport = c in
+    let user-end = c in
+    let user = c in
+    let key = c in
+    let from-provideport = then (rw provideport.provideport.ensures at provideport.write_number-at-4.ensures) end.write_byte.ensures in
+    let from-provider = then (then (rw provider.provider.ensures at provider.write_number-at-3.ensures) provider-end.write_byte-at-3.ensures) from-provideport in
+    let from-useport = then (then useport.write_number-at-2.ensures useport-end.write_byte-at-2.ensures) from-provider in
+    then key.write_key-at.ensures (then (then user.write_number-at.ensures user-end.write_byte-at.ensures) from-useport)
 
-pub write-connection-spec : {M : Type 1} → statement M
-write-connection-spec =
+pub write_connection_spec : {M : Type 1} → statement M
+write_connection_spec =
     tie.close
-    (tie.spec (λ c. search rules) (λ c κs. search rules) (λ c. search rules) (λ c κs. search rules) (λ c κs. search rules) (λ c. search rules)
-    (λ c κs. search rules) (λ c κs. search rules) (λ c κs. search rules) (λ c. search rules) (λ c κs. search rules) (λ c κs. search rules)
-    (λ c κs. search rules) (λ c. search rules) (λ c κs. search rules) (λ c κs. search rules) (λ c. length-written (returns c)) returns)
+    (tie.spec
+    (λ c κs. search rules) (λ c. search rules) (λ c κs. search rules) (λ c κs. search rules) (λ c. search rules) (λ c κs. search rules)
+    (λ c κs. search rules) (λ c κs. search rules) (λ c. search rules) (λ c κs. search rules) (λ c κs. search rules) (λ c κs. search rules)
+    (λ c. search rules) (λ c κs. search rules) (λ c κs. search rules) (λ c. length-written (returns c)) returns)

@@ -23,54 +23,55 @@ use borrow.Author.Rules.{rules}
 use Rattle.write_report.proofs.write_connection_lines.Statement.{statement}
 use Rattle.write_report.proofs.write_connection_lines.Tie as tie
 
-abbrev invariant-loop : tie.invariant-loop
+abbrev invariant-loop : tie.invariant-loop-left
 invariant-loop t₀ state n used₀ left₀ s₀ t used left s =
     (left + tally s (is_served (state_in state).servers) ≡ n) × Turns (line_at (state_in state).servers) 512 s t₀ t used
 
-abbrev decreases-loop : tie.decreases-loop
+abbrev decreases-loop : tie.decreases-loop-left
 decreases-loop t₀ state n used₀ left₀ s₀ t used left s = 512 - s
 
 -- where one is left, the table goes on
-last : (c : tie.Joined1 invariant-loop decreases-loop) → c.before.before.before.loop.s < 512
+last : (c : tie.Joined-x-ne0 invariant-loop decreases-loop) → c.loop-left.s < 512
 last c =
-    let l = c.before.before.before in
-    let ws = l.before.before.args.state.now in
-    by_cases (dec_lt l.loop.s 512) (λ h. h)
+    let l = c in
+    let ws = c.args.state.now in
+    by_cases (dec_lt l.loop-left.s 512) (λ h. h)
     (λ h.
-    let e : l.loop.s ≡ 512 = omega (arith, l.loop.invariant.1.up) in
-    let all = rw e at l.loop.invariant.0 in
-    absurd (omega (arith, all, l.before.before.requires, count-is (state_in ws).servers (servers-length ws))))
+    let e : l.loop-left.s ≡ 512 = omega (arith, l.loop-left.invariant.1.up) in
+    let all = rw e at l.loop-left.invariant.0 in
+    absurd (omega (arith, all, l.requires, count-is (state_in ws).servers (servers-length ws))))
 
 -- a use port that is free has no line
 silent : (x : List ℕ) (s : ℕ) → is_served x s ≡ false → line_at x s ≡ []
 unfolding is_served connection_line
 silent x s e = rw e refl
 
-pub write-connection-lines-spec : {M : Type 1} → statement M
+pub write_connection_lines_spec : {M : Type 1} → statement M
 unfolding is_served connection_line
-write-connection-lines-spec =
+write_connection_lines_spec =
     tie.close
-    (tie.spec invariant-loop decreases-loop (λ c. (omega (arith, tally-start (is_served (state_in c.before.args.state.now).servers)), turns-none))
+    (tie.spec
+    invariant-loop decreases-loop (λ c. (omega (arith, tally-start (is_served (state_in c.args.state.now).servers)), turns-none))
     (λ c κs. search rules) (λ c. search rules) (λ c. search rules) (λ c. search rules) (λ c κs. search rules) (λ c. search rules) (λ c. search rules)
     (λ c. search rules) (λ c. omega (arith, last c))
     (λ c.
-    let l = c.before.before.before in
-    let x = (state_in l.before.before.args.state.now).servers in
-    let read = c.before.server.ensures in
+    let l = c in
+    let x = (state_in l.args.state.now).servers in
+    let read = c.server-x.ensures in
     ⊎_elim
     (λ w.
-    let on : not (eqb (server x l.loop.s) 0) ≡ true = rw (← read, ne_eqb _ _ w.0.taken) refl in
-    let line : line_at x l.loop.s ≡ connection_text (connection_of l.loop.s c.before.server.result) = rw (on, read) refl in
-    (omega (arith, w.7, l.loop.invariant.0, tally-in (is_served x) l.loop.s on), rw (w.5, w.6) (turns_more l.loop.invariant.1 (last c) (rw (sym line) at w.2.ensures))))
+    let on : not (eqb (server x l.loop-left.s) 0) ≡ true = rw (← read, ne_eqb _ _ w.0.taken) refl in
+    let line : line_at x l.loop-left.s ≡ connection_text (connection_of l.loop-left.s c.server-x.result) = rw (on, read) refl in
+    (omega (arith, w.7, l.loop-left.invariant.0, tally-in (is_served x) l.loop-left.s on), rw (w.5, w.6) (turns_more l.loop-left.invariant.1 (last c) (rw (sym line) at w.2.ensures))))
     (λ w.
-    let off : not (eqb (server x l.loop.s) 0) ≡ false = rw (← read, eq-eqb _ _ w.0.left) refl in
-    (omega (arith, w.3, l.loop.invariant.0, tally-out (is_served x) l.loop.s off), rw (w.1, w.2) (turns-empty l.loop.invariant.1 (last c) (rw off refl))))
-    c.if1.branch)
-    (λ c. c.before.loop.invariant.1.same_length)
+    let off : not (eqb (server x l.loop-left.s) 0) ≡ false = rw (← read, eq-eqb _ _ w.0.left) refl in
+    (omega (arith, w.3, l.loop-left.invariant.0, tally-out (is_served x) l.loop-left.s off), rw (w.1, w.2) (turns-empty l.loop-left.invariant.1 (last c) (rw off refl))))
+    c.if-x-ne0.branch-raw)
+    (λ c. c.loop-left.invariant.1.same_length)
     (λ c.
-    let l = c.before in
-    let ws = l.before.before.args.state.now in
+    let l = c in
+    let ws = c.args.state.now in
     let x = (state_in ws).servers in
-    let all : tally 512 (is_served x) ≡ tally l.loop.s (is_served x) = omega (arith, l.loop.invariant.0, l.before.before.requires, count-is x (servers-length ws)) in
-    let same = all-written (is_served x) (line_at x) (silent x) l.loop.s 512 l.loop.invariant.1.up all in
-    rw (lines-in-turn (state_in ws) (servers-length ws), same) l.loop.invariant.1.written))
+    let all : tally 512 (is_served x) ≡ tally l.loop-left.s (is_served x) = omega (arith, l.loop-left.invariant.0, l.requires, count-is x (servers-length ws)) in
+    let same = all-written (is_served x) (line_at x) (silent x) l.loop-left.s 512 l.loop-left.invariant.1.up all in
+    rw (lines-in-turn (state_in ws) (servers-length ws), same) l.loop-left.invariant.1.written))

@@ -5,13 +5,14 @@ use Rattle.write_items.proofs.Laws.{then}
 use Rattle.write_report.proofs.write_count.Statement.{statement}
 use Rattle.write_report.proofs.write_count.Tie as tie
 
-pub write-count-spec : {M : Type 1} → statement M
+pub write_count_spec : {M : Type 1} → statement M
 unfolding count_text one_text
-write-count-spec =
+write_count_spec =
     tie.close
-    (tie.spec (λ c κs. search rules) (λ c κs. search rules) (λ c κs. search rules) (λ c. search rules)
+    (tie.spec
+    (λ c κs. search rules) (λ c κs. search rules) (λ c κs. search rules) (λ c. search rules)
     (λ c.
-    let end = c.before.before in
-    let number = end.before.before.before.before in
-    let key = number.before.before.before.before in
-    then key.write-key.ensures (then number.write-number.ensures end.write_byte.ensures)))
+    let end = c in
+    let number = c in
+    let key = c in
+    then key.write_key-at.ensures (then number.write_number-at.ensures end.write_byte.ensures)))

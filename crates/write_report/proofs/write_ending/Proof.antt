@@ -4,10 +4,10 @@ use borrow.Author.Rules.{rules}
 use Rattle.write_report.proofs.write_ending.Statement.{statement}
 use Rattle.write_report.proofs.write_ending.Tie as tie
 
-pub write-ending-spec : {M : Type 1} → statement M
+pub write_ending_spec : {M : Type 1} → statement M
 unfolding ending_part
-write-ending-spec =
+write_ending_spec =
     tie.close
-    (tie.spec (λ c. search rules) (λ c κs. search rules) (λ c. search rules) (λ c. search rules) (λ c. search rules) (λ c κs. search rules)
-    (λ c. search rules) (λ c. search rules)
-    (λ c. let port = c.before.before in next port.before.before.before.before.write-count.ensures port.write-port.ensures))
+    (tie.spec
+    (λ c κs. search rules) (λ c. search rules) (λ c. search rules) (λ c. search rules) (λ c κs. search rules) (λ c. search rules) (λ c. search rules)
+    (λ c. let port = c in next port.write_count-used.ensures port.write_port.ensures))

@@ -7,14 +7,14 @@ use Rattle.write_report.proofs.write_fault.Tie as tie
 returns : tie.Need-returns
 unfolding fault_text
 returns c =
-    let refused = c.before.before in
-    let line = refused.before.before.before.before.before in
-    let text = line.before.before.before.before.before in
-    next (next text.write-text.ensures line.write-count.ensures) refused.write-count2.ensures
+    let refused = c in
+    let line = c in
+    let text = c in
+    next (next text.write_text-used.ensures line.write_count-used.ensures) refused.write_count.ensures
 
-pub write-fault-spec : {M : Type 1} → statement M
-write-fault-spec =
+pub write_fault_spec : {M : Type 1} → statement M
+write_fault_spec =
     tie.close
-    (tie.spec (λ c κs. search rules) (λ c. search rules) (λ c. search rules) (λ c. search rules) (λ c. search rules) (λ c κs. search rules)
-    (λ c. search rules) (λ c. search rules) (λ c. search rules) (λ c. search rules) (λ c. search rules) (λ c κs. search rules)
-    (λ c. used-fits (returns c) (search rules)) (λ c. search rules) returns)
+    (tie.spec
+    (λ c κs. search rules) (λ c. search rules) (λ c. search rules) (λ c. search rules) (λ c κs. search rules) (λ c. search rules) (λ c. search rules)
+    (λ c. search rules) (λ c. search rules) (λ c κs. search rules) (λ c. used-fits (returns c) (search rules)) (λ c. search rules) returns)

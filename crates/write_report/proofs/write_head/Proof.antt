@@ -7,13 +7,13 @@ use Rattle.write_report.proofs.write_head.Tie as tie
 returns : tie.Need-returns
 unfolding head_part
 returns c =
-    let next-line = c.before.before in
-    let ending = next-line.before.before.before.before.before in
-    next (next ending.before.before.before.before.write-count.ensures ending.write-ending.ensures) next-line.write-count2.ensures
+    let next-line = c in
+    let ending = c in
+    next (next ending.write_count-used.ensures ending.write_ending-used.ensures) next-line.write_count.ensures
 
-pub write-head-spec : {M : Type 1} → statement M
-write-head-spec =
+pub write_head_spec : {M : Type 1} → statement M
+write_head_spec =
     tie.close
-    (tie.spec (λ c. search rules) (λ c κs. search rules) (λ c. search rules) (λ c. search rules) (λ c. search rules) (λ c κs. search rules)
-    (λ c. search rules) (λ c. search rules) (λ c. search rules) (λ c. search rules) (λ c. search rules) (λ c κs. search rules)
-    (λ c. used-fits (returns c) (search rules)) (λ c. search rules) returns)
+    (tie.spec
+    (λ c κs. search rules) (λ c. search rules) (λ c. search rules) (λ c. search rules) (λ c κs. search rules) (λ c. search rules) (λ c. search rules)
+    (λ c. search rules) (λ c. search rules) (λ c κs. search rules) (λ c. used-fits (returns c) (search rules)) (λ c. search rules) returns)

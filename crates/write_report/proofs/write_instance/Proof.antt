@@ -8,8 +8,9 @@ use Rattle.write_report.proofs.write_instance.Tie as tie
 returns : tie.Need-returns
 unfolding instance_text fields_part
 returns c =
-    let end = c.before.before in
-    then end.before.before.before.before.write-fields.ensures end.write_byte.ensures
+    let end = c in
+    then end.write_fields-at.ensures end.write_byte.ensures
 
-pub write-instance-spec : {M : Type 1} → statement M
-write-instance-spec = tie.close (tie.spec (λ c κs. search rules) (λ c κs. search rules) (λ c. length-written (returns c)) returns)
+pub write_instance_spec : {M : Type 1} → statement M
+write_instance_spec = tie.close (tie.spec
+    (λ c κs. search rules) (λ c κs. search rules) (λ c. length-written (returns c)) returns)

@@ -5,13 +5,14 @@ use borrow.Author.Rules.{rules}
 use Rattle.write_report.proofs.write_instances.Statement.{statement}
 use Rattle.write_report.proofs.write_instances.Tie as tie
 
-pub write-instances-spec : {M : Type 1} → statement M
+pub write_instances_spec : {M : Type 1} → statement M
 unfolding instances_part instances_text
-write-instances-spec =
+write_instances_spec =
     tie.close
-    (tie.spec (λ c. search rules) (λ c κs. search rules) (λ c κs. search rules) (λ c. search rules) (λ c. search rules) (λ c. search rules)
-    (λ c κs. search rules) (λ c. search rules) (λ c. search rules)
+    (tie.spec
+    (λ c κs. search rules) (λ c κs. search rules) (λ c. search rules) (λ c. search rules) (λ c. search rules) (λ c κs. search rules)
+    (λ c. search rules) (λ c. search rules)
     (λ c.
-    let lines = c.before.before in
-    let count = lines.before.before.before.before in
-    next (rw count.before.tally.ensures at count.write-count.ensures) lines.write-instance-lines.ensures))
+    let lines = c in
+    let count = c in
+    next (rw count.tally.ensures at count.write_count-used.ensures) lines.write_instance_lines.ensures))

@@ -3,11 +3,10 @@ use borrow.Author.Rules.{rules}
 use Rattle.write_report.proofs.write_port.Statement.{statement}
 use Rattle.write_report.proofs.write_port.Tie as tie
 
-pub write-port-spec : {M : Type 1} → statement M
+pub write_port_spec : {M : Type 1} → statement M
 unfolding port_text
-write-port-spec =
+write_port_spec =
     tie.close
-    (tie.spec (λ c. search rules) (λ c. search rules) (λ c κs. search rules) (λ c. search rules) (λ c. search rules) (λ c. search rules)
-    (λ c κs. search rules) (λ c. search rules)
-    (λ c. rw c.before.before.before.before.before.enum_told.given.1 c.before.before.write-key.ensures) (λ c. search rules)
-    (λ c. rw c.before.before.before.before.before.before.port.given.1 c.before.before.write-count.ensures))
+    (tie.spec
+    (λ c. search rules) (λ c κs. search rules) (λ c. search rules) (λ c. search rules) (λ c κs. search rules) (λ c. search rules)
+    (λ c. rw c.in-NoPort.is c.write_key.ensures) (λ c. search rules) (λ c. rw c.in-UsePort.is c.write_count.ensures))

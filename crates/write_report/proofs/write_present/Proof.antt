@@ -5,12 +5,13 @@ use borrow.Author.Rules.{rules}
 use Rattle.write_report.proofs.write_present.Statement.{statement}
 use Rattle.write_report.proofs.write_present.Tie as tie
 
-pub write-present-spec : {M : Type 1} → statement M
+pub write_present_spec : {M : Type 1} → statement M
 unfolding instance_at
-write-present-spec =
+write_present_spec =
     tie.close
-    (tie.spec (λ c κs. search rules) (λ c κs. search rules) (λ c. search rules)
+    (tie.spec
+    (λ c κs. search rules) (λ c κs. search rules) (λ c. search rules)
     (λ c.
-    let here = c.before.before.before.before in
-    line-there (sym here.before.present.ensures ∙ here.if1.true) c.before.before.write-instance.ensures)
-    (λ c. line-absent _ (sym c.before.present.ensures ∙ c.if1.false)))
+    let here = c in
+    line-there (sym here.present.ensures ∙ here.if-present.true) c.write_instance.ensures)
+    (λ c. line-absent _ (sym c.present.ensures ∙ c.if-present.false)))

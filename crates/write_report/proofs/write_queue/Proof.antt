@@ -11,36 +11,37 @@ use borrow.Author.Rules.{rules}
 use Rattle.write_report.proofs.write_queue.Statement.{statement}
 use Rattle.write_report.proofs.write_queue.Tie as tie
 
-abbrev invariant-loop : tie.invariant-loop
+abbrev invariant-loop : tie.invariant-loop-s
 invariant-loop t₀ at state i n p₀ s₀ t p s = (1 ≤ s) × (s ≤ n) × Written t₀ (further (slot (state_in state) i) s) t p₀ p
 
-abbrev decreases-loop : tie.decreases-loop
+abbrev decreases-loop : tie.decreases-loop-s
 decreases-loop t₀ at state i n p₀ s₀ t p s = n - s
 
-returns-2 : tie.Need-returns-2 invariant-loop decreases-loop
+returns-2 : tie.Need-returns invariant-loop decreases-loop
 unfolding queue_of
 returns-2 c =
-    let l = c.before in
-    let number = l.before.before.before in
-    let some = number.before.before.before in
-    let e : l.loop.s ≡ some.before.queued.result = omega arith in
-    rw (← some.before.queued.ensures, queue-some _ _ some.if1.false)
-    (then (rw number.before.slot.ensures at number.write-slot.ensures) (rw e at l.loop.invariant.2))
+    let l = c in
+    let number = c in
+    let some = c in
+    let e : l.loop-s.s ≡ some.queued-n.result = omega arith in
+    rw (← some.queued-n.ensures, queue-some _ _ some.if-n-eq0.false)
+    (then (rw number.slot.ensures at number.write_slot-p.ensures) (rw e at l.loop-s.invariant.2))
 
-pub write-queue-spec : {M : Type 1} → statement M
+pub write_queue_spec : {M : Type 1} → statement M
 unfolding queue_of
-write-queue-spec =
+write_queue_spec =
     tie.close
-    (tie.spec invariant-loop decreases-loop (λ c κs. search rules) (λ c κs. search rules) (λ c. search rules)
+    (tie.spec
+    invariant-loop decreases-loop (λ c κs. search rules) (λ c κs. search rules) (λ c. search rules)
     (λ c.
-    let empty = c.before.before.before.before in
-    rw (← empty.before.queued.ensures, queue-none _ _ empty.if1.true) c.before.before.write_byte.ensures)
-    (λ c κs. search rules) (λ c κs. search rules) (λ c. (omega arith, omega arith, rw (further-none _) (none _ _)))
-    (λ c κs. search rules) (λ c κs. search rules) (λ c κs. search rules) (λ c. search rules) (λ c. omega arith)
+    let empty = c in
+    rw (← empty.queued-n.ensures, queue-none _ _ empty.if-n-eq0.true) c.write_byte.ensures) (λ c κs. search rules)
+    (λ c κs. search rules) (λ c. (omega arith, omega arith, rw (further-none _) (none _ _))) (λ c κs. search rules) (λ c κs. search rules)
+    (λ c κs. search rules) (λ c. search rules) (λ c. omega arith)
     (λ c.
-    let number = c.before.before in
-    let plus = number.before.before.before.before.before in
-    let l = plus.before.before.before.loop in
-    let w = then l.invariant.2 (then plus.write-byte2.ensures (rw number.before.slot2.ensures at number.write-slot2.ensures)) in
+    let number = c in
+    let plus = c in
+    let l = c.loop-s in
+    let w = then l.invariant.2 (then plus.write_byte-p.ensures (rw number.slot-in-loop-s.ensures at number.write_slot-p-in-loop-s.ensures)) in
     (omega arith, omega arith, rw (further-turn _ _ l.invariant.0) w))
     (λ c. length-written (returns-2 c)) returns-2)

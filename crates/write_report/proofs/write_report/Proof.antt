@@ -6,15 +6,16 @@ use Rattle.write_report.proofs.write_report.Tie as tie
 
 returns : tie.Need-returns
 returns c =
-    let connections = c.before.before in
-    let instances = connections.before.before.before.before in
-    let head = instances.before.before.before.before in
+    let connections = c in
+    let instances = c in
+    let head = c in
     rw (← parts _)
-    (next (next (rw head.before.done.ensures at head.write-head.ensures) instances.write-instances.ensures) connections.write-connections.ensures)
+    (next (next (rw head.done.ensures at head.write_head-used.ensures) instances.write_instances-used.ensures) connections.write_connections.ensures)
 
-pub write-report-spec : {M : Type 1} → statement M
-write-report-spec =
+pub write_report_spec : {M : Type 1} → statement M
+write_report_spec =
     tie.close
-    (tie.spec (λ c κs. search rules) (λ c κs. search rules) (λ c. search rules) (λ c. search rules) (λ c. search rules) (λ c κs. search rules)
+    (tie.spec
+    (λ c κs. search rules) (λ c κs. search rules) (λ c. search rules) (λ c. search rules) (λ c. search rules) (λ c κs. search rules)
     (λ c. search rules) (λ c. search rules) (λ c. search rules) (λ c. search rules) (λ c κs. search rules) (λ c. used-fits (returns c) (search rules))
     (λ c. search rules) returns)

@@ -4,17 +4,19 @@ use borrow.Author.Rules.{rules}
 use Rattle.write_report.proofs.write_slot.Statement.{statement}
 use Rattle.write_report.proofs.write_slot.Tie as tie
 
-returns : tie.Need-returns
-returns c = rw (slot-plain _ c.if1.true) c.before.before.before.write-number.ensures
+returns : tie.Need-returns-then-s-lt8
+returns c = rw (slot-plain _ c.if-s-lt8.true) c.write_number-p.ensures
 
-returns-2 : tie.Need-returns-2
+returns-2 : tie.Need-returns
 returns-2 c =
-    let n = c.before.before in
-    let b = n.before.before.before.before in
-    let f = b.before.before in
-    rw (slot-pair _ f.if1.false) (then f.before.before.before.write-number.ensures (then b.write_byte.ensures n.write-number2.ensures))
+    let n = c in
+    let b = c in
+    let f = c in
+    rw (slot-pair _ f.if-s-lt8.false) (then f.write_number-p.ensures (then b.write_byte-q.ensures n.write_number.ensures))
 
-pub write-slot-spec : {M : Type 1} → statement M
-write-slot-spec =
+pub write_slot_spec : {M : Type 1} → statement M
+write_slot_spec =
     tie.close
-    (tie.spec (λ c. search rules) (λ c κs. search rules) (λ c. length-written (returns c)) returns (λ c κs. search rules) (λ c. search rules) (λ c. search rules) (λ c κs. search rules) (λ c. length-written (returns-2 c)) returns-2)
+    (tie.spec
+    (λ c. search rules) (λ c κs. search rules) (λ c. length-written (returns c)) returns (λ c κs. search rules) (λ c. search rules)
+    (λ c. search rules) (λ c κs. search rules) (λ c. length-written (returns-2 c)) returns-2)

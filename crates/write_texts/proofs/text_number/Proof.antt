@@ -3,9 +3,9 @@ use borrow.Author.Rules.{rules}
 use Rattle.write_texts.proofs.text_number.Statement.{statement}
 use Rattle.write_texts.proofs.text_number.Tie as tie
 
-pub text-number-spec : {M : Type 1} → statement M
-text-number-spec =
+pub text_number_spec : {M : Type 1} → statement M
+text_number_spec =
     tie.close
-    (tie.spec (λ c κs. search rules) (λ c. fault-number _ _ _ _ c.before.sheet-fault.ensures c.if1.true) (λ c κs. search rules)
-    (λ c κs. search rules)
-    (λ c. room-number _ _ _ _ _ _ c.before.before.before.sheet-fault.ensures c.before.before.if1.false c.before.text-length.ensures c.room-fault.ensures))
+    (tie.spec
+    (λ c κs. search rules) (λ c. fault-number _ _ _ _ c.sheet_fault-fault.ensures c.if-fault-ne0.true) (λ c κs. search rules) (λ c κs. search rules)
+    (λ c. room-number _ _ _ _ _ _ c.sheet_fault-fault.ensures c.if-fault-ne0.false c.text_length.ensures c.room_fault.ensures))

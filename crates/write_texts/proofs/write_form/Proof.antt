@@ -4,9 +4,9 @@ use borrow.Author.Rules.{rules}
 use Rattle.write_texts.proofs.write_form.Statement.{statement}
 use Rattle.write_texts.proofs.write_form.Tie as tie
 
-pub write-form-spec : {M : Type 1} → statement M
+pub write_form_spec : {M : Type 1} → statement M
 unfolding form_text
-write-form-spec =
+write_form_spec =
     tie.close
-    (tie.spec (λ c κs. search rules) (λ c κs. search rules) (λ c. search rules)
-    (λ c. in_cells c.before.before.before.before.before.before.write-text.ensures c.before.before.put-cells.ensures))
+    (tie.spec
+    (λ c κs. search rules) (λ c κs. search rules) (λ c. search rules) (λ c. in_cells c.write_text-written.ensures c.put_cells.ensures))

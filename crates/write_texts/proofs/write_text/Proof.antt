@@ -3,9 +3,9 @@ use borrow.Author.Rules.{rules}
 use Rattle.write_texts.proofs.write_text.Statement.{statement}
 use Rattle.write_texts.proofs.write_text.Tie as tie
 
-pub write-text-spec : {M : Type 1} → statement M
-write-text-spec =
+pub write_text_spec : {M : Type 1} → statement M
+write_text_spec =
     tie.close
-    (tie.spec (λ c κs. search rules) (λ c. refused_all _ _ _ _ c.before.text-number.ensures c.if1.true) (λ c κs. search rules)
-    (λ c. search rules)
-    (λ c. written_all _ _ _ _ c.before.before.before.before.before.text-number.ensures c.before.before.before.before.if1.false c.before.before.put-text.ensures))
+    (tie.spec
+    (λ c κs. search rules) (λ c. refused_all _ _ _ _ c.text_number-refused.ensures c.if-refused-ne0.true) (λ c κs. search rules) (λ c. search rules)
+    (λ c. written_all _ _ _ _ c.text_number-refused.ensures c.if-refused-ne0.false c.put_text-bytes.ensures))

@@ -9,19 +9,19 @@ use borrow.Author.Rules.{rules}
 use Rattle.write_verbs.proofs.do_verb.Statement.{statement}
 use Rattle.write_verbs.proofs.do_verb.Tie as tie
 
-pub do-verb-spec : {M : Type 1} → statement M
+pub do_verb_spec : {M : Type 1} → statement M
 unfolding do_text do_fault numbers_text numbers_ok
-do-verb-spec =
+do_verb_spec =
     tie.close
     (tie.spec
-    (λ c. rw c.before.before.match.keys1 (record { short = omega arith; text-is = λ a b c d. refl; fault-is = λ a b c d. rw (below a 31) }))
-    (λ c. rw c.before.before.match.keys2 (record { short = omega arith; text-is = λ a b c d. refl; fault-is = λ a b c d. rw (below a 31) }))
-    (λ c. rw c.before.before.match.keys3 (record { short = omega arith; text-is = λ a b c d. refl; fault-is = λ a b c d. rw (below a 31, below b 7) }))
-    (λ c. rw c.before.before.match.keys4 (record { short = omega arith; text-is = λ a b c d. refl; fault-is = λ a b c d. rw (below a 31, below b 15, below c 31, below d 15) }))
-    (λ c. rw c.before.before.match.keys5 (record { short = omega arith; text-is = λ a b c d. refl; fault-is = λ a b c d. rw (below a 31, below b 15, below c 31, below d 15) }))
-    (λ c. rw c.before.before.match.keys6 (record { short = omega arith; text-is = λ a b c d. refl; fault-is = λ a b c d. rw (below a 31) }))
-    (λ c. rw c.before.before.match.keys7 (record { short = omega arith; text-is = λ a b c d. refl; fault-is = λ a b c d. rw (below a 31, below b 7, below c 255) }))
-    (λ c. rw c.before.before.match.keys8 (record { short = omega arith; text-is = λ a b c d. refl; fault-is = λ a b c d. rw (below a 31, below b 255) }))
+    (λ c. rw c.in-0.is (record { short = omega arith; text-is = λ a b c d. refl; fault-is = λ a b c d. rw (below a 31) }))
+    (λ c. rw c.in-1.is (record { short = omega arith; text-is = λ a b c d. refl; fault-is = λ a b c d. rw (below a 31) }))
+    (λ c. rw c.in-2.is (record { short = omega arith; text-is = λ a b c d. refl; fault-is = λ a b c d. rw (below a 31, below b 7) }))
+    (λ c. rw c.in-3.is (record { short = omega arith; text-is = λ a b c d. refl; fault-is = λ a b c d. rw (below a 31, below b 15, below c 31, below d 15) }))
+    (λ c. rw c.in-4.is (record { short = omega arith; text-is = λ a b c d. refl; fault-is = λ a b c d. rw (below a 31, below b 15, below c 31, below d 15) }))
+    (λ c. rw c.in-5.is (record { short = omega arith; text-is = λ a b c d. refl; fault-is = λ a b c d. rw (below a 31) }))
+    (λ c. rw c.in-6.is (record { short = omega arith; text-is = λ a b c d. refl; fault-is = λ a b c d. rw (below a 31, below b 7, below c 255) }))
+    (λ c. rw c.in-7.is (record { short = omega arith; text-is = λ a b c d. refl; fault-is = λ a b c d. rw (below a 31, below b 255) }))
     (λ c.
-    let r = c.before.before.match.rest in
+    let r = c.in_default.rest in
     rw (ne_eqb _ _ r.0.0.0.0.0.0.0.1, ne_eqb _ _ r.0.0.0.0.0.0.1, ne_eqb _ _ r.0.0.0.0.0.1, ne_eqb _ _ r.0.0.0.0.1, ne_eqb _ _ r.0.0.0.1, ne_eqb _ _ r.0.0.1, ne_eqb _ _ r.0.1, ne_eqb _ _ r.1) (record { short = omega arith; text-is = λ a b c d. refl; fault-is = λ a b c d. refl })))

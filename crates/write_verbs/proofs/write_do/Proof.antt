@@ -2,8 +2,9 @@ use borrow.Author.Rules.{rules}
 use Rattle.write_verbs.proofs.write_do.Statement.{statement}
 use Rattle.write_verbs.proofs.write_do.Tie as tie
 
-pub write-do-spec : {M : Type 1} → statement M
-write-do-spec =
+pub write_do_spec : {M : Type 1} → statement M
+write_do_spec =
     tie.close
-    (tie.spec (λ c κs. search rules) (λ c κs. c.before.do-verb.ensures.short) (λ c. search rules)
-    (λ c. rw (c.before.before.before.before.do-verb.ensures.text-is _ _ _ _) at c.before.before.write-verb.ensures))
+    (tie.spec
+    (λ c κs. search rules) (λ c κs. c.do_verb-verb.ensures.short) (λ c. search rules)
+    (λ c. rw (c.do_verb-verb.ensures.text-is _ _ _ _) at c.write_verb.ensures))

@@ -2,5 +2,7 @@ use borrow.Author.Rules.{rules}
 use Rattle.aeolus_read_sheet.proofs.types.mark_provided.Statement.{statement}
 use Rattle.aeolus_read_sheet.proofs.types.mark_provided.Tie as tie
 
-pub mark-provided-spec : {M : Type 1} → statement M
-mark-provided-spec = tie.close (tie.spec (λ c κs. search rules) (λ c κs. search rules) (λ c κs. search rules) (λ c. rw (c.put-provides.ensures, c.before.with.ensures, c.before.before.before.provides-of.ensures)))
+pub mark_provided_spec : {M : Type 1} → statement M
+mark_provided_spec = tie.close (tie.spec
+    (λ c κs. search rules) (λ c κs. search rules) (λ c κs. search rules)
+    (λ c. rw (c.put_provides.ensures, c.with.ensures, c.provides_of-provided.ensures)))

@@ -5,9 +5,10 @@ use borrow.Author.Rules.{rules}
 use Rattle.aeolus_read_sheet.proofs.types.then_state.Statement.{statement}
 use Rattle.aeolus_read_sheet.proofs.types.then_state.Tie as tie
 
-pub then-state-spec : {M : Type 1} → statement M
+pub then_state_spec : {M : Type 1} → statement M
 unfolding state_at to_at rows_at row_at line_at
-then-state-spec =
+then_state_spec =
     tie.close
-    (tie.spec (λ c. search rules) (λ c κs. search rules) (λ c κs. search rules) (λ c. search rules) (λ c κs. search rules) (λ c κs. search rules)
-    (λ c. after_then _ _ c.before.before.before.before.before.before.then-due.ensures (after_then _ _ c.before.before.before.before.then-line.ensures (after_then _ _ c.before.before.then-within.ensures.0 c.then_lines.ensures))))
+    (tie.spec
+    (λ c κs. search rules) (λ c κs. search rules) (λ c κs. search rules) (λ c κs. search rules)
+    (λ c. after_then _ _ c.then_due-due.ensures (after_then _ _ c.then_line-to.ensures (after_then _ _ c.then_within-active.ensures.0 c.then_lines.ensures))))

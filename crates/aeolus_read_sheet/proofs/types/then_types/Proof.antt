@@ -10,22 +10,21 @@ use borrow.Author.Rules.{rules}
 use Rattle.aeolus_read_sheet.proofs.types.then_types.Statement.{statement}
 use Rattle.aeolus_read_sheet.proofs.types.then_types.Tie as tie
 
-abbrev invariant-loop : tie.invariant-loop
+abbrev invariant-loop : tie.invariant-loop-k
 invariant-loop text universe₀ most read₀ i₀ universe read i = Turns type_at most 0 (universe_in universe₀) text read₀ i read (universe_in universe)
 
-abbrev decreases-loop : tie.decreases-loop
+abbrev decreases-loop : tie.decreases-loop-k
 decreases-loop text universe₀ most read₀ i₀ universe read i = most - i
 
-fewer : (c : tie.After-then-type invariant-loop decreases-loop) → c.before.before.before.before.loop.k < c.before.before.before.before.before.before.before.args.count.number
+fewer : (c : tie.After-then_type-read invariant-loop decreases-loop) → c.loop-k.k < c.args.count.number
 fewer c =
-    below c.before.before.before.before.loop.k c.before.before.before.before.before.before.before.args.count.number c.before.before.before.goes_on.result c.before.before.if1.true
+    below c.loop-k.k c.args.count.number c.goes_on.result c.loop-k-test.true
 
-pub then-types-spec : {M : Type 1} → statement M
-then-types-spec =
+pub then_types_spec : {M : Type 1} → statement M
+then_types_spec =
     tie.close
     (tie.spec
-    invariant-loop decreases-loop
-    (λ c κs. search rules) (λ c. no-turn _ _ _ _ c.then-nothing.ensures) (λ c κs. search rules) (λ c κs. search rules)
-    (λ c. omega (arith, fewer c)) (λ c. omega (arith, fewer c))
-    (λ c. one-turn _ _ _ _ c.before.before.before.before.loop.invariant (fewer c) _ (sym (zero-add _)) c.then-type.ensures)
-    (λ c. turns-over _ _ _ _ c.before.before.before.then-nothing.ensures c.before.before.loop.invariant _ c.before.goes_on.ensures c.if1.false))
+    invariant-loop decreases-loop (λ c κs. search rules) (λ c. no-turn _ _ _ _ c.then_nothing-read.ensures) (λ c κs. search rules)
+    (λ c κs. search rules) (λ c. omega (arith, fewer c)) (λ c. omega (arith, fewer c))
+    (λ c. one-turn _ _ _ _ c.loop-k.invariant (fewer c) _ (sym (zero-add _)) c.then_type-read.ensures)
+    (λ c. turns-over _ _ _ _ c.then_nothing-read.ensures c.loop-k.invariant _ c.goes_on.ensures c.loop-k-test.false))

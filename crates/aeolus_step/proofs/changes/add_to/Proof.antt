@@ -7,7 +7,8 @@ use Rattle.aeolus_step.proofs.changes.add_to.Tie as tie
 
 returns : tie.Need-returns
 unfolding added with_present with_kind with_state
-returns c = c.put-state.ensures ∙ rw (c.before.before.put-kind.ensures, c.before.before.before.before.put-present.ensures, c.before.before.before.before.before.before.with.ensures, c.before.before.before.before.before.before.before.present.ensures, c.before.before.before.before.before.before.before.before.before.initial-of.ensures)
+returns c = c.put_state.ensures ∙ rw (c.put_kind.ensures, c.put_present.ensures, c.with-here.ensures, c.present.ensures, c.initial_of-first.ensures)
 
 pub add_to_spec : {M : Type 1} → statement M
-add_to_spec = tie.close (tie.spec (λ c κs. search rules) (λ c κs. search rules) (λ c κs. search rules) (λ c κs. search rules) (λ c κs. search rules) (λ c κs. search rules) returns)
+add_to_spec = tie.close (tie.spec
+    (λ c κs. search rules) (λ c κs. search rules) (λ c κs. search rules) (λ c κs. search rules) (λ c κs. search rules) (λ c κs. search rules) returns)

@@ -7,7 +7,8 @@ use Rattle.aeolus_step.proofs.changes.bind_to.Tie as tie
 
 returns : tie.Need-returns
 unfolding joined rebound with_bound
-returns c = c.put-bound.ensures ∙ rw (c.before.before.with.ensures, c.before.before.before.bound-row.ensures, c.before.before.before.before.before.row_of.ensures)
+returns c = c.put_bound.ensures ∙ rw (c.with-m.ensures, c.bound_row.ensures, c.row_of-n.ensures)
 
-pub bind-to-spec : {M : Type 1} → statement M
-bind-to-spec = tie.close (tie.spec (λ c κs. search rules) (λ c κs. search rules) (λ c κs. search rules) (λ c κs. search rules) returns)
+pub bind_to_spec : {M : Type 1} → statement M
+bind_to_spec = tie.close (tie.spec
+    (λ c κs. search rules) (λ c κs. search rules) (λ c κs. search rules) (λ c κs. search rules) returns)

@@ -7,12 +7,11 @@ use borrow.Author.Rules.{rules}
 use Rattle.aeolus_step.proofs.changes.carry_out.Statement.{statement}
 use Rattle.aeolus_step.proofs.changes.carry_out.Tie as tie
 
-pub carry-out-spec : {M : Type 1} → statement M
+pub carry_out_spec : {M : Type 1} → statement M
 unfolding action_of effect changed with_state
-carry-out-spec =
-    tie.close (tie.spec (λ c κs. search rules) (λ c κs. search rules) (λ c κs. search rules) (λ c κs. search rules) (λ c κs. search rules)
-    (λ c. rw c.before.before.match.keys1 c.add-to.ensures)
-    (λ c. rw c.before.before.match.keys2 c.delete-to.ensures)
-    (λ c. rw c.before.before.match.keys3 c.put-state.ensures)
-    (λ c. rw c.before.before.match.keys4 c.bind_to.ensures)
-    (λ c. let r = c.before.before.match.rest in rw (ne_eqb _ _ r.0.0.0.1, ne_eqb _ _ r.0.0.1, ne_eqb _ _ r.0.1, ne_eqb _ _ r.1) c.unbind-to.ensures))
+carry_out_spec =
+    tie.close (tie.spec
+    (λ c κs. search rules) (λ c κs. search rules) (λ c κs. search rules) (λ c κs. search rules) (λ c κs. search rules)
+    (λ c. rw c.in-0.is c.add_to.ensures) (λ c. rw c.in-1.is c.delete_to.ensures) (λ c. rw c.in-2.is c.put_state.ensures)
+    (λ c. rw c.in-3.is c.bind_to.ensures)
+    (λ c. let r = c.in_default.rest in rw (ne_eqb _ _ r.0.0.0.1, ne_eqb _ _ r.0.0.1, ne_eqb _ _ r.0.1, ne_eqb _ _ r.1) c.unbind_to.ensures))

@@ -8,7 +8,9 @@ use Rattle.aeolus_step.proofs.changes.delete_to.Tie as tie
 
 returns : tie.Need-returns
 unfolding deleted with_rows with_present with_kind with_state
-returns c = c.free-rows.ensures ∙ rw (c.before.before.put-state.ensures, c.before.before.before.before.put-kind.ensures, c.before.before.before.before.before.before.put-present.ensures, c.before.before.before.before.before.before.before.before.without.ensures, c.before.before.before.before.before.before.before.before.before.only.ensures, c.before.before.before.before.before.before.before.before.before.before.present.ensures)
+returns c = c.free_rows.ensures ∙ rw (c.put_state.ensures, c.put_kind.ensures, c.put_present.ensures, c.without-here.ensures, c.only.ensures, c.present.ensures)
 
-pub delete-to-spec : {M : Type 1} → statement M
-delete-to-spec = tie.close (tie.spec (λ c κs. search rules) (λ c κs. search rules) (λ c κs. search rules) (λ c κs. search rules) (λ c κs. search rules) (λ c κs. search rules) (λ c κs. search rules) returns)
+pub delete_to_spec : {M : Type 1} → statement M
+delete_to_spec = tie.close (tie.spec
+    (λ c κs. search rules) (λ c κs. search rules) (λ c κs. search rules) (λ c κs. search rules) (λ c κs. search rules) (λ c κs. search rules)
+    (λ c κs. search rules) returns)

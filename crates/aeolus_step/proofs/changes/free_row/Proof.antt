@@ -7,7 +7,8 @@ use Rattle.aeolus_step.proofs.changes.free_row.Tie as tie
 
 returns : tie.Need-returns
 unfolding with_bound with_rows
-returns c = c.put-bound.ensures ∙ rw (c.before.before.left-of.ensures, c.before.before.before.bound-row.ensures)
+returns c = c.put_bound.ensures ∙ rw (c.left_of-m.ensures, c.bound_row.ensures)
 
-pub free-row-spec : {M : Type 1} → statement M
-free-row-spec = tie.close (tie.spec (λ c κs. search rules) (λ c κs. search rules) (λ c κs. search rules) returns)
+pub free_row_spec : {M : Type 1} → statement M
+free_row_spec = tie.close (tie.spec
+    (λ c κs. search rules) (λ c κs. search rules) (λ c κs. search rules) returns)

@@ -8,7 +8,8 @@ use Rattle.aeolus_step.proofs.changes.unbind_to.Tie as tie
 
 returns : tie.Need-returns
 unfolding parted rebound with_bound
-returns c = c.put-bound.ensures ∙ rw (c.before.before.without.ensures, c.before.before.before.only.ensures, c.before.before.before.before.bound-row.ensures, c.before.before.before.before.before.before.row_of.ensures)
+returns c = c.put_bound.ensures ∙ rw (c.without-m.ensures, c.only.ensures, c.bound_row.ensures, c.row_of-n.ensures)
 
-pub unbind-to-spec : {M : Type 1} → statement M
-unbind-to-spec = tie.close (tie.spec (λ c κs. search rules) (λ c κs. search rules) (λ c κs. search rules) (λ c κs. search rules) (λ c κs. search rules) returns)
+pub unbind_to_spec : {M : Type 1} → statement M
+unbind_to_spec = tie.close (tie.spec
+    (λ c κs. search rules) (λ c κs. search rules) (λ c κs. search rules) (λ c κs. search rules) (λ c κs. search rules) returns)

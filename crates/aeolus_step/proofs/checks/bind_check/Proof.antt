@@ -3,12 +3,14 @@ use borrow.Author.Rules.{rules}
 use Rattle.aeolus_step.proofs.checks.bind_check.Statement.{statement}
 use Rattle.aeolus_step.proofs.checks.bind_check.Tie as tie
 
-pub bind-check-spec : {M : Type 1} → statement M
+pub bind_check_spec : {M : Type 1} → statement M
 unfolding bind_check
-bind-check-spec =
-    tie.close (tie.spec (λ c κs. search rules) (λ c κs. search rules) (λ c κs. search rules) (λ c κs. search rules) (λ c κs. search rules) (λ c κs. search rules)
+bind_check_spec =
+    tie.close (tie.spec
     (λ c κs. search rules) (λ c κs. search rules) (λ c κs. search rules) (λ c κs. search rules) (λ c κs. search rules) (λ c κs. search rules)
-    (λ c κs. search rules) (λ c κs. search rules) (λ c. let d = c.before.before.before.before.before.before in
-    let k = d.before.before.before in
-    rw (← k.before.before.before.before.is-deployed.ensures, ← k.before.before.before.is-deployed2.ensures, ← k.before.before.kind-of.ensures, ← k.before.may-require.ensures, ← k.kind-of2.ensures, ← d.before.before.may-provide.ensures, ← d.before.is_bound.ensures, ← d.bindings.ensures, ← c.before.before.before.before.before.refuse-if.ensures, ← c.before.before.before.before.refuse-if2.ensures, ← c.before.before.before.refuse-if3.ensures, ← c.before.before.refuse-if4.ensures, ← c.before.refuse-if5.ensures)
-    c.refuse-if6.ensures))
+    (λ c κs. search rules) (λ c κs. search rules) (λ c κs. search rules) (λ c κs. search rules) (λ c κs. search rules) (λ c κs. search rules)
+    (λ c κs. search rules) (λ c κs. search rules)
+    (λ c. let d = c in
+    let k = c in
+    rw (← k.is_deployed-requirer.ensures, ← k.is_deployed-provider.ensures, ← k.kind_of.ensures, ← k.may_require-asks.ensures, ← k.kind_of-2.ensures, ← d.may_provide-offers.ensures, ← d.is_bound-stands.ensures, ← d.bindings-room.ensures, ← c.refuse_if.ensures, ← c.refuse_if-late.ensures, ← c.refuse_if-2.ensures, ← c.refuse_if-ports.ensures, ← c.refuse_if-3.ensures)
+    c.refuse_if-4.ensures))

@@ -8,13 +8,12 @@ use borrow.Author.Rules.{rules}
 use Rattle.aeolus_step.proofs.checks.own_check.Statement.{statement}
 use Rattle.aeolus_step.proofs.checks.own_check.Tie as tie
 
-pub own-check-spec : {M : Type 1} → statement M
+pub own_check_spec : {M : Type 1} → statement M
 unfolding action_of check new_check del_check unbind_check
-own-check-spec =
-    tie.close (tie.spec (λ c κs. search rules) (λ c κs. search rules) (λ c κs. search rules) (λ c κs. search rules) (λ c κs. search rules) (λ c κs. search rules)
-    (λ c κs. search rules) (λ c κs. search rules)
-    (λ c. rw (c.before.before.match.keys1, ← c.before.is-deployed.ensures) c.refuse-if.ensures)
-    (λ c. rw (c.before.before.match.keys2, ← c.before.is-deployed2.ensures) c.refuse-if2.ensures)
-    (λ c. rw c.before.match.keys3 c.change-check.ensures)
-    (λ c. rw c.before.match.keys4 c.bind-check.ensures)
-    (λ c. let r = c.before.before.match.rest in rw (ne_eqb _ _ r.0.0.0.1, ne_eqb _ _ r.0.0.1, ne_eqb _ _ r.0.1, ne_eqb _ _ r.1, ← c.before.is_bound.ensures) c.refuse-if3.ensures))
+own_check_spec =
+    tie.close (tie.spec
+    (λ c κs. search rules) (λ c κs. search rules) (λ c κs. search rules) (λ c κs. search rules) (λ c κs. search rules) (λ c κs. search rules)
+    (λ c κs. search rules) (λ c κs. search rules) (λ c. rw (c.in-0.is, ← c.is_deployed.ensures) c.refuse_if.ensures)
+    (λ c. rw (c.in-1.is, ← c.is_deployed-in-1.ensures) c.refuse_if-in-1.ensures) (λ c. rw c.in-2.is c.change_check.ensures)
+    (λ c. rw c.in-3.is c.bind_check.ensures)
+    (λ c. let r = c.in_default.rest in rw (ne_eqb _ _ r.0.0.0.1, ne_eqb _ _ r.0.0.1, ne_eqb _ _ r.0.1, ne_eqb _ _ r.1, ← c.is_bound-stands.ensures) c.refuse_if-in_default.ensures))

@@ -3,5 +3,6 @@ use borrow.Author.Rules.{rules}
 use Rattle.aeolus_step.proofs.checks.size_of.Statement.{statement}
 use Rattle.aeolus_step.proofs.checks.size_of.Tie as tie
 
-pub size-of-spec : {M : Type 1} → statement M
-size-of-spec = tie.close (tie.spec (λ c. ones-size 32 _ c.ranges.m.fits))
+pub size_of_spec : {M : Type 1} → statement M
+size_of_spec = tie.close (tie.spec
+    (λ c. ones-size 32 _ c.ranges.m.fits))

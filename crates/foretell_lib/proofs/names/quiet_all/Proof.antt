@@ -9,21 +9,20 @@ use Rattle.foretell_lib.proofs.Kept.{quiet-start, quiet-more}
 use Rattle.foretell_lib.proofs.names.quiet_all.Statement.{statement}
 use Rattle.foretell_lib.proofs.names.quiet_all.Tie as tie
 
-abbrev invariant-loop : tie.invariant-loop
+abbrev invariant-loop : tie.invariant-loop-i
 invariant-loop state₀ i₀ state i = (i ≤ 32) × (state_in state ≡ quiet_below i (state_in state₀))
 
-abbrev decreases-loop : tie.decreases-loop
+abbrev decreases-loop : tie.decreases-loop-i
 decreases-loop state₀ i₀ state i = 32 - i
 
-loop-again : tie.Need-loop-preserved invariant-loop decreases-loop
+loop-again : tie.Need-loop-i-preserved invariant-loop decreases-loop
 loop-again c =
-    let k = c.before.before in
-    let h = k.before.before in
-    let l = h.before.before.before.loop in
-    (search rules, c.put-bare.ensures ∙ rw (k.kind.ensures, h.present.ensures) (quiet-more _ (state_in l.state) l.i l.invariant.1))
+    let k = c in
+    let h = c in
+    let l = c.loop-i in
+    (search rules, c.put_bare.ensures ∙ rw (k.kind-k.ensures, h.present-here.ensures) (quiet-more _ (state_in l.state) l.i l.invariant.1))
 
-pub quiet-all-spec : {M : Type 1} → statement M
-quiet-all-spec = tie.close (tie.spec invariant-loop decreases-loop
-    (λ c. (search rules, quiet-start _)) (λ c κs. search rules) (λ c κs. search rules) (λ c κs. search rules) (λ c. search rules) (λ c. search rules)
-    loop-again
-    (λ c. let e : c.before.loop.i ≡ 32 = omega arith in rw e at c.before.loop.invariant.1))
+pub quiet_all_spec : {M : Type 1} → statement M
+quiet_all_spec = tie.close (tie.spec
+    invariant-loop decreases-loop (λ c. (search rules, quiet-start _)) (λ c κs. search rules) (λ c κs. search rules) (λ c κs. search rules)
+    (λ c. search rules) (λ c. search rules) loop-again (λ c. let e : c.loop-i.i ≡ 32 = omega arith in rw e at c.loop-i.invariant.1))

@@ -5,7 +5,8 @@ use Rattle.hall_lawful.proofs.types.behavior_lawful.Tie as tie
 
 returns : tie.Need-returns
 unfolding behavior_lawful
-returns c = rw (← c.before.before.transitions-of.ensures, ← c.before.behavior-of.ensures) c.mask-ok.ensures
+returns c = rw (← c.transitions_of.ensures, ← c.behavior_of.ensures) c.mask_ok.ensures
 
-pub behavior-lawful-spec : {M : Type 1} → statement M
-behavior-lawful-spec = tie.close (tie.spec (λ c κs. search rules) (λ c κs. search rules) (λ c κs. search rules) returns)
+pub behavior_lawful_spec : {M : Type 1} → statement M
+behavior_lawful_spec = tie.close (tie.spec
+    (λ c κs. search rules) (λ c κs. search rules) (λ c κs. search rules) returns)

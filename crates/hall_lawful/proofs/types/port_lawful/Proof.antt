@@ -3,7 +3,9 @@ use borrow.Author.Rules.{rules}
 use Rattle.hall_lawful.proofs.types.port_lawful.Statement.{statement}
 use Rattle.hall_lawful.proofs.types.port_lawful.Tie as tie
 
-pub port-lawful-spec : {M : Type 1} → statement M
+pub port_lawful_spec : {M : Type 1} → statement M
 unfolding port_lawful
-port-lawful-spec = tie.close (tie.spec (λ c κs. search rules) (λ c κs. search rules) (λ c κs. search rules) (λ c κs. search rules) (λ c κs. search rules) (λ c κs. search rules) (λ c κs. search rules) (λ c κs. search rules) (λ c κs. search rules)
-    (λ c. rw (← c.before.before.before.before.before.before.before.before.port-kind.ensures, ← c.before.before.before.before.before.before.before.group-places.ensures, ← c.before.before.before.before.before.before.group-transitions.ensures, ← c.before.before.before.before.before.initial-of.ensures, ← c.before.before.before.before.overlaps.ensures, ← c.before.before.before.places_of.ensures, ← c.before.before.mask-ok.ensures, ← c.before.transitions-of.ensures, ← c.mask-ok2.ensures)))
+port_lawful_spec = tie.close (tie.spec
+    (λ c κs. search rules) (λ c κs. search rules) (λ c κs. search rules) (λ c κs. search rules) (λ c κs. search rules) (λ c κs. search rules)
+    (λ c κs. search rules) (λ c κs. search rules) (λ c κs. search rules)
+    (λ c. rw (← c.port_kind-kind.ensures, ← c.group_places-group.ensures, ← c.group_transitions-held.ensures, ← c.initial_of.ensures, ← c.overlaps-apart.ensures, ← c.places_of.ensures, ← c.mask_ok-places.ensures, ← c.transitions_of.ensures, ← c.mask_ok.ensures)))

@@ -5,7 +5,8 @@ use Rattle.hall_lawful.proofs.types.transition_lawful.Tie as tie
 
 returns : tie.Need-returns
 unfolding transition_lawful
-returns c = rw (← c.before.before.source.ensures, ← c.before.destination.ensures, ← c.places_of.ensures)
+returns c = rw (← c.source-from.ensures, ← c.destination-to.ensures, ← c.places_of-n.ensures)
 
-pub transition-lawful-spec : {M : Type 1} → statement M
-transition-lawful-spec = tie.close (tie.spec (λ c κs. search rules) (λ c κs. search rules) (λ c κs. search rules) returns)
+pub transition_lawful_spec : {M : Type 1} → statement M
+transition_lawful_spec = tie.close (tie.spec
+    (λ c κs. search rules) (λ c κs. search rules) (λ c κs. search rules) returns)

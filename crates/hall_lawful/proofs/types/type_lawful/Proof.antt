@@ -13,19 +13,21 @@ use Rattle.hall_lawful.proofs.types.type_lawful.Tie as tie
 returns : tie.Need-returns
 unfolding type_lawful part_lawful
 returns c =
-    let b = c.before.before in
-    let x = b.before.before in
-    let m = x.before.before in
-    let s = m.before.before.before.args in
+    let b = c in
+    let x = c in
+    let m = c in
+    let s = c.args in
     let t = tables_in s.tables.now in
-    let places = m.before.before.places_of.result in
-    let initial = m.before.initial-of.result in
-    let xs = x.before.transitions-of.result in
-    let bs = b.before.behaviors-of.result in
-    let qs = c.before.ports-of.result in
-    rw (← m.before.before.places_of.ensures, ← m.before.initial-of.ensures, ← x.before.transitions-of.ensures, ← b.before.behaviors-of.ensures, ← c.before.ports-of.ensures, m.mask-ok.ensures)
+    let places = c.places_of-places.result in
+    let initial = c.initial_of-initial.result in
+    let xs = c.transitions_of.result in
+    let bs = c.behaviors_of.result in
+    let qs = c.ports_of.result in
+    rw (← m.places_of-places.ensures, ← m.initial_of-initial.ensures, ← x.transitions_of.ensures, ← b.behaviors_of.ensures, ← c.ports_of.ensures, m.mask_ok-within.ensures)
     (joined (places_ok places) (mask_ok places initial) (initial_ok initial) (leb xs 32) (all_below xs (transition_lawful t s.k)) (leb bs 8) (all_below bs (behavior_lawful t s.k)) (leb qs 16) (all_below qs (port_lawful t s.k))
-    x.parts-lawful.result b.parts-lawful2.result c.parts-lawful3.result x.parts-lawful.ensures b.parts-lawful2.ensures c.parts-lawful3.ensures)
+    x.parts_lawful-transitions.result b.parts_lawful-behaviors.result c.parts_lawful-ports.result x.parts_lawful-transitions.ensures b.parts_lawful-behaviors.ensures c.parts_lawful-ports.ensures)
 
-pub type-lawful-spec : {M : Type 1} → statement M
-type-lawful-spec = tie.close (tie.spec (λ c κs. search rules) (λ c κs. search rules) (λ c κs. search rules) (λ c κs. search rules) (λ c κs. search rules) (λ c κs. search rules) (λ c κs. search rules) (λ c κs. search rules) (λ c κs. search rules) returns)
+pub type_lawful_spec : {M : Type 1} → statement M
+type_lawful_spec = tie.close (tie.spec
+    (λ c κs. search rules) (λ c κs. search rules) (λ c κs. search rules) (λ c κs. search rules) (λ c κs. search rules) (λ c κs. search rules)
+    (λ c κs. search rules) (λ c κs. search rules) (λ c κs. search rules) returns)

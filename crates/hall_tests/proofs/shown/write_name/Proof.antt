@@ -4,11 +4,11 @@ use borrow.Author.Rules.{rules}
 use Rattle.hall_tests.proofs.shown.write_name.Statement.{statement}
 use Rattle.hall_tests.proofs.shown.write_name.Tie as tie
 
-slice-aggregate-write-key : tie.Need-slice-aggregate-write-key
-slice-aggregate-write-key c = sym (length-take-le _ _ c.before.before.if1.false)
+slice-aggregate-write-key : tie.Need-slice_bounds-write_key-end
+slice-aggregate-write-key c = sym (length-take-le _ _ c.if-name-size.false)
 
-pub write-name-spec : {M : Type 1} → statement M
-write-name-spec =
+pub write_name_spec : {M : Type 1} → statement M
+write_name_spec =
     tie.close
     (tie.spec
     (λ c κs. search rules) (λ c. search rules) (λ c. search rules) slice-aggregate-write-key (λ c κs. search rules) (λ c. search rules)

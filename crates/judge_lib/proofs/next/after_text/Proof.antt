@@ -6,8 +6,9 @@ use Rattle.judge_lib.proofs.next.after_text.Tie as tie
 returns : tie.Need-returns
 unfolding after_fault
 returns c =
-    let a = c.before.before.args in
-    λ i. record { refused = a.n; accepted = 0; text = a.x; line = (c.after-fault.ensures i).line; used = 0 }
+    let a = c.args in
+    λ i. record { refused = a.n; accepted = 0; text = a.x; line = (c.after_fault-verdict.ensures i).line; used = 0 }
 
-pub after-text-spec : {M : Type 1} → statement M
-after-text-spec = tie.close (tie.spec (λ c κs. search rules) returns)
+pub after_text_spec : {M : Type 1} → statement M
+after_text_spec = tie.close (tie.spec
+    (λ c κs. search rules) returns)

@@ -4,8 +4,9 @@ use borrow.Author.Rules.{rules}
 use Rattle.judge_lib.proofs.next.put_last.Statement.{statement}
 use Rattle.judge_lib.proofs.next.put_last.Tie as tie
 
-returns-2 : tie.Need-returns-2
-returns-2 c = let s = c.before.args in sym (set_out s.lasts.now s.at s.x c.if1.false)
+returns-2 : tie.Need-returns-else-at-lasts
+returns-2 c = let s = c.args in sym (set_out s.lasts.now s.at s.x c.if-at-lasts.false)
 
-pub put-last-spec : {M : Type 1} → statement M
-put-last-spec = tie.close (tie.spec (λ c. search rules) (λ c. search rules) (λ c. search rules) (λ c. search rules) returns-2)
+pub put_last_spec : {M : Type 1} → statement M
+put_last_spec = tie.close (tie.spec
+    (λ c. search rules) (λ c. search rules) (λ c. search rules) (λ c. search rules) returns-2)

@@ -5,11 +5,12 @@ use Rattle.judge_lib.proofs.next.write_next.Tie as tie
 
 returns : tie.Need-returns
 returns c =
-    let s = c.before.before in
-    let e = s.before.before in
-    rw (← e.before.before.before.fill-lasts.ensures, ← e.edition.ensures) s.write-start.ensures
+    let s = c in
+    let e = c in
+    rw (← e.fill_lasts.ensures, ← e.edition.ensures) s.write_start.ensures
 
-pub write-next-spec : {M : Type 1} → statement M
-write-next-spec =
+pub write_next_spec : {M : Type 1} → statement M
+write_next_spec =
     tie.close
-    (tie.spec (λ c. search rules) (λ c κs. search rules) (λ c κs. search rules) (λ c. search rules) (λ c κs. search rules) (λ c. search rules) returns)
+    (tie.spec
+    (λ c. search rules) (λ c κs. search rules) (λ c κs. search rules) (λ c. search rules) (λ c κs. search rules) (λ c. search rules) returns)

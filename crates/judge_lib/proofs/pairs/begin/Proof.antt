@@ -3,13 +3,14 @@ use borrow.Author.Rules.{rules}
 use Rattle.judge_lib.proofs.pairs.begin.Statement.{statement}
 use Rattle.judge_lib.proofs.pairs.begin.Tie as tie
 
-returns : tie.Need-returns
+returns : tie.Need-returns-then-given
 unfolding begin_read
-returns c = rw c.before.before.before.if1.true c.fill_start.ensures
+returns c = rw c.if-given.true c.fill_start.ensures
 
-returns-2 : tie.Need-returns-2
+returns-2 : tie.Need-returns
 unfolding begin_read
-returns-2 c = let p = c.before.before.requires in rw (c.if1.false, p.0, p.1)
+returns-2 c = let p = c.requires in rw (c.if-given.false, p.0, p.1)
 
-pub begin-spec : {M : Type 1} → statement M
-begin-spec = tie.close (tie.spec (λ c. search rules) (λ c κs. search rules) returns returns-2)
+pub begin_spec : {M : Type 1} → statement M
+begin_spec = tie.close (tie.spec
+    (λ c. search rules) (λ c κs. search rules) returns returns-2)

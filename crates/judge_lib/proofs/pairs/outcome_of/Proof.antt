@@ -4,15 +4,14 @@ use borrow.Author.Rules.{rules}
 use Rattle.judge_lib.proofs.pairs.outcome_of.Statement.{statement}
 use Rattle.judge_lib.proofs.pairs.outcome_of.Tie as tie
 
-pub outcome-of-spec : {M : Type 1} → statement M
+pub outcome_of_spec : {M : Type 1} → statement M
 unfolding outcome_of
-outcome-of-spec =
+outcome_of_spec =
     tie.close
     (tie.spec
-    (λ c. rw (lt-leb _ _ c.if1.true))
-    (λ c. rw (le-leb _ _ c.before.if1.false, c.if2.true))
-    (λ c. rw (le-leb _ _ c.before.before.if1.false, c.before.if2.false, lt-leb _ _ c.if3.true))
-    (λ c. rw (le-leb _ _ c.before.before.before.before.if1.false, c.before.before.before.if2.false, le-leb _ _ c.before.before.if3.false, ne_eqb _ _ c.if4.true))
-    (λ c. rw (le-leb _ _ c.before.before.before.before.before.before.if1.false, c.before.before.before.before.before.if2.false, le-leb _ _ c.before.before.before.before.if3.false, eq-eqb _ _ c.before.before.if4.false, ne_eqb _ _ c.if5.true))
-    (λ c. rw (le-leb _ _ c.before.before.before.before.before.before.before.before.if1.false, c.before.before.before.before.before.before.before.if2.false, le-leb _ _ c.before.before.before.before.before.before.if3.false, eq-eqb _ _ c.before.before.before.before.if4.false, eq-eqb _ _ c.before.before.if5.false, ne_eqb _ _ c.if6.true))
-    (λ c. rw (le-leb _ _ c.before.before.before.before.before.before.before.before.if1.false, c.before.before.before.before.before.before.before.if2.false, le-leb _ _ c.before.before.before.before.before.before.if3.false, eq-eqb _ _ c.before.before.before.before.if4.false, eq-eqb _ _ c.before.before.if5.false, eq-eqb _ _ c.if6.false)))
+    (λ c. rw (lt-leb _ _ c.if-sheet-gt-LONGEST.true)) (λ c. rw (le-leb _ _ c.if-sheet-gt-LONGEST.false, c.if-opened.true))
+    (λ c. rw (le-leb _ _ c.if-sheet-gt-LONGEST.false, c.if-opened.false, lt-leb _ _ c.if-answer-gt-LONGEST.true))
+    (λ c. rw (le-leb _ _ c.if-sheet-gt-LONGEST.false, c.if-opened.false, le-leb _ _ c.if-answer-gt-LONGEST.false, ne_eqb _ _ c.if-opened-ne0.true))
+    (λ c. rw (le-leb _ _ c.if-sheet-gt-LONGEST.false, c.if-opened.false, le-leb _ _ c.if-answer-gt-LONGEST.false, eq-eqb _ _ c.if-opened-ne0.false, ne_eqb _ _ c.if-opened-ne0-2.true))
+    (λ c. rw (le-leb _ _ c.if-sheet-gt-LONGEST.false, c.if-opened.false, le-leb _ _ c.if-answer-gt-LONGEST.false, eq-eqb _ _ c.if-opened-ne0.false, eq-eqb _ _ c.if-opened-ne0-2.false, ne_eqb _ _ c.if-steps-ne0.true))
+    (λ c. rw (le-leb _ _ c.if-sheet-gt-LONGEST.false, c.if-opened.false, le-leb _ _ c.if-answer-gt-LONGEST.false, eq-eqb _ _ c.if-opened-ne0.false, eq-eqb _ _ c.if-opened-ne0-2.false, eq-eqb _ _ c.if-steps-ne0.false)))

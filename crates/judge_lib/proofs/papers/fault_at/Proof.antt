@@ -9,8 +9,9 @@ use Rattle.judge_lib.proofs.papers.fault_at.Tie as tie
 returns : tie.Need-returns
 unfolding after_fault
 returns c =
-    let a = c.before.before.args in
-    ap (λ (v : Verdict). record { text = a.x; refused = a.n; line = v.line }) c.after-fault.ensures
+    let a = c.args in
+    ap (λ (v : Verdict). record { text = a.x; refused = a.n; line = v.line }) c.after_fault-fault.ensures
 
-pub fault-at-spec : {M : Type 1} → statement M
-fault-at-spec = tie.close (tie.spec (λ c κs. search rules) returns)
+pub fault_at_spec : {M : Type 1} → statement M
+fault_at_spec = tie.close (tie.spec
+    (λ c κs. search rules) returns)

@@ -20,10 +20,10 @@ none s x (InStart n at) h = absurd (⊎_elim (λ z. omega (arith, z)) (λ z. ome
 none s x (InAnswer n at) h = refl
 none s x Reached h = refl
 
-pub fault-of-spec : {M : Type 1} → statement M
-fault-of-spec =
+pub fault_of_spec : {M : Type 1} → statement M
+fault_of_spec =
     tie.close
-    (tie.spec (λ c. search rules) (λ c κs. search rules) (λ c. search rules) (λ c κs. search rules)
-    (λ c. c.fault-at.ensures ∙ ap (fault_of _ _) (sym c.before.before.outcome.given.1))
-    (λ c. c.fault-at2.ensures ∙ ap (fault_of _ _) (sym c.before.before.outcome2.given.1))
-    (λ c. let a = c.before.before.before.args in none a.sheet.now a.start.now a.outcome c.match.keys3))
+    (tie.spec
+    (λ c. search rules) (λ c κs. search rules) (λ c. search rules) (λ c κs. search rules)
+    (λ c. c.fault_at.ensures ∙ ap (fault_of _ _) (sym c.in-InSheet.is)) (λ c. c.fault_at-in-InStart.ensures ∙ ap (fault_of _ _) (sym c.in-InStart.is))
+    (λ c. let a = c.args in none a.sheet.now a.start.now a.outcome c.in_default.keys3))

@@ -15,43 +15,45 @@ use borrow.Author.Rules.{rules}
 use Rattle.judge_lib.proofs.papers.read_paper.Statement.{statement}
 use Rattle.judge_lib.proofs.papers.read_paper.Tie as tie
 
-abbrev lent : tie.After-fault-of → Paper
-lent f = let a = f.before.before.before.before.before.before.before.before.before.args in paper a.sheet.now a.given a.start.now
+abbrev lent : tie.After-fault_of-fault → Paper
+lent f = let a = f.args in paper a.sheet.now a.given a.start.now
 
 -- what the words said once the texts were read
-abbrev said : tie.After-fault-of → Tables × Program × Configuration
+abbrev said : tie.After-fault_of-fault → Tables × Program × Configuration
 said f =
-    let w = f.before.before.open-paper.new.1.1.1 in
+    let w = f.open_paper-opened.new.1.1.1 in
     (tables_in w.0, program_from w.1.0 w.1.1.1.0, state_in w.1.1.0)
 
-comes : (f : tie.After-fault-of) → came f.before.paper-outcome.result (said f) ≡ paper_course (lent f)
+comes : (f : tie.After-fault_of-fault) → came f.paper_outcome-outcome.result (said f) ≡ paper_course (lent f)
 comes f =
-    let e = f.before.before.open-paper.ensures in
-    outcome-opens (lent f) f.before.paper-outcome.ensures e.0 e.1.0 e.1.1
+    let e = f.open_paper-opened.ensures in
+    outcome-opens (lent f) f.paper_outcome-outcome.ensures e.0 e.1.0 e.1.1
 
-fault-is : (f : tie.After-fault-of) → f.fault-of.result ≡ paper_fault (lent f)
+fault-is : (f : tie.After-fault_of-fault) → f.fault_of-fault.result ≡ paper_fault (lent f)
 fault-is f =
-    let a = f.before.before.before.before.before.before.before.before.before.args in
-    f.fault-of.ensures ∙ fault-told a.sheet.now a.start.now a.given _ _ (said f) f.before.paper-outcome.ensures (comes f)
+    let a = f.args in
+    f.fault_of-fault.ensures ∙ fault-told a.sheet.now a.start.now a.given _ _ (said f) f.paper_outcome-outcome.ensures (comes f)
 
-returns : tie.Need-returns
+returns : tie.Need-returns-then-fault-ne0
 unfolding no_program
 returns c =
-    let b = c.before.before in
-    let p = b.before.before in
-    let t = p.before.before in
-    let f = t.before.before.before.before in
+    let b = c in
+    let p = c in
+    let t = c in
+    let f = c in
     let cleared : ◌≡◌ {A = Tables × Program × Configuration}
-    (tables_in t.clear-tables.new.0, program_from p.clear-program.new.0 c.clear-begun.new.0, state_in b.clear-state.new.0) (no_tables, no_program, start)
-    = rw (t.clear-tables.ensures, p.clear-program.ensures, b.clear-state.ensures, c.clear-begun.ensures) in
-    (fault-is f, cleared ∙ words-clear (lent f) (λ z. t.before.before.if1.true (ap (λ (x : PaperFault). x.refused) (fault-is f) ∙ z)))
+    (tables_in t.clear_tables.new.0, program_from p.clear_program.new.0 c.clear_begun.new.0, state_in b.clear_state.new.0) (no_tables, no_program, start)
+    = rw (t.clear_tables.ensures, p.clear_program.ensures, b.clear_state.ensures, c.clear_begun.ensures) in
+    (fault-is c.before.before.before.before.before.before.before.before.before.before, cleared ∙ words-clear (lent c.before.before.before.before.before.before.before.before.before.before) (λ z. t.if-fault-ne0.true (ap (λ (x : PaperFault). x.refused) (fault-is c.before.before.before.before.before.before.before.before.before.before) ∙ z)))
 
-returns-2 : tie.Need-returns-2
+returns-2 : tie.Need-returns-else-fault-ne0
 returns-2 c =
-    let f = c.before.before in
-    (fault-is f, words-say (lent f) f.before.paper-outcome.result (said f) (comes f) (sym (ap (λ (x : PaperFault). x.refused) (fault-is f)) ∙ c.if1.false))
+    let f = c in
+    (fault-is c.before.before, words-say (lent c.before.before) f.paper_outcome-outcome.result (said c.before.before) (comes c.before.before) (sym (ap (λ (x : PaperFault). x.refused) (fault-is c.before.before)) ∙ c.if-fault-ne0.false))
 
-pub read-paper-spec : {M : Type 1} → statement M
-read-paper-spec =
+pub read_paper_spec : {M : Type 1} → statement M
+read_paper_spec =
     tie.close
-    (tie.spec (λ c κs. search rules) (λ c κs. search rules) (λ c κs. search rules) (λ c κs. search rules) (λ c κs. search rules) (λ c κs. search rules) (λ c κs. search rules) returns returns-2)
+    (tie.spec
+    (λ c κs. search rules) (λ c κs. search rules) (λ c κs. search rules) (λ c κs. search rules) (λ c κs. search rules) (λ c κs. search rules)
+    (λ c κs. search rules) returns returns-2)

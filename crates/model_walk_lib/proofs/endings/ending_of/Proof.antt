@@ -4,14 +4,15 @@ use borrow.Author.Rules.{rules}
 use Rattle.model_walk_lib.proofs.endings.ending_of.Statement.{statement}
 use Rattle.model_walk_lib.proofs.endings.ending_of.Tie as tie
 
-returns : tie.Need-returns
-returns c = rw (← c.before.all_done.ensures, c.if1.true) refl
+returns : tie.Need-returns-then-all_done
+returns c = rw (← c.all_done.ensures, c.if-all_done.true) refl
 
-returns-2 : tie.Need-returns-2
-returns-2 c = rw (← c.before.before.all_done.ensures, c.before.if1.false, le-leb _ _ c.if2.true) refl
+returns-2 : tie.Need-returns-then-steps-ge-MOST_STEPS
+returns-2 c = rw (← c.all_done.ensures, c.if-all_done.false, le-leb _ _ c.if-steps-ge-MOST_STEPS.true) refl
 
-returns-3 : tie.Need-returns-3
-returns-3 c = rw (← c.before.before.all_done.ensures, c.before.if1.false, lt-leb _ _ c.if2.false) refl
+returns-3 : tie.Need-returns
+returns-3 c = rw (← c.all_done.ensures, c.if-all_done.false, lt-leb _ _ c.if-steps-ge-MOST_STEPS.false) refl
 
-pub ending-of-spec : {M : Type 1} → statement M
-ending-of-spec = tie.close (tie.spec (λ c κs. search rules) returns returns-2 returns-3)
+pub ending_of_spec : {M : Type 1} → statement M
+ending_of_spec = tie.close (tie.spec
+    (λ c κs. search rules) returns returns-2 returns-3)

@@ -4,32 +4,33 @@ use Rattle.model_walk_lib.specs.Turns.{on_instance, ordered_at}
 use Rattle.model_walk_lib.proofs.turns.ordered.Statement.{statement}
 use Rattle.model_walk_lib.proofs.turns.ordered.Tie as tie
 
-returns : tie.Need-returns
+returns : tie.Need-returns-then-k-eq0
 unfolding ordered_at
-returns c = rw (eq-eqb _ _ c.before.if1.true) c.step_of_lem.ensures
+returns c = rw (eq-eqb _ _ c.if-k-eq0.true) c.step_of.ensures
 
-returns-2 : tie.Need-returns-2
+returns-2 : tie.Need-returns-then-x-eq0
 unfolding ordered_at on_instance
-returns-2 c = rw (ne_eqb _ _ c.before.before.if1.false, eq-eqb _ _ c.before.if2.true) c.step-of2.ensures
+returns-2 c = rw (ne_eqb _ _ c.if-k-eq0.false, eq-eqb _ _ c.if-x-eq0.true) c.step_of-then-x-eq0.ensures
 
-returns-3 : tie.Need-returns-3
+returns-3 : tie.Need-returns-then-x-lt17
 unfolding ordered_at on_instance
-returns-3 c = rw (ne_eqb _ _ c.before.before.before.if1.false, ne_eqb _ _ c.before.before.if2.false, lt-ltb _ _ c.before.if3.true) c.step-of3.ensures
+returns-3 c = rw (ne_eqb _ _ c.if-k-eq0.false, ne_eqb _ _ c.if-x-eq0.false, lt-ltb _ _ c.if-x-lt17.true) c.step_of-then-x-lt17.ensures
 
-returns-4 : tie.Need-returns-4
+returns-4 : tie.Need-returns-then-x-lt49
 unfolding ordered_at on_instance
 returns-4 c =
-    let e = c.before.before in
-    rw (ne_eqb _ _ e.before.before.if1.false, ne_eqb _ _ e.before.if2.false, le-ltb _ _ e.if3.false, lt-ltb _ _ c.before.if4.true) c.step-of4.ensures
+    let e = c in
+    rw (ne_eqb _ _ e.if-k-eq0.false, ne_eqb _ _ e.if-x-eq0.false, le-ltb _ _ e.if-x-lt17.false, lt-ltb _ _ c.if-x-lt49.true) c.step_of-then-x-lt49.ensures
 
-returns-5 : tie.Need-returns-5
+returns-5 : tie.Need-returns
 unfolding ordered_at on_instance
 returns-5 c =
-    let e = c.before.before in
-    rw (ne_eqb _ _ e.before.before.if1.false, ne_eqb _ _ e.before.if2.false, le-ltb _ _ e.if3.false, le-ltb _ _ c.before.if4.false) c.step-of5.ensures
+    let e = c in
+    rw (ne_eqb _ _ e.if-k-eq0.false, ne_eqb _ _ e.if-x-eq0.false, le-ltb _ _ e.if-x-lt17.false, le-ltb _ _ c.if-x-lt49.false) c.step_of-2.ensures
 
-pub ordered-spec : {M : Type 1} → statement M
-ordered-spec =
+pub ordered_spec : {M : Type 1} → statement M
+ordered_spec =
     tie.close
-    (tie.spec (λ c κs. search rules) returns (λ c. search rules) (λ c. search rules) (λ c κs. search rules) returns-2 (λ c. search rules) (λ c κs. search rules) returns-3
-    (λ c κs. search rules) returns-4 (λ c κs. search rules) returns-5)
+    (tie.spec
+    (λ c κs. search rules) returns (λ c. search rules) (λ c. search rules) (λ c κs. search rules) returns-2 (λ c. search rules) (λ c κs. search rules)
+    returns-3 (λ c κs. search rules) returns-4 (λ c κs. search rules) returns-5)

@@ -19,53 +19,55 @@ use Rattle.model_walk_lib.proofs.Tried.{rest, turn-start, taken-so, passed-so, r
 use Rattle.model_walk_lib.proofs.turns.turn.Statement.{statement}
 use Rattle.model_walk_lib.proofs.turns.turn.Tie as tie
 
-abbrev invariant-loop : tie.invariant-loop
+abbrev invariant-loop : tie.invariant-loop-k
 invariant-loop tables program begun state₀ k₀ state k =
     (k ≤ 2081) × (PortsFit (program_from program begun) → (state_in state ≡ state_in state₀)
     × (first_of 8 (tables_in tables) (program_from program begun) (state_in state₀) in_order ≡ rest 8 (tables_in tables) (program_from program begun) (state_in state₀) k))
 
-abbrev decreases-loop : tie.decreases-loop
+abbrev decreases-loop : tie.decreases-loop-k
 decreases-loop tables program begun state₀ k₀ state k = 2081 - k
 
-loop-holds : tie.Need-loop-init invariant-loop decreases-loop
+loop-holds : tie.Need-loop-k-init invariant-loop decreases-loop
 loop-holds c = (search rules, λ fits. (refl, turn-start _ _ _ _))
 
-abbrev came : tie.After-step invariant-loop decreases-loop → Stepped
-came s = stepped s.step.result (state_in s.step.new.1.1.1.1.0)
+abbrev came : tie.After-step-answered invariant-loop decreases-loop → Stepped
+came s = stepped s.step-answered.result (state_in s.step-answered.new.1.1.1.1.0)
 
 -- what the turn of the loop came to is step k of the order, from the start of the turn
-due : (s : tie.After-step invariant-loop decreases-loop)
-    → let l = s.before.before.before.before in
-    let a = l.before.before.args in
-    PortsFit (program_from a.program.now a.begun.now) → came s ≡ step 8 (tables_in a.tables.now) (program_from a.program.now a.begun.now) (state_in a.state.now) (ordered_at l.loop.k)
+due : (s : tie.After-step-answered invariant-loop decreases-loop)
+    → let l = s in
+    let a = s.args in
+    PortsFit (program_from a.program.now a.begun.now) → came s ≡ step 8 (tables_in a.tables.now) (program_from a.program.now a.begun.now) (state_in a.state.now) (ordered_at l.loop-k.k)
 unfolding HeldStepIsTheStep
 due s fits =
-    let l = s.before.before.before.before in
-    let a = l.before.before.args in
+    let l = s in
+    let a = s.args in
     let t = tables_in a.tables.now in
     let p = program_from a.program.now a.begun.now in
-    s.step.ensures ∙ held-step-is-the-step 8 t p (state_in l.loop.state) _ fits ∙ ap (step 8 t p (state_in l.loop.state)) s.before.before.ordered.ensures
-    ∙ ap (λ (c : Configuration). step 8 t p c (ordered_at l.loop.k)) (l.loop.invariant.1 fits).0
+    s.step-answered.ensures ∙ held-step-is-the-step 8 t p (state_in l.loop-k.state) _ fits ∙ ap (step 8 t p (state_in l.loop-k.state)) s.ordered-due.ensures
+    ∙ ap (λ (c : Configuration). step 8 t p c (ordered_at l.loop-k.k)) (l.loop-k.invariant.1 fits).0
 
-returns : tie.Need-returns invariant-loop decreases-loop
+returns : tie.Need-returns-then-answered-eq0 invariant-loop decreases-loop
 returns c = λ fits.
-    let s = c.before.before in
-    let l = s.before.before.before.before in
-    let a = l.before.before.args in
-    taken-so 8 (tables_in a.tables.now) (program_from a.program.now a.begun.now) (state_in a.state.now) l.loop.k (l.loop.invariant.1 fits).1 s.before.before.before.loop-test.true (came s) (due s fits) c.if1.true
+    let s = c in
+    let l = c in
+    let a = c.args in
+    taken-so 8 (tables_in a.tables.now) (program_from a.program.now a.begun.now) (state_in a.state.now) l.loop-k.k (l.loop-k.invariant.1 fits).1 s.loop-k-test.true (came c.before.before) (due c.before.before fits) c.if-answered-eq0.true
 
-loop-again : tie.Need-loop-preserved invariant-loop decreases-loop
+loop-again : tie.Need-loop-k-preserved invariant-loop decreases-loop
 loop-again c =
-    let s = c.before.before in
-    let l = s.before.before.before.before in
-    let a = l.before.before.args in
-    (search rules, λ fits. passed-so 8 (tables_in a.tables.now) (program_from a.program.now a.begun.now) (state_in a.state.now) l.loop.k (l.loop.invariant.1 fits).1 s.before.before.before.loop-test.true (came s) (due s fits) c.if1.false)
+    let s = c in
+    let l = c in
+    let a = c.args in
+    (search rules, λ fits. passed-so 8 (tables_in a.tables.now) (program_from a.program.now a.begun.now) (state_in a.state.now) l.loop-k.k (l.loop-k.invariant.1 fits).1 s.loop-k-test.true (came c.before.before) (due c.before.before fits) c.if-answered-eq0.false)
 
-returns-2 : tie.Need-returns-2 invariant-loop decreases-loop
+returns-2 : tie.Need-returns invariant-loop decreases-loop
 returns-2 c = λ fits.
-    let l = c.before in
-    let a = l.before.before.args in
-    rested-so 8 (tables_in a.tables.now) (program_from a.program.now a.begun.now) (state_in a.state.now) l.loop.k (l.loop.invariant.1 fits).1 c.loop-test.false _ (l.loop.invariant.1 fits).0
+    let l = c in
+    let a = c.args in
+    rested-so 8 (tables_in a.tables.now) (program_from a.program.now a.begun.now) (state_in a.state.now) l.loop-k.k (l.loop-k.invariant.1 fits).1 c.loop-k-test.false _ (l.loop-k.invariant.1 fits).0
 
 pub turn_spec : {M : Type 1} → statement M
-turn_spec = tie.close (tie.spec invariant-loop decreases-loop loop-holds (λ c κs. search rules) (λ c. search rules) (λ c κs. search rules) returns (λ c. search rules) (λ c. search rules) loop-again returns-2)
+turn_spec = tie.close (tie.spec
+    invariant-loop decreases-loop loop-holds (λ c κs. search rules) (λ c. search rules) (λ c κs. search rules) returns (λ c. search rules)
+    (λ c. search rules) loop-again returns-2)

@@ -3,5 +3,6 @@ use borrow.Author.Rules.{rules}
 use Rattle.read_items.proofs.numbers.end_of.Statement.{statement}
 use Rattle.read_items.proofs.numbers.end_of.Tie as tie
 
-pub end-of-spec : {M : Type 1} → statement M
-end-of-spec = tie.close (tie.spec (λ c. rw (eq-eqb _ _ c.if1.true)) (λ c. rw (ne_eqb _ _ c.if1.false)))
+pub end_of_spec : {M : Type 1} → statement M
+end_of_spec = tie.close (tie.spec
+    (λ c. rw (eq-eqb _ _ c.if-left-eq1.true)) (λ c. rw (ne_eqb _ _ c.if-left-eq1.false)))

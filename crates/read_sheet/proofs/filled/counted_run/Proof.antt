@@ -6,17 +6,17 @@ use borrow.Author.Rules.{rules}
 use Rattle.read_sheet.proofs.filled.counted_run.Statement.{statement}
 use Rattle.read_sheet.proofs.filled.counted_run.Tie as tie
 
-cast-t14 : tie.Need-overflow-cast-t14
-cast-t14 c = omega (arith, leb-true c.before.args.count c.before.args.greatest (and_right (leb c.before.args.least c.before.args.count) (leb c.before.args.count c.before.args.greatest) c.if1.true))
+cast-t14 : tie.Need-overflow_cast-result
+cast-t14 c = omega (arith, leb-true c.args.count c.args.greatest (and_right (leb c.args.least c.args.count) (leb c.args.count c.args.greatest) c.if-least-count.true))
 
-returns : tie.Need-returns
-returns c = rw c.if1.true
+returns : tie.Need-returns-then-least-count
+returns c = rw c.if-least-count.true
 
-returns-2 : tie.Need-returns-2
-returns-2 c = rw c.if1.false
+returns-2 : tie.Need-returns
+returns-2 c = rw c.if-least-count.false
 
-pub counted-run-spec : {M : Type 1} → statement M
-counted-run-spec =
+pub counted_run_spec : {M : Type 1} → statement M
+counted_run_spec =
     tie.close
     (tie.spec
     cast-t14 returns returns-2)

@@ -2,8 +2,8 @@ use borrow.Author.Rules.{rules}
 use Rattle.read_sheet.proofs.filled.read_either.Statement.{statement}
 use Rattle.read_sheet.proofs.filled.read_either.Tie as tie
 
-pub read-either-spec : {M : Type 1} → statement M
-read-either-spec =
+pub read_either_spec : {M : Type 1} → statement M
+read_either_spec =
     tie.close
-    (tie.spec (λ c κs. search rules) (λ c. rw c.before.before.if1.true c.read-type-form.ensures) (λ c κs. search rules)
-    (λ c. rw c.before.before.if1.false c.read-type.ensures))
+    (tie.spec
+    (λ c κs. search rules) (λ c. rw c.if-form.true c.read_type_form.ensures) (λ c κs. search rules) (λ c. rw c.if-form.false c.read_type.ensures))

@@ -6,33 +6,32 @@ use borrow.Author.Rules.{rules}
 use Rattle.read_sheet.proofs.filled.read_rows.Statement.{statement}
 use Rattle.read_sheet.proofs.filled.read_rows.Tie as tie
 
-then-types-requires : tie.Need-then-types-requires
-then-types-requires c κs = c.before.before.before.then-counted.ensures.1
+then-types-requires : tie.Need-then_types-filled-requires
+then-types-requires c κs = c.then_counted-types.ensures.1
 
 returns : tie.Need-returns
 unfolding shortly form_counted
 returns c =
-    let i = c.before in
-    let p = i.before.before in
-    let k = p.before.before in
-    let t = k.before.before in
-    let n = t.before.before.before.before in
-    let d = n.before.before in
-    let f = d.before.before in
-    rw (sym (form-shortly f.before.before.before.args.text.now))
-    (run-after _ _ f.before.length_run.ensures
-    (after_then _ _ f.form-edition.ensures
-    (after_then _ _ d.then-number.ensures.0
-    (after_then _ _ n.then-counted.ensures.0
-    (after_then _ _ (rw t.before.before.start-tables.ensures at t.then-types.ensures)
-    (after_then _ _ k.then-counted2.ensures.0
-    (after_then _ _ (rw p.start-program.ensures at i.then-instructions.ensures)
-    (after-give _ _ c.then-end.ensures))))))))
+    let i = c in
+    let p = c in
+    let k = c in
+    let t = c in
+    let n = c in
+    let d = c in
+    let f = c in
+    rw (sym (form-shortly f.args.text.now))
+    (run-after _ _ f.length_run-length.ensures
+    (after_then _ _ f.form_edition-first.ensures
+    (after_then _ _ d.then_number-depth.ensures.0
+    (after_then _ _ n.then_counted-types.ensures.0
+    (after_then _ _ (rw t.start_tables.ensures at t.then_types-filled.ensures)
+    (after_then _ _ k.then_counted-count.ensures.0
+    (after_then _ _ (rw p.start_program.ensures at i.then_instructions-instructions.ensures)
+    (after-give _ _ c.then_end.ensures))))))))
 
-pub read-rows-spec : {M : Type 1} → statement M
-read-rows-spec =
+pub read_rows_spec : {M : Type 1} → statement M
+read_rows_spec =
     tie.close
     (tie.spec
-    (λ c κs. search rules) (λ c κs. search rules) (λ c. search rules) (λ c κs. search rules) (λ c. search rules) (λ c κs. search rules) (λ c κs. search rules)
-    then-types-requires (λ c. search rules) (λ c κs. search rules) (λ c κs. search rules) (λ c κs. search rules) (λ c κs. search rules)
-    returns)
+    (λ c κs. search rules) (λ c κs. search rules) (λ c κs. search rules) (λ c κs. search rules) (λ c κs. search rules) then-types-requires
+    (λ c κs. search rules) (λ c κs. search rules) (λ c κs. search rules) (λ c κs. search rules) returns)

@@ -10,11 +10,14 @@ use borrow.Author.Rules.{rules}
 use Rattle.read_sheet.proofs.programs.read_instruction.Statement.{statement}
 use Rattle.read_sheet.proofs.programs.read_instruction.Tie as tie
 
-pub read-instruction-spec : {M : Type 1} → statement M
+pub read_instruction_spec : {M : Type 1} → statement M
 unfolding instruction_at
-read-instruction-spec =
+read_instruction_spec =
     tie.close
-    (tie.spec (λ c κs. search rules) (λ c. search rules) (λ c. search rules) (λ c. search rules) (λ c κs. search rules) (λ c. search rules) (λ c. search rules) (λ c κs. search rules)
-    (λ c. put_refused instruction_says (do_line c.before.before.before.before.before.before.before.args.edition c.before.before.before.before.before.before.before.args.types) (with_instruction (program_in c.before.before.before.before.before.before.before.args.program.now) c.before.before.before.before.before.before.before.args.n) _ _ _ c.before.before.before.before.before.place_in.ensures _ c.before.before.before.do-line.ensures c.before.enum_told.given.1 refl c.do-refusal.ensures) (λ c κs. search rules)
-    (λ c. omega (arith, (put-line instruction_says (do_line c.before.before.before.before.before.before.before.before.before.args.edition c.before.before.before.before.before.before.before.before.before.args.types) (with_instruction (program_in c.before.before.before.before.before.before.before.before.before.args.program.now) c.before.before.before.before.before.before.before.before.before.args.n) c.before.before.before.before.before.before.before.before.before.args.text.now c.before.before.before.before.before.before.before.before.before.args.start c.before.before.before.before.before.before.before.place_in.result c.before.before.before.before.before.before.before.place_in.ensures _ c.before.before.before.before.before.do-line.ensures c.before.before.before.line.given.1 refl).within))
-    (λ c. rw c.put-instruction.ensures (put-line instruction_says (do_line c.before.before.before.before.before.before.before.before.before.args.edition c.before.before.before.before.before.before.before.before.before.args.types) (with_instruction (program_in c.before.before.before.before.before.before.before.before.before.args.program.now) c.before.before.before.before.before.before.before.before.before.args.n) _ _ _ c.before.before.before.before.before.before.before.place_in.ensures _ c.before.before.before.before.before.do-line.ensures c.before.before.before.line.given.1 refl)))
+    (tie.spec
+    (λ c κs. search rules) (λ c. search rules) (λ c. search rules) (λ c. search rules) (λ c κs. search rules) (λ c. search rules) (λ c. search rules)
+    (λ c κs. search rules)
+    (λ c. put_refused instruction_says (do_line c.args.edition c.args.types) (with_instruction (program_in c.args.program.now) c.args.n) _ _ _ c.place_in-at.ensures _ c.do_line-line.ensures c.in_default.is refl c.do_refusal-refused.ensures)
+    (λ c κs. search rules)
+    (λ c. omega (arith, (put-line instruction_says (do_line c.args.edition c.args.types) (with_instruction (program_in c.args.program.now) c.args.n) c.args.text.now c.args.start c.place_in-at.result c.place_in-at.ensures _ c.do_line-line.ensures c.in-Got.is refl).within))
+    (λ c. rw c.put_instruction.ensures (put-line instruction_says (do_line c.args.edition c.args.types) (with_instruction (program_in c.args.program.now) c.args.n) _ _ _ c.place_in-at.ensures _ c.do_line-line.ensures c.in-Got.is refl)))

@@ -9,10 +9,13 @@ use Rattle.words.specs.Words.{program_in}
 use Rattle.read_sheet.proofs.programs.then_instructions.Statement.{statement}
 use Rattle.read_sheet.proofs.programs.then_instructions.Tie as tie
 
-pub then-instructions-spec : {M : Type 1} → statement M
-then-instructions-spec =
+pub then_instructions_spec : {M : Type 1} → statement M
+then_instructions_spec =
     tie.close
-    (tie.spec (λ text edition types old most first _ program read i. Turns (instruction_at edition types) most 0 (program_in old) text first i read (program_in program)) (λ text edition types old most first _ program read i. most - i)
-    (λ c κs. search rules) (λ c. no-turn _ _ _ _ c.then-nothing.ensures) (λ c κs. search rules) (λ c κs. search rules) (λ c. omega (arith, below c.before.before.before.before.loop.i c.before.before.before.before.before.before.before.args.count.number c.before.before.before.goes_on.result c.before.before.if1.true))
-    (λ c. omega (arith, below c.before.before.before.before.loop.i c.before.before.before.before.before.before.before.args.count.number c.before.before.before.goes_on.result c.before.before.if1.true)) (λ c. turn_on _ _ _ _ c.before.before.before.before.loop.invariant _ c.before.before.before.goes_on.ensures _ c.before.before.if1.true (sym (zero-add _)) c.read-instruction.ensures)
-    (λ c. turns-over _ _ _ _ c.before.before.before.then-nothing.ensures c.before.before.loop.invariant _ c.before.goes_on.ensures c.if1.false))
+    (tie.spec
+    (λ text edition types old most first _ program read i. Turns (instruction_at edition types) most 0 (program_in old) text first i read (program_in program))
+    (λ text edition types old most first _ program read i. most - i) (λ c κs. search rules) (λ c. no-turn _ _ _ _ c.then_nothing-read.ensures)
+    (λ c κs. search rules) (λ c κs. search rules) (λ c. omega (arith, below c.loop-i.i c.args.count.number c.goes_on.result c.loop-i-test.true))
+    (λ c. omega (arith, below c.loop-i.i c.args.count.number c.goes_on.result c.loop-i-test.true))
+    (λ c. turn_on _ _ _ _ c.loop-i.invariant _ c.goes_on.ensures _ c.loop-i-test.true (sym (zero-add _)) c.read_instruction-read.ensures)
+    (λ c. turns-over _ _ _ _ c.then_nothing-read.ensures c.loop-i.invariant _ c.goes_on.ensures c.loop-i-test.false))

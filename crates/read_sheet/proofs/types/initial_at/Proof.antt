@@ -6,33 +6,33 @@ use Rattle.read_lines.specs.Counts.{line_says}
 use Rattle.read_sheet.proofs.types.initial_at.Statement.{statement}
 use Rattle.read_sheet.proofs.types.initial_at.Tie as tie
 
-returns : tie.Need-returns
+returns : tie.Need-returns-in_default
 returns c =
-    let a = c.before.before.before.before.before.before.args in
-    let p = c.before.before.before.before.place_in in
-    rw c.enum_told.given.1
-    (line-told line_says (initial_line a.places) a.text.now a.start p.result p.ensures _ c.before.before.initial-line.ensures c.enum_told.given.1)
+    let a = c.args in
+    let p = c.place_in-at in
+    rw c.in_default.is
+    (line-told line_says (initial_line a.places) a.text.now a.start p.result p.ensures _ c.initial_line-line.ensures c.in_default.is)
 
-add-next : tie.Need-overflow-add-next
+add-next : tie.Need-overflow_add-next
 add-next c =
-    let a = c.before.before.before.before.before.before.before.args in
-    let p = c.before.before.before.before.before.place_in in
+    let a = c.args in
+    let p = c.place_in-at in
     omega (
       arith,
       (line-told line_says (initial_line a.places) a.text.now a.start p.result p.ensures _
-          c.before.before.before.initial-line.ensures c.before.line.given.1).within,
+          c.initial_line-line.ensures c.in-Got.is).within,
     )
 
-returns-2 : tie.Need-returns-2
+returns-2 : tie.Need-returns
 returns-2 c =
-    let a = c.before.before.before.before.before.before.before.args in
-    let p = c.before.before.before.before.before.place_in in
+    let a = c.args in
+    let p = c.place_in-at in
     line-told line_says (initial_line a.places) a.text.now a.start p.result p.ensures _
-    c.before.before.before.initial-line.ensures c.before.line.given.1
+    c.initial_line-line.ensures c.in-Got.is
 
-pub initial-at-spec : {M : Type 1} → statement M
-initial-at-spec =
+pub initial_at_spec : {M : Type 1} → statement M
+initial_at_spec =
     tie.close
     (tie.spec
-    (λ c κs. search rules) (λ c. search rules) (λ c. search rules) (λ c. search rules) (λ c κs. search rules) (λ c. search rules)
-    (λ c. search rules) returns add-next returns-2)
+    (λ c κs. search rules) (λ c. search rules) (λ c. search rules) (λ c. search rules) (λ c κs. search rules) (λ c. search rules) (λ c. search rules)
+    returns add-next returns-2)

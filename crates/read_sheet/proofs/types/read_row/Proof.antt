@@ -9,11 +9,14 @@ use borrow.Author.Rules.{rules}
 use Rattle.read_sheet.proofs.types.read_row.Statement.{statement}
 use Rattle.read_sheet.proofs.types.read_row.Tie as tie
 
-pub read-row-spec : {M : Type 1} → statement M
+pub read_row_spec : {M : Type 1} → statement M
 unfolding row
-read-row-spec =
+read_row_spec =
     tie.close
-    (tie.spec (λ c κs. search rules) (λ c. search rules) (λ c. search rules) (λ c. search rules) (λ c κs. search rules) (λ c. search rules) (λ c. search rules) (λ c κs. search rules)
-    (λ c. put_refused row_says (row_line c.before.before.before.before.before.before.before.args.rows c.before.before.before.before.before.before.before.args.known) (put_row c.before.before.before.before.before.before.before.args.rows (tables_in c.before.before.before.before.before.before.before.args.tables.now) c.before.before.before.before.before.before.before.args.slot) _ _ _ c.before.before.before.before.before.place_in.ensures _ c.before.before.before.row-line.ensures c.before.enum_told.given.1 refl c.row-refusal.ensures) (λ c κs. search rules)
-    (λ c. omega (arith, (put-line row_says (row_line c.before.before.before.before.before.before.before.before.before.args.rows c.before.before.before.before.before.before.before.before.before.args.known) (put_row c.before.before.before.before.before.before.before.before.before.args.rows (tables_in c.before.before.before.before.before.before.before.before.before.args.tables.now) c.before.before.before.before.before.before.before.before.before.args.slot) c.before.before.before.before.before.before.before.before.before.args.text.now c.before.before.before.before.before.before.before.before.before.args.start c.before.before.before.before.before.before.before.place_in.result c.before.before.before.before.before.before.before.place_in.ensures _ c.before.before.before.before.before.row-line.ensures c.before.before.before.line.given.1 refl).within))
-    (λ c. rw c.put-row.ensures (put-line row_says (row_line c.before.before.before.before.before.before.before.before.before.args.rows c.before.before.before.before.before.before.before.before.before.args.known) (put_row c.before.before.before.before.before.before.before.before.before.args.rows (tables_in c.before.before.before.before.before.before.before.before.before.args.tables.now) c.before.before.before.before.before.before.before.before.before.args.slot) _ _ _ c.before.before.before.before.before.before.before.place_in.ensures _ c.before.before.before.before.before.row-line.ensures c.before.before.before.line.given.1 refl)))
+    (tie.spec
+    (λ c κs. search rules) (λ c. search rules) (λ c. search rules) (λ c. search rules) (λ c κs. search rules) (λ c. search rules) (λ c. search rules)
+    (λ c κs. search rules)
+    (λ c. put_refused row_says (row_line c.args.rows c.args.known) (put_row c.args.rows (tables_in c.args.tables.now) c.args.slot) _ _ _ c.place_in-at.ensures _ c.row_line-line.ensures c.in_default.is refl c.row_refusal-refused.ensures)
+    (λ c κs. search rules)
+    (λ c. omega (arith, (put-line row_says (row_line c.args.rows c.args.known) (put_row c.args.rows (tables_in c.args.tables.now) c.args.slot) c.args.text.now c.args.start c.place_in-at.result c.place_in-at.ensures _ c.row_line-line.ensures c.in-Got.is refl).within))
+    (λ c. rw c.put_row.ensures (put-line row_says (row_line c.args.rows c.args.known) (put_row c.args.rows (tables_in c.args.tables.now) c.args.slot) _ _ _ c.place_in-at.ensures _ c.row_line-line.ensures c.in-Got.is refl)))

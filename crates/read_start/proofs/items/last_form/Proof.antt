@@ -10,31 +10,32 @@ use borrow.Author.Rules.{rules}
 use Rattle.read_start.proofs.items.last_form.Statement.{statement}
 use Rattle.read_start.proofs.items.last_form.Tie as tie
 
-returns : tie.Need-returns
+returns : tie.Need-returns-in-Past
 unfolding last_form
 returns c =
-    let h = told due_says _ c.before.before.before.past-key.ensures c.before.next.given.1 in
+    let h = told due_says _ c.past_key.ensures c.in-Past.is in
     record { within = h.within; same = sym (rw (sym h.same, last_form, given)) }
 
-returns-2 : tie.Need-returns-2
+returns-2 : tie.Need-returns-in_default-number_then
 unfolding last_form
 returns-2 c =
-    let h = told due_says _ c.before.before.before.before.before.past-key.ensures c.before.before.before.enum_told.given.1 in
-    let g = told number_says _ c.before.before.number-then.ensures c.enum-told2.given.1 in
+    let h = told due_says _ c.past_key.ensures c.in_default.is in
+    let g = told number_says _ c.number_then.ensures c.in_default-number_then.is in
     record { within = search rules; same = sym (rw (sym h.same, last_form, given, sym g.same)) }
 
-add-stamp : tie.Need-overflow-add-stamp
-add-stamp c = omega (arith, (number-took _ _ _ _ (sym (told number_says _ c.before.before.before.number-then.ensures c.before.ticket.given.1).same)).1)
+add-stamp : tie.Need-overflow_add-stamp
+add-stamp c = omega (arith, (number-took _ _ _ _ (sym (told number_says _ c.number_then.ensures c.in-Got.is).same)).1)
 
-returns-3 : tie.Need-returns-3
+returns-3 : tie.Need-returns
 unfolding last_form
 returns-3 c =
-    let h = told due_says _ c.before.before.before.before.before.before.past-key.ensures c.before.before.before.before.enum_told.given.1 in
-    let g = told number_says _ c.before.before.before.number-then.ensures c.before.ticket.given.1 in
+    let h = told due_says _ c.past_key.ensures c.in_default.is in
+    let g = told number_says _ c.number_then.ensures c.in-Got.is in
     record { within = g.within; same = sym (rw (sym h.same, last_form, given, sym g.same, add-one)) }
 
-pub last-form-spec : {M : Type 1} → statement M
-last-form-spec =
+pub last_form_spec : {M : Type 1} → statement M
+last_form_spec =
     tie.close
     (tie.spec
-    (λ c. search rules) (λ c κs. search rules) (λ c. search rules) returns (λ c. search rules) (λ c κs. search rules) (λ c. search rules) (λ c. search rules) returns-2 add-stamp returns-3)
+    (λ c κs. search rules) (λ c. search rules) returns (λ c. search rules) (λ c κs. search rules) (λ c. search rules) (λ c. search rules) returns-2
+    add-stamp returns-3)

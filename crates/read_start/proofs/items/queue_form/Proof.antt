@@ -6,46 +6,46 @@ use borrow.Author.Rules.{rules}
 use Rattle.read_start.proofs.items.queue_form.Statement.{statement}
 use Rattle.read_start.proofs.items.queue_form.Tie as tie
 
-returns : tie.Need-returns
+returns : tie.Need-returns-in_default
 returns c =
-    let t = c.before.before in
-    let i = t.before.before in
-    rw (not-true i.before.before.args.tickets i.if1.true) (queue-none _ _ i.before.before.args.at (rw c.enum_told.given.1 at t.items-then.ensures))
+    let t = c in
+    let i = c in
+    rw (not-true i.args.tickets i.if-not-tickets.true) (queue-none _ _ i.args.at (rw c.in_default.is at t.items_then.ensures))
 
-returns-2 : tie.Need-returns-2
+returns-2 : tie.Need-returns-then-not-tickets
 returns-2 c =
-    let t = c.before.before.before in
-    let i = t.before.before in
-    rw (not-true i.before.before.args.tickets i.if1.true) (queue-alone _ _ i.before.before.args.at (rw c.before.alone.given.1 at t.items-then.ensures))
+    let t = c in
+    let i = c in
+    rw (not-true i.args.tickets i.if-not-tickets.true) (queue-alone _ _ i.args.at (rw c.in-Got.is at t.items_then.ensures))
 
-returns-3 : tie.Need-returns-3
+returns-3 : tie.Need-returns-in_default-items_then
 returns-3 c =
-    let t = c.before.before in
-    let i = t.before.before in
-    rw (not-false i.before.before.args.tickets i.if1.false) (queue-unread _ _ i.before.before.args.at (rw c.enum-told2.given.1 at t.items-then2.ensures))
+    let t = c in
+    let i = c in
+    rw (not-false i.args.tickets i.if-not-tickets.false) (queue-unread _ _ i.args.at (rw c.in_default-items_then.is at t.items_then-2.ensures))
 
-returns-4 : tie.Need-returns-4
+returns-4 : tie.Need-returns-in_default-last_form
 returns-4 c =
-    let l = c.before.before in
-    let g = l.before.before in
-    let t = g.before.before in
-    let i = t.before.before in
-    rw (not-false i.before.before.args.tickets i.if1.false)
-    (last-unread _ _ i.before.before.args.at (rw g.count.given.1 at t.items-then2.ensures) (told number_says _ l.last-form.ensures c.enum-told3.given.1))
+    let l = c in
+    let g = c in
+    let t = c in
+    let i = c in
+    rw (not-false i.args.tickets i.if-not-tickets.false)
+    (last-unread _ _ i.args.at (rw g.in-Got-items_then.is at t.items_then-2.ensures) (told number_says _ l.last_form.ensures c.in_default-last_form.is))
 
-returns-5 : tie.Need-returns-5
+returns-5 : tie.Need-returns
 returns-5 c =
-    let k = c.before in
-    let l = k.before.before in
-    let g = l.before.before in
-    let t = g.before.before in
-    let i = t.before.before in
-    rw (not-false i.before.before.args.tickets i.if1.false)
-    (queue-last _ _ i.before.before.args.at (rw g.count.given.1 at t.items-then2.ensures) (told number_says _ l.last-form.ensures k.last.given.1))
+    let k = c in
+    let l = c in
+    let g = c in
+    let t = c in
+    let i = c in
+    rw (not-false i.args.tickets i.if-not-tickets.false)
+    (queue-last _ _ i.args.at (rw g.in-Got-items_then.is at t.items_then-2.ensures) (told number_says _ l.last_form.ensures k.in-Got-last_form.is))
 
-pub queue-form-spec : {M : Type 1} → statement M
-queue-form-spec =
+pub queue_form_spec : {M : Type 1} → statement M
+queue_form_spec =
     tie.close
-    (tie.spec (λ c κs. search rules) (λ c. search rules) (λ c. search rules) returns returns-2
-    (λ c κs. search rules) (λ c. search rules) (λ c. search rules) returns-3
-    (λ c κs. search rules) (λ c. search rules) (λ c. search rules) returns-4 returns-5)
+    (tie.spec
+    (λ c κs. search rules) (λ c. search rules) (λ c. search rules) returns returns-2 (λ c κs. search rules) (λ c. search rules) (λ c. search rules)
+    returns-3 (λ c κs. search rules) (λ c. search rules) (λ c. search rules) returns-4 returns-5)

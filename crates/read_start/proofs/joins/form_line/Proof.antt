@@ -9,11 +9,12 @@ use borrow.Author.Rules.{rules}
 use Rattle.read_start.proofs.joins.form_line.Statement.{statement}
 use Rattle.read_start.proofs.joins.form_line.Tie as tie
 
-returns : tie.Need-returns
-returns c = (key-fault (bytes "connection=") (numbers_within 5 (limits.Four 32 16 32 16)) (told due_says _ c.before.before.past-key.ensures c.enum_told.given.1), tt)
+returns : tie.Need-returns-in_default
+returns c = (key-fault (bytes "connection=") (numbers_within 5 (limits.Four 32 16 32 16)) (told due_says _ c.past_key.ensures c.in_default.is), tt)
 
-returns-2 : tie.Need-returns-2
-returns-2 c = (key-then (bytes "connection=") (numbers_within 5 (limits.Four 32 16 32 16)) (told due_says _ c.before.before.before.before.past-key.ensures c.before.before.i.given.1) c.numbers-within.ensures, small-join _ c.numbers-within.result c.numbers-within.ensures)
+returns-2 : tie.Need-returns
+returns-2 c = (key-then (bytes "connection=") (numbers_within 5 (limits.Four 32 16 32 16)) (told due_says _ c.past_key.ensures c.in-Past.is) c.numbers_within.ensures, small-join _ c.numbers_within.result c.numbers_within.ensures)
 
-pub form-line-spec : {M : Type 1} → statement M
-form-line-spec = tie.close (tie.spec (λ c. search rules) (λ c κs. search rules) (λ c. search rules) (λ c. search rules) returns (λ c κs. search rules) returns-2)
+pub form_line_spec : {M : Type 1} → statement M
+form_line_spec = tie.close (tie.spec
+    (λ c κs. search rules) (λ c. search rules) (λ c. search rules) returns (λ c κs. search rules) returns-2)

@@ -7,5 +7,6 @@ returns : tie.Need-returns
 unfolding queue_room
 returns c = search rules
 
-pub queue-room-spec : {M : Type 1} → statement M
-queue-room-spec = tie.close (tie.spec (λ c κs. search rules) (λ c. search rules) (λ c κs. search rules) returns)
+pub queue_room_spec : {M : Type 1} → statement M
+queue_room_spec = tie.close (tie.spec
+    (λ c κs. search rules) (λ c. search rules) (λ c κs. search rules) returns)

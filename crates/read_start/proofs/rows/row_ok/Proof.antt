@@ -8,16 +8,17 @@ use Rattle.read_start.proofs.rows.row_ok.Tie as tie
 returns : tie.Need-returns
 unfolding row_passes
 returns c =
-    let a = c.before.before.before.before.before.before.before.before.before.before.before.args in
+    let a = c.args in
     rw (
-      c.items-ok.ensures,
-      c.before.behaviors-of.ensures,
-      c.before.before.queue-room.ensures,
-      c.before.before.before.before.before.before.places_of.ensures,
-      c.before.before.before.before.before.before.before.types.ensures,
-      c.before.before.before.before.before.before.before.before.before.transitions-of.ensures,
+      c.items_ok.ensures,
+      c.behaviors_of.ensures,
+      c.queue_room.ensures,
+      c.places_of.ensures,
+      c.types.ensures,
+      c.transitions_of-n.ensures,
       leb-suc-suc a.row.id 31,
     )
 
-pub row-ok-spec : {M : Type 1} → statement M
-row-ok-spec = tie.close (tie.spec (λ c κs. search rules) (λ c κs. search rules) (λ c κs. search rules) (λ c κs. search rules) (λ c κs. search rules) (λ c κs. search rules) returns)
+pub row_ok_spec : {M : Type 1} → statement M
+row_ok_spec = tie.close (tie.spec
+    (λ c κs. search rules) (λ c κs. search rules) (λ c κs. search rules) (λ c κs. search rules) (λ c κs. search rules) (λ c κs. search rules) returns)

@@ -9,10 +9,11 @@ use Rattle.read_start.proofs.rows.with_row.Tie as tie
 returns : tie.Need-returns
 unfolding with_row placed
 returns c =
-    let p = c.before.before in
-    let q = p.before.before.before in
-    let a = q.before.before in
-    (λ few. p.put-sets.ensures ∙ rw (q.push-all.ensures few (rw a.add-to.ensures (added-empty _ _ _ _)), a.add-to.ensures), c.put-begun-last.ensures)
+    let p = c in
+    let q = c in
+    let a = c in
+    (λ few. p.put_sets.ensures ∙ rw (q.push_all.ensures few (rw a.add_to.ensures (added-empty _ _ _ _)), a.add_to.ensures), c.put_begun_last.ensures)
 
-pub with-row-spec : {M : Type 1} → statement M
-with-row-spec = tie.close (tie.spec (λ c κs. search rules) (λ c κs. search rules) (λ c κs. search rules) (λ c κs. search rules) returns)
+pub with_row_spec : {M : Type 1} → statement M
+with_row_spec = tie.close (tie.spec
+    (λ c κs. search rules) (λ c κs. search rules) (λ c κs. search rules) (λ c κs. search rules) returns)

@@ -3,5 +3,6 @@ use borrow.Author.Rules.{rules}
 use Rattle.step_instructions.proofs.tickets.adds.Statement.{statement}
 use Rattle.step_instructions.proofs.tickets.adds.Tie as tie
 
-pub adds-spec : {M : Type 1} → statement M
-adds-spec = tie.close (tie.spec (λ c. refl))
+pub adds_spec : {M : Type 1} → statement M
+adds_spec = tie.close (tie.spec
+    (λ c. refl))

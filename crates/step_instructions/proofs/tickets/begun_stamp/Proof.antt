@@ -4,7 +4,8 @@ use Rattle.step_instructions.proofs.tickets.begun_stamp.Statement.{statement}
 use Rattle.step_instructions.proofs.tickets.begun_stamp.Tie as tie
 
 returns : tie.Need-returns
-returns c = rw c.begun-slot.ensures
+returns c = rw c.begun_slot.ensures
 
-pub begun-stamp-spec : {M : Type 1} → statement M
-begun-stamp-spec = tie.close (tie.spec (λ c. search rules) (λ c. search rules) (λ c κs. search rules) returns)
+pub begun_stamp_spec : {M : Type 1} → statement M
+begun_stamp_spec = tie.close (tie.spec
+    (λ c. search rules) (λ c. search rules) (λ c κs. search rules) returns)

@@ -10,44 +10,46 @@ use borrow.Author.Rules.{rules}
 use Rattle.step_instructions.proofs.tickets.begun_tail.Statement.{statement}
 use Rattle.step_instructions.proofs.tickets.begun_tail.Tie as tie
 
-abbrev invariant-loop : tie.invariant-loop
+abbrev invariant-loop : tie.invariant-loop-r
 invariant-loop begun i last₀ r₀ last r =
     (r ≤ 8) × ((program : List ℕ) → last_from last (from (slots (program_from program begun) i) r) ≡ last_stamp (begun_to (program_from program begun) i))
 
-abbrev decreases-loop : tie.decreases-loop
+abbrev decreases-loop : tie.decreases-loop-r
 decreases-loop begun i last₀ r₀ last r = 8 - r
 
-loop-holds : tie.Need-loop-init invariant-loop decreases-loop
-loop-holds c = (search rules, λ program. rw c.begun-last.ensures (tail-is _ _))
+loop-holds : tie.Need-loop-r-init invariant-loop decreases-loop
+loop-holds c = (search rules, λ program. rw c.begun_last-last.ensures (tail-is _ _))
 
-returns : tie.Need-returns invariant-loop decreases-loop
+returns : tie.Need-returns-then-stamp-eq0 invariant-loop decreases-loop
 returns c = λ program.
-    let s = c.before in
-    let l = s.before.before in
-    let a = l.before.before.before.args in
-    sym (ap (last_from l.loop.last) (from-none (slots (program_from program a.begun.now) a.i) l.loop.r s.before.loop-test.true (sym s.begun-stamp.ensures ∙ c.if1.true)))
-    ∙ l.loop.invariant.1 program
+    let s = c in
+    let l = c in
+    let a = c.args in
+    sym (ap (last_from l.loop-r.last) (from-none (slots (program_from program a.begun.now) a.i) l.loop-r.r s.loop-r-test.true (sym s.begun_stamp-stamp.ensures ∙ c.if-stamp-eq0.true)))
+    ∙ l.loop-r.invariant.1 program
 
-loop-again : tie.Need-loop-preserved invariant-loop decreases-loop
+loop-again : tie.Need-loop-r-preserved invariant-loop decreases-loop
 loop-again c =
-    let s = c.before in
-    let l = s.before.before in
-    let a = l.before.before.before.args in (
+    let s = c in
+    let l = c in
+    let a = c.args in (
       search rules,
       λ program.
           let f = slots (program_from program a.begun.now) a.i in
-          rw s.begun-stamp.ensures
-          (sym (ap (last_from l.loop.last) (from_more f l.loop.r s.before.loop-test.true (λ z. c.if1.false (s.begun-stamp.ensures ∙ z))) ∙ last_more l.loop.last (f l.loop.r) _)
-          ∙ l.loop.invariant.1 program),
+          rw s.begun_stamp-stamp.ensures
+          (sym (ap (last_from l.loop-r.last) (from_more f l.loop-r.r s.loop-r-test.true (λ z. c.if-stamp-eq0.false (s.begun_stamp-stamp.ensures ∙ z))) ∙ last_more l.loop-r.last (f l.loop-r.r) _)
+          ∙ l.loop-r.invariant.1 program),
     )
 
-returns-2 : tie.Need-returns-2 invariant-loop decreases-loop
+returns-2 : tie.Need-returns invariant-loop decreases-loop
 returns-2 c = λ program.
-    let l = c.before in
-    let a = l.before.before.before.args in
-    sym (ap (last_from l.loop.last) (from_end (slots (program_from program a.begun.now) a.i) l.loop.r (omega (arith, c.loop-test.false)))) ∙ l.loop.invariant.1 program
+    let l = c in
+    let a = c.args in
+    sym (ap (last_from l.loop-r.last) (from_end (slots (program_from program a.begun.now) a.i) l.loop-r.r (omega (arith, c.loop-r-test.false)))) ∙ l.loop-r.invariant.1 program
 
-pub begun-tail-spec : {M : Type 1} → statement M
-begun-tail-spec =
+pub begun_tail_spec : {M : Type 1} → statement M
+begun_tail_spec =
     tie.close
-    (tie.spec invariant-loop decreases-loop (λ c κs. search rules) loop-holds (λ c κs. search rules) returns (λ c. search rules) (λ c. search rules) loop-again returns-2)
+    (tie.spec
+    invariant-loop decreases-loop (λ c κs. search rules) loop-holds (λ c κs. search rules) returns (λ c. search rules) (λ c. search rules) loop-again
+    returns-2)

@@ -3,5 +3,6 @@ use borrow.Author.Rules.{rules}
 use Rattle.step_instructions.proofs.tickets.pushes.Statement.{statement}
 use Rattle.step_instructions.proofs.tickets.pushes.Tie as tie
 
-pub pushes-spec : {M : Type 1} → statement M
-pushes-spec = tie.close (tie.spec (λ c. refl))
+pub pushes_spec : {M : Type 1} → statement M
+pushes_spec = tie.close (tie.spec
+    (λ c. refl))

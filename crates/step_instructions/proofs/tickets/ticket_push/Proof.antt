@@ -7,13 +7,14 @@ use borrow.Author.Rules.{rules}
 use Rattle.step_instructions.proofs.tickets.ticket_push.Statement.{statement}
 use Rattle.step_instructions.proofs.tickets.ticket_push.Tie as tie
 
-returns : tie.Need-returns
-returns c = held _ (ticket_push (said c.before.before.before.args.line)) (omega arith) c.if1.true
+returns : tie.Need-returns-then-s-lt4294967296
+returns c = held _ (ticket_push (said c.args.line)) (omega arith) c.if-s-lt4294967296.true
 
-returns-2 : tie.Need-returns-2
+returns-2 : tie.Need-returns-else-s-lt4294967296
 returns-2 c =
-    let x = c.before.before.before.args.line in
-    not-held ((x.provider + 1) * 8 + x.number) (ticket_push (said x)) (omega arith) c.if1.false
+    let x = c.args.line in
+    not-held ((x.provider + 1) * 8 + x.number) (ticket_push (said x)) (omega arith) c.if-s-lt4294967296.false
 
-pub ticket-push-spec : {M : Type 1} → statement M
-ticket-push-spec = tie.close (tie.spec (λ c. search rules) (λ c. search rules) (λ c. search rules) (λ c. search rules) (λ c. search rules) (λ c. search rules) returns returns-2)
+pub ticket_push_spec : {M : Type 1} → statement M
+ticket_push_spec = tie.close (tie.spec
+    (λ c. search rules) (λ c. search rules) (λ c. search rules) (λ c. search rules) (λ c. search rules) (λ c. search rules) returns returns-2)

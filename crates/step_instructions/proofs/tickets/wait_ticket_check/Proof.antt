@@ -6,8 +6,9 @@ use Rattle.step_instructions.proofs.tickets.wait_ticket_check.Tie as tie
 
 returns : tie.Need-returns
 returns c =
-    let w = c.before in
-    c.wait-one-check.ensures ∙ rw (w.was-pushed.ensures, add-one)
+    let w = c in
+    c.wait_one_check.ensures ∙ rw (w.was_pushed-made.ensures, add-one)
 
-pub wait-ticket-check-spec : {M : Type 1} → statement M
-wait-ticket-check-spec = tie.close (tie.spec (λ c κs. search rules) (λ c κs. search rules) returns)
+pub wait_ticket_check_spec : {M : Type 1} → statement M
+wait_ticket_check_spec = tie.close (tie.spec
+    (λ c κs. search rules) (λ c κs. search rules) returns)

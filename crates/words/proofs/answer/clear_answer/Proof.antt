@@ -5,5 +5,6 @@ use Rattle.words.proofs.answer.clear_answer.Tie as tie
 returns : tie.Need-returns
 returns c = no_answer_is
 
-pub clear-answer-spec : {M : Type 1} → statement M
-clear-answer-spec = tie.close (tie.spec returns)
+pub clear_answer_spec : {M : Type 1} → statement M
+clear_answer_spec = tie.close (tie.spec
+    returns)

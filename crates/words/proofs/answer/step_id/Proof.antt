@@ -8,5 +8,6 @@ use Rattle.words.proofs.answer.step_id.Tie as tie
 returns : tie.Need-returns
 returns c = c.cell.ensures ∙ sym (step-at _ _ (λ (x : Step). x.id) refl)
 
-pub step-id-spec : {M : Type 1} → statement M
-step-id-spec = tie.close (tie.spec (λ c κs. search rules) returns)
+pub step_id_spec : {M : Type 1} → statement M
+step_id_spec = tie.close (tie.spec
+    (λ c κs. search rules) returns)

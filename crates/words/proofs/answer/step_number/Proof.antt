@@ -8,5 +8,6 @@ use Rattle.words.proofs.answer.step_number.Tie as tie
 returns : tie.Need-returns
 returns c = c.cell.ensures ∙ sym (step-at _ _ (λ (x : Step). x.number) refl)
 
-pub step-number-spec : {M : Type 1} → statement M
-step-number-spec = tie.close (tie.spec (λ c κs. search rules) returns)
+pub step_number_spec : {M : Type 1} → statement M
+step_number_spec = tie.close (tie.spec
+    (λ c κs. search rules) returns)

@@ -8,5 +8,6 @@ use Rattle.words.proofs.answer.step_verb.Tie as tie
 returns : tie.Need-returns
 returns c = c.cell.ensures ∙ sym (step-at _ _ (λ (x : Step). x.verb) refl)
 
-pub step-verb-spec : {M : Type 1} → statement M
-step-verb-spec = tie.close (tie.spec (λ c κs. search rules) returns)
+pub step_verb_spec : {M : Type 1} → statement M
+step_verb_spec = tie.close (tie.spec
+    (λ c κs. search rules) returns)

@@ -7,5 +7,6 @@ use Rattle.words.proofs.begun.begun_last.Tie as tie
 returns : tie.Need-returns
 returns c = c.cell.ensures ∙ sym (begun-last-at _ _)
 
-pub begun-last-spec : {M : Type 1} → statement M
-begun-last-spec = tie.close (tie.spec (λ c κs. search rules) returns)
+pub begun_last_spec : {M : Type 1} → statement M
+begun_last_spec = tie.close (tie.spec
+    (λ c κs. search rules) returns)

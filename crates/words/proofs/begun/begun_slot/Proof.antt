@@ -7,5 +7,6 @@ use Rattle.words.proofs.begun.begun_slot.Tie as tie
 returns : tie.Need-returns
 returns c = c.cell.ensures ∙ sym (begun-slot-at _ _)
 
-pub begun-slot-spec : {M : Type 1} → statement M
-begun-slot-spec = tie.close (tie.spec (λ c κs. search rules) returns)
+pub begun_slot_spec : {M : Type 1} → statement M
+begun_slot_spec = tie.close (tie.spec
+    (λ c κs. search rules) returns)

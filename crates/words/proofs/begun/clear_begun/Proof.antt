@@ -5,5 +5,6 @@ use Rattle.words.proofs.begun.clear_begun.Tie as tie
 returns : tie.Need-returns
 returns c = none-begun 288
 
-pub clear-begun-spec : {M : Type 1} → statement M
-clear-begun-spec = tie.close (tie.spec returns)
+pub clear_begun_spec : {M : Type 1} → statement M
+clear_begun_spec = tie.close (tie.spec
+    returns)

@@ -5,5 +5,6 @@ use Rattle.words.proofs.program.clear_program.Tie as tie
 returns : tie.Need-returns
 returns c = no_program_is
 
-pub clear-program-spec : {M : Type 1} → statement M
-clear-program-spec = tie.close (tie.spec returns)
+pub clear_program_spec : {M : Type 1} → statement M
+clear_program_spec = tie.close (tie.spec
+    returns)

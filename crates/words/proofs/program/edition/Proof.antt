@@ -8,5 +8,6 @@ returns : tie.Need-returns
 unfolding program_in
 returns c = refl
 
-pub edition-spec : {M : Type 1} → statement M
-edition-spec = tie.close (tie.spec (λ c. search rules) returns)
+pub edition_spec : {M : Type 1} → statement M
+edition_spec = tie.close (tie.spec
+    (λ c. search rules) returns)

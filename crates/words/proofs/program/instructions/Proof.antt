@@ -8,5 +8,6 @@ returns : tie.Need-returns
 unfolding program_in
 returns c = refl
 
-pub instructions-spec : {M : Type 1} → statement M
-instructions-spec = tie.close (tie.spec (λ c. search rules) returns)
+pub instructions_spec : {M : Type 1} → statement M
+instructions_spec = tie.close (tie.spec
+    (λ c. search rules) returns)

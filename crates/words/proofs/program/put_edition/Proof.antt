@@ -4,7 +4,8 @@ use Rattle.words.proofs.program.put_edition.Statement.{statement}
 use Rattle.words.proofs.program.put_edition.Tie as tie
 
 returns : tie.Need-returns
-returns c = rw c.put_word.ensures (program-edition _ _ c.before.put-word-arg.given.0.1)
+returns c = rw c.put_word.ensures (program-edition _ _ c.put_word-arg-1.given.0.1)
 
-pub put-edition-spec : {M : Type 1} → statement M
-put-edition-spec = tie.close (tie.spec (λ c κs. search rules) returns)
+pub put_edition_spec : {M : Type 1} → statement M
+put_edition_spec = tie.close (tie.spec
+    (λ c κs. search rules) returns)

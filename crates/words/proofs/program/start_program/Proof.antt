@@ -6,7 +6,8 @@ use Rattle.words.proofs.program.start_program.Tie as tie
 
 returns : tie.Need-returns
 unfolding program_of no_program
-returns c = rw (c.put-edition.ensures, c.before.before.put-instructions.ensures, c.before.before.before.before.clear-program.ensures)
+returns c = rw (c.put_edition.ensures, c.put_instructions.ensures, c.clear_program.ensures)
 
-pub start-program-spec : {M : Type 1} → statement M
-start-program-spec = tie.close (tie.spec (λ c κs. search rules) (λ c κs. search rules) (λ c κs. search rules) returns)
+pub start_program_spec : {M : Type 1} → statement M
+start_program_spec = tie.close (tie.spec
+    (λ c κs. search rules) (λ c κs. search rules) (λ c κs. search rules) returns)

@@ -5,5 +5,6 @@ use Rattle.words.proofs.state.clear_state.Tie as tie
 returns : tie.Need-returns
 returns c = start-in
 
-pub clear-state-spec : {M : Type 1} → statement M
-clear-state-spec = tie.close (tie.spec returns)
+pub clear_state_spec : {M : Type 1} → statement M
+clear_state_spec = tie.close (tie.spec
+    returns)

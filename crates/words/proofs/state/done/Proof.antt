@@ -8,5 +8,6 @@ returns : tie.Need-returns
 unfolding state_in
 returns c = refl
 
-pub done-spec : {M : Type 1} → statement M
-done-spec = tie.close (tie.spec (λ c. search rules) returns)
+pub done_spec : {M : Type 1} → statement M
+done_spec = tie.close (tie.spec
+    (λ c. search rules) returns)

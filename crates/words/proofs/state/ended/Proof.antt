@@ -8,5 +8,6 @@ use Rattle.words.proofs.state.ended.Tie as tie
 returns : tie.Need-returns
 returns c = c.cell.ensures ∙ sym (instance-at _ _ (λ (v : Instance). v.ended) refl)
 
-pub ended-spec : {M : Type 1} → statement M
-ended-spec = tie.close (tie.spec (λ c κs. search rules) returns)
+pub ended_spec : {M : Type 1} → statement M
+ended_spec = tie.close (tie.spec
+    (λ c κs. search rules) returns)

@@ -8,5 +8,6 @@ use Rattle.words.proofs.state.kind.Tie as tie
 returns : tie.Need-returns
 returns c = c.cell.ensures ∙ sym (instance-at _ _ (λ (v : Instance). v.kind) refl)
 
-pub kind-spec : {M : Type 1} → statement M
-kind-spec = tie.close (tie.spec (λ c κs. search rules) returns)
+pub kind_spec : {M : Type 1} → statement M
+kind_spec = tie.close (tie.spec
+    (λ c κs. search rules) returns)

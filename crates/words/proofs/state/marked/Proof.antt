@@ -8,5 +8,6 @@ use Rattle.words.proofs.state.marked.Tie as tie
 returns : tie.Need-returns
 returns c = c.cell.ensures ∙ sym (instance-at _ _ (λ (v : Instance). v.marked) refl)
 
-pub marked-spec : {M : Type 1} → statement M
-marked-spec = tie.close (tie.spec (λ c κs. search rules) returns)
+pub marked_spec : {M : Type 1} → statement M
+marked_spec = tie.close (tie.spec
+    (λ c κs. search rules) returns)

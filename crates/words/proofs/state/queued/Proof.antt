@@ -8,5 +8,6 @@ use Rattle.words.proofs.state.queued.Tie as tie
 returns : tie.Need-returns
 returns c = c.cell.ensures ∙ sym (instance-at _ _ (λ (v : Instance). v.queued) refl)
 
-pub queued-spec : {M : Type 1} → statement M
-queued-spec = tie.close (tie.spec (λ c κs. search rules) returns)
+pub queued_spec : {M : Type 1} → statement M
+queued_spec = tie.close (tie.spec
+    (λ c κs. search rules) returns)

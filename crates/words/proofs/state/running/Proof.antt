@@ -8,5 +8,6 @@ use Rattle.words.proofs.state.running.Tie as tie
 returns : tie.Need-returns
 returns c = c.cell.ensures ∙ sym (instance-at _ _ (λ (v : Instance). v.running) refl)
 
-pub running-spec : {M : Type 1} → statement M
-running-spec = tie.close (tie.spec (λ c κs. search rules) returns)
+pub running_spec : {M : Type 1} → statement M
+running_spec = tie.close (tie.spec
+    (λ c κs. search rules) returns)

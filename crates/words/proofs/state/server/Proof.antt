@@ -7,5 +7,6 @@ use Rattle.words.proofs.state.server.Tie as tie
 returns : tie.Need-returns
 returns c = c.cell.ensures ∙ sym (server-at _ _)
 
-pub server-spec : {M : Type 1} → statement M
-server-spec = tie.close (tie.spec (λ c κs. search rules) returns)
+pub server_spec : {M : Type 1} → statement M
+server_spec = tie.close (tie.spec
+    (λ c κs. search rules) returns)

@@ -7,5 +7,6 @@ use Rattle.words.proofs.state.slot_at.Tie as tie
 returns : tie.Need-returns
 returns c = c.cell.ensures ∙ sym (slot_at _ _)
 
-pub slot-at-spec : {M : Type 1} → statement M
-slot-at-spec = tie.close (tie.spec (λ c κs. search rules) returns)
+pub slot_at_spec : {M : Type 1} → statement M
+slot_at_spec = tie.close (tie.spec
+    (λ c κs. search rules) returns)

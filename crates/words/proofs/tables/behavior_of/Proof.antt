@@ -8,7 +8,8 @@ use Rattle.words.proofs.tables.behavior_of.Tie as tie
 
 returns : tie.Need-returns
 unfolding tables_in
-returns c = let s = c.before.before.args in c.cell.ensures ∙ sym (column-at s.tables.now 1792 128 1 0 (s.k * 8 + s.b))
+returns c = let s = c.args in c.cell.ensures ∙ sym (column-at s.tables.now 1792 128 1 0 (s.k * 8 + s.b))
 
-pub behavior-of-spec : {M : Type 1} → statement M
-behavior-of-spec = tie.close (tie.spec (λ c. search rules) (λ c. search rules) (λ c κs. search rules) returns)
+pub behavior_of_spec : {M : Type 1} → statement M
+behavior_of_spec = tie.close (tie.spec
+    (λ c. search rules) (λ c. search rules) (λ c κs. search rules) returns)

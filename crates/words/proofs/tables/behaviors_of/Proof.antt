@@ -8,5 +8,6 @@ use Rattle.words.proofs.tables.behaviors_of.Tie as tie
 returns : tie.Need-returns
 returns c = c.cell.ensures ∙ sym (type_at _ _ (λ (x : ComponentType). x.behaviors) refl)
 
-pub behaviors-of-spec : {M : Type 1} → statement M
-behaviors-of-spec = tie.close (tie.spec (λ c κs. search rules) returns)
+pub behaviors_of_spec : {M : Type 1} → statement M
+behaviors_of_spec = tie.close (tie.spec
+    (λ c κs. search rules) returns)

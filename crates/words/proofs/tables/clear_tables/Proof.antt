@@ -5,5 +5,6 @@ use Rattle.words.proofs.tables.clear_tables.Tie as tie
 returns : tie.Need-returns
 returns c = no-tables
 
-pub clear-tables-spec : {M : Type 1} → statement M
-clear-tables-spec = tie.close (tie.spec returns)
+pub clear_tables_spec : {M : Type 1} → statement M
+clear_tables_spec = tie.close (tie.spec
+    returns)

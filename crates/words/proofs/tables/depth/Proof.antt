@@ -8,5 +8,6 @@ returns : tie.Need-returns
 unfolding tables_in
 returns c = refl
 
-pub depth-spec : {M : Type 1} → statement M
-depth-spec = tie.close (tie.spec (λ c. search rules) returns)
+pub depth_spec : {M : Type 1} → statement M
+depth_spec = tie.close (tie.spec
+    (λ c. search rules) returns)

@@ -8,7 +8,8 @@ use Rattle.words.proofs.tables.destination.Tie as tie
 
 returns : tie.Need-returns
 unfolding tables_in
-returns c = let s = c.before.before.args in c.cell.ensures ∙ sym (column-at s.tables.now 0 512 2 1 (s.k * 32 + s.x))
+returns c = let s = c.args in c.cell.ensures ∙ sym (column-at s.tables.now 0 512 2 1 (s.k * 32 + s.x))
 
-pub destination-spec : {M : Type 1} → statement M
-destination-spec = tie.close (tie.spec (λ c. search rules) (λ c. search rules) (λ c κs. search rules) returns)
+pub destination_spec : {M : Type 1} → statement M
+destination_spec = tie.close (tie.spec
+    (λ c. search rules) (λ c. search rules) (λ c κs. search rules) returns)

@@ -8,7 +8,8 @@ use Rattle.words.proofs.tables.group_places.Tie as tie
 
 returns : tie.Need-returns
 unfolding tables_in
-returns c = let s = c.before.before.args in c.cell.ensures ∙ sym (column-at s.tables.now 1024 256 3 1 (s.k * 16 + s.q))
+returns c = let s = c.args in c.cell.ensures ∙ sym (column-at s.tables.now 1024 256 3 1 (s.k * 16 + s.q))
 
-pub group-places-spec : {M : Type 1} → statement M
-group-places-spec = tie.close (tie.spec (λ c. search rules) (λ c. search rules) (λ c κs. search rules) returns)
+pub group_places_spec : {M : Type 1} → statement M
+group_places_spec = tie.close (tie.spec
+    (λ c. search rules) (λ c. search rules) (λ c κs. search rules) returns)

@@ -8,7 +8,8 @@ use Rattle.words.proofs.tables.group_transitions.Tie as tie
 
 returns : tie.Need-returns
 unfolding tables_in
-returns c = let s = c.before.before.args in c.cell.ensures ∙ sym (column-at s.tables.now 1024 256 3 2 (s.k * 16 + s.q))
+returns c = let s = c.args in c.cell.ensures ∙ sym (column-at s.tables.now 1024 256 3 2 (s.k * 16 + s.q))
 
-pub group-transitions-spec : {M : Type 1} → statement M
-group-transitions-spec = tie.close (tie.spec (λ c. search rules) (λ c. search rules) (λ c κs. search rules) returns)
+pub group_transitions_spec : {M : Type 1} → statement M
+group_transitions_spec = tie.close (tie.spec
+    (λ c. search rules) (λ c. search rules) (λ c κs. search rules) returns)

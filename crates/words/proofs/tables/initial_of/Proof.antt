@@ -8,5 +8,6 @@ use Rattle.words.proofs.tables.initial_of.Tie as tie
 returns : tie.Need-returns
 returns c = c.cell.ensures ∙ sym (type_at _ _ (λ (x : ComponentType). x.initial) refl)
 
-pub initial-of-spec : {M : Type 1} → statement M
-initial-of-spec = tie.close (tie.spec (λ c κs. search rules) returns)
+pub initial_of_spec : {M : Type 1} → statement M
+initial_of_spec = tie.close (tie.spec
+    (λ c κs. search rules) returns)

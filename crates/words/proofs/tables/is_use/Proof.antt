@@ -6,7 +6,8 @@ use Rattle.words.proofs.tables.is_use.Statement.{statement}
 use Rattle.words.proofs.tables.is_use.Tie as tie
 
 returns : tie.Need-returns
-returns c = ap (λ (x : ℕ). eqb x 1) c.port-kind.ensures
+returns c = ap (λ (x : ℕ). eqb x 1) c.port_kind.ensures
 
-pub is-use-spec : {M : Type 1} → statement M
-is-use-spec = tie.close (tie.spec (λ c κs. search rules) returns)
+pub is_use_spec : {M : Type 1} → statement M
+is_use_spec = tie.close (tie.spec
+    (λ c κs. search rules) returns)

@@ -8,5 +8,6 @@ use Rattle.words.proofs.tables.places_of.Tie as tie
 returns : tie.Need-returns
 returns c = c.cell.ensures ∙ sym (type_at _ _ (λ (x : ComponentType). x.places) refl)
 
-pub places-of-spec : {M : Type 1} → statement M
-places-of-spec = tie.close (tie.spec (λ c κs. search rules) returns)
+pub places_of_spec : {M : Type 1} → statement M
+places_of_spec = tie.close (tie.spec
+    (λ c κs. search rules) returns)

@@ -8,7 +8,8 @@ use Rattle.words.proofs.tables.port_kind.Tie as tie
 
 returns : tie.Need-returns
 unfolding tables_in
-returns c = let s = c.before.before.args in c.cell.ensures ∙ sym (column-at s.tables.now 1024 256 3 0 (s.k * 16 + s.q))
+returns c = let s = c.args in c.cell.ensures ∙ sym (column-at s.tables.now 1024 256 3 0 (s.k * 16 + s.q))
 
-pub port-kind-spec : {M : Type 1} → statement M
-port-kind-spec = tie.close (tie.spec (λ c. search rules) (λ c. search rules) (λ c κs. search rules) returns)
+pub port_kind_spec : {M : Type 1} → statement M
+port_kind_spec = tie.close (tie.spec
+    (λ c. search rules) (λ c. search rules) (λ c κs. search rules) returns)

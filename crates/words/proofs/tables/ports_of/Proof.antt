@@ -8,5 +8,6 @@ use Rattle.words.proofs.tables.ports_of.Tie as tie
 returns : tie.Need-returns
 returns c = c.cell.ensures ∙ sym (type_at _ _ (λ (x : ComponentType). x.ports) refl)
 
-pub ports-of-spec : {M : Type 1} → statement M
-ports-of-spec = tie.close (tie.spec (λ c κs. search rules) returns)
+pub ports_of_spec : {M : Type 1} → statement M
+ports_of_spec = tie.close (tie.spec
+    (λ c κs. search rules) returns)

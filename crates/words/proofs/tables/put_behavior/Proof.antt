@@ -4,7 +4,8 @@ use Rattle.words.proofs.tables.put_behavior.Statement.{statement}
 use Rattle.words.proofs.tables.put_behavior.Tie as tie
 
 returns : tie.Need-returns
-returns c = rw c.put-row.ensures (behavior-put _ c.before.before.put-row-arg.given.0.1 _ _)
+returns c = rw c.put_row.ensures (behavior-put _ c.put_row-arg-1.given.0.1 _ _)
 
-pub put-behavior-spec : {M : Type 1} → statement M
-put-behavior-spec = tie.close (tie.spec (λ c. search rules) (λ c κs. search rules) returns)
+pub put_behavior_spec : {M : Type 1} → statement M
+put_behavior_spec = tie.close (tie.spec
+    (λ c. search rules) (λ c κs. search rules) returns)

@@ -6,7 +6,8 @@ use Rattle.words.proofs.tables.start_tables.Tie as tie
 
 returns : tie.Need-returns
 unfolding headed no_tables
-returns c = rw (c.put-head.ensures, c.before.before.clear-tables.ensures)
+returns c = rw (c.put_head.ensures, c.clear_tables.ensures)
 
-pub start-tables-spec : {M : Type 1} → statement M
-start-tables-spec = tie.close (tie.spec (λ c κs. search rules) (λ c κs. search rules) returns)
+pub start_tables_spec : {M : Type 1} → statement M
+start_tables_spec = tie.close (tie.spec
+    (λ c κs. search rules) (λ c κs. search rules) returns)

@@ -8,5 +8,6 @@ use Rattle.words.proofs.tables.transitions_of.Tie as tie
 returns : tie.Need-returns
 returns c = c.cell.ensures ∙ sym (type_at _ _ (λ (x : ComponentType). x.transitions) refl)
 
-pub transitions-of-spec : {M : Type 1} → statement M
-transitions-of-spec = tie.close (tie.spec (λ c κs. search rules) returns)
+pub transitions_of_spec : {M : Type 1} → statement M
+transitions_of_spec = tie.close (tie.spec
+    (λ c κs. search rules) returns)

@@ -8,5 +8,6 @@ returns : tie.Need-returns
 unfolding tables_in
 returns c = refl
 
-pub types-spec : {M : Type 1} → statement M
-types-spec = tie.close (tie.spec (λ c. search rules) returns)
+pub types_spec : {M : Type 1} → statement M
+types_spec = tie.close (tie.spec
+    (λ c. search rules) returns)

@@ -4,6 +4,7 @@ use borrow.Author.Rules.{rules}
 use Rattle.write_lines.proofs.faults.edition_fault.Statement.{statement}
 use Rattle.write_lines.proofs.faults.edition_fault.Tie as tie
 
-pub edition-fault-spec : {M : Type 1} → statement M
+pub edition_fault_spec : {M : Type 1} → statement M
 unfolding edition_fault
-edition-fault-spec = tie.close (tie.spec (λ c κs. search rules) (λ c. c.refuse-if.ensures))
+edition_fault_spec = tie.close (tie.spec
+    (λ c κs. search rules) (λ c. c.refuse_if.ensures))

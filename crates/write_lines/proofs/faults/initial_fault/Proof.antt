@@ -6,9 +6,10 @@ use borrow.Author.Rules.{rules}
 use Rattle.write_lines.proofs.faults.initial_fault.Statement.{statement}
 use Rattle.write_lines.proofs.faults.initial_fault.Tie as tie
 
-pub initial-fault-spec : {M : Type 1} → statement M
+pub initial_fault_spec : {M : Type 1} → statement M
 unfolding initial_fault
-initial-fault-spec =
+initial_fault_spec =
     tie.close
-    (tie.spec (λ c κs. search rules) (λ c κs. search rules) (λ c κs. search rules)
-    (λ c. c.refuse-if2.ensures ∙ rw (c.before.mask-ok.ensures, c.before.before.refuse-if.ensures, not-not (eqb c.before.before.before.args.initial 0))))
+    (tie.spec
+    (λ c κs. search rules) (λ c κs. search rules) (λ c κs. search rules)
+    (λ c. c.refuse_if.ensures ∙ rw (c.mask_ok-ok.ensures, c.refuse_if-empty.ensures, not-not (eqb c.args.initial 0))))

@@ -9,9 +9,9 @@ use borrow.Author.Rules.{rules}
 use Rattle.write_lines.proofs.faults.mask_ok.Statement.{statement}
 use Rattle.write_lines.proofs.faults.mask_ok.Tie as tie
 
-pub mask-ok-spec : {M : Type 1} → statement M
-mask-ok-spec =
+pub mask_ok_spec : {M : Type 1} → statement M
+mask_ok_spec =
     tie.close
-    (tie.spec (λ c. search rules)
-    (λ c. ap (ltb c.before.args.m) (shl_exact 1 c.before.args.n 32 (omega arith) (omega (arith, c.if1.true)) ∙ one-mul (2 ^ c.before.args.n)))
-    (λ c. sym (lt-ltb _ _ (lt_of_lt_of_le c.before.ranges.m.fits (pow_mono {j = c.before.args.n} c.if1.false)))))
+    (tie.spec
+    (λ c. search rules) (λ c. ap (ltb c.args.m) (shl_exact 1 c.args.n 32 (omega arith) (omega (arith, c.if-n-lt32.true)) ∙ one-mul (2 ^ c.args.n)))
+    (λ c. sym (lt-ltb _ _ (lt_of_lt_of_le c.ranges.m.fits (pow_mono {j = c.args.n} c.if-n-lt32.false)))))

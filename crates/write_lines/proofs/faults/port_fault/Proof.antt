@@ -6,10 +6,10 @@ use borrow.Author.Rules.{rules}
 use Rattle.write_lines.proofs.faults.port_fault.Statement.{statement}
 use Rattle.write_lines.proofs.faults.port_fault.Tie as tie
 
-pub port-fault-spec : {M : Type 1} → statement M
+pub port_fault_spec : {M : Type 1} → statement M
 unfolding port_fault
-port-fault-spec =
+port_fault_spec =
     tie.close
-    (tie.spec (λ c κs. search rules) (λ c κs. search rules) (λ c κs. search rules) (λ c κs. search rules) (λ c κs. search rules)
-    (λ c κs. search rules)
-    (λ c. c.refuse-if3.ensures ∙ rw (c.before.before.refuse-if2.ensures, c.before.before.before.before.before.refuse-if.ensures, c.before.before.before.before.mask-ok.ensures, c.before.before.before.mask-ok2.ensures, c.before.before.before.before.before.before.overlaps.ensures, not-not (overlaps _ _))))
+    (tie.spec
+    (λ c κs. search rules) (λ c κs. search rules) (λ c κs. search rules) (λ c κs. search rules) (λ c κs. search rules) (λ c κs. search rules)
+    (λ c. c.refuse_if.ensures ∙ rw (c.refuse_if-beyond.ensures, c.refuse_if-initial.ensures, c.mask_ok.ensures, c.mask_ok-2.ensures, c.overlaps.ensures, not-not (overlaps _ _))))

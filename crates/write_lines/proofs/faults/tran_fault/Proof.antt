@@ -6,9 +6,9 @@ use borrow.Author.Rules.{rules}
 use Rattle.write_lines.proofs.faults.tran_fault.Statement.{statement}
 use Rattle.write_lines.proofs.faults.tran_fault.Tie as tie
 
-pub tran-fault-spec : {M : Type 1} → statement M
+pub tran_fault_spec : {M : Type 1} → statement M
 unfolding tran_fault
-tran-fault-spec =
+tran_fault_spec =
     tie.close
-    (tie.spec (λ c κs. search rules) (λ c κs. search rules)
-    (λ c. c.refuse-if2.ensures ∙ rw (c.before.before.before.before.before.refuse-if.ensures, not-not (eqb _ _))))
+    (tie.spec
+    (λ c κs. search rules) (λ c κs. search rules) (λ c. c.refuse_if.ensures ∙ rw (c.refuse_if-equal.ensures, not-not (eqb _ _))))

@@ -4,24 +4,26 @@ use borrow.Author.Rules.{rules}
 use Rattle.write_report.proofs.start.write_last.Statement.{statement}
 use Rattle.write_report.proofs.start.write_last.Tie as tie
 
-returns : tie.Need-returns
-returns c = rw (last-plain _ _ c.if1.true) (none _ _)
+returns : tie.Need-returns-then-first-ne2
+returns c = rw (last-plain _ _ c.if-first-ne2.true) (none _ _)
 
-returns-2 : tie.Need-returns-2
+returns-2 : tie.Need-returns-then-stamp-eq0
 returns-2 c =
-    let n = c.before.before in
-    let s = n.before.before in
-    let b = s.before.before.before in
-    rw (last_none _ _ b.before.before.if1.false s.if2.true) (then b.write_byte.ensures n.write-byte2.ensures)
+    let n = c in
+    let s = c in
+    let b = c in
+    rw (last_none _ _ b.if-first-ne2.false s.if-stamp-eq0.true) (then b.write_byte-p.ensures n.write_byte.ensures)
 
-returns-3 : tie.Need-returns-3
+returns-3 : tie.Need-returns
 returns-3 c =
-    let n = c.before.before in
-    let s = n.before.before in
-    let b = s.before.before.before in
-    rw (last_some _ _ b.before.before.if1.false s.if2.false) (then b.write_byte.ensures n.write-number.ensures)
+    let n = c in
+    let s = c in
+    let b = c in
+    rw (last_some _ _ b.if-first-ne2.false s.if-stamp-eq0.false) (then b.write_byte-p.ensures n.write_number.ensures)
 
-pub write-last-spec : {M : Type 1} → statement M
-write-last-spec =
+pub write_last_spec : {M : Type 1} → statement M
+write_last_spec =
     tie.close
-    (tie.spec returns (λ c κs. search rules) (λ c κs. search rules) (λ c. length-written (returns-2 c)) returns-2 (λ c. search rules) (λ c κs. search rules) (λ c. length-written (returns-3 c)) returns-3)
+    (tie.spec
+    returns (λ c κs. search rules) (λ c κs. search rules) (λ c. length-written (returns-2 c)) returns-2 (λ c. search rules) (λ c κs. search rules)
+    (λ c. length-written (returns-3 c)) returns-3)

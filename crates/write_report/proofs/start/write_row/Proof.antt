@@ -8,9 +8,10 @@ use Rattle.write_report.proofs.start.write_row.Tie as tie
 returns : tie.Need-returns
 unfolding row_text fields_part
 returns c =
-    let end = c.before.before in
-    let last = end.before.before.before.before in
-    then (then last.before.before.before.before.write-fields.ensures last.write-last.ensures) end.write_byte.ensures
+    let end = c in
+    let last = c in
+    then (then last.write_fields-at.ensures last.write_last-at.ensures) end.write_byte.ensures
 
-pub write-row-spec : {M : Type 1} → statement M
-write-row-spec = tie.close (tie.spec (λ c κs. search rules) (λ c κs. search rules) (λ c κs. search rules) (λ c. length-written (returns c)) returns)
+pub write_row_spec : {M : Type 1} → statement M
+write_row_spec = tie.close (tie.spec
+    (λ c κs. search rules) (λ c κs. search rules) (λ c κs. search rules) (λ c. length-written (returns c)) returns)

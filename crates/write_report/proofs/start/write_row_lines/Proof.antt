@@ -7,16 +7,16 @@ use borrow.Author.Rules.{rules}
 use Rattle.write_report.proofs.start.write_row_lines.Statement.{statement}
 use Rattle.write_report.proofs.start.write_row_lines.Tie as tie
 
-abbrev invariant-loop : tie.invariant-loop
+abbrev invariant-loop : tie.invariant-loop-i
 invariant-loop t₀ first lasts state used₀ i₀ t used i = Turns (row_at first lasts (state_in state)) 32 i t₀ t used
 
-abbrev decreases-loop : tie.decreases-loop
+abbrev decreases-loop : tie.decreases-loop-i
 decreases-loop t₀ first lasts state used₀ i₀ t used i = 32 - i
 
-pub write-row-lines-spec : {M : Type 1} → statement M
-write-row-lines-spec =
+pub write_row_lines_spec : {M : Type 1} → statement M
+write_row_lines_spec =
     tie.close
-    (tie.spec invariant-loop decreases-loop (λ c. turns-none) (λ c. search rules) (λ c. search rules) (λ c. search rules) (λ c κs. search rules) (λ c. search rules)
-    (λ c. search rules) (λ c. search rules)
-    (λ c. turns_more c.before.before.before.before.before.loop.invariant c.before.before.before.before.loop-test.true c.before.before.write-row-at.ensures)
-    (λ c. search rules) (λ c. turns-all c.before.loop.invariant c.loop-test.false))
+    (tie.spec
+    invariant-loop decreases-loop (λ c. turns-none) (λ c. search rules) (λ c. search rules) (λ c. search rules) (λ c κs. search rules)
+    (λ c. search rules) (λ c. search rules) (λ c. search rules) (λ c. turns_more c.loop-i.invariant c.loop-i-test.true c.write_row_at-used.ensures)
+    (λ c. search rules) (λ c. turns-all c.loop-i.invariant c.loop-i-test.false))

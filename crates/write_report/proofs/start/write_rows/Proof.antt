@@ -4,13 +4,14 @@ use borrow.Author.Rules.{rules}
 use Rattle.write_report.proofs.start.write_rows.Statement.{statement}
 use Rattle.write_report.proofs.start.write_rows.Tie as tie
 
-pub write-rows-spec : {M : Type 1} → statement M
+pub write_rows_spec : {M : Type 1} → statement M
 unfolding rows_part
-write-rows-spec =
+write_rows_spec =
     tie.close
-    (tie.spec (λ c. search rules) (λ c κs. search rules) (λ c κs. search rules) (λ c. search rules) (λ c. search rules) (λ c. search rules)
-    (λ c κs. search rules) (λ c. search rules) (λ c. search rules)
+    (tie.spec
+    (λ c κs. search rules) (λ c κs. search rules) (λ c. search rules) (λ c. search rules) (λ c. search rules) (λ c κs. search rules)
+    (λ c. search rules) (λ c. search rules)
     (λ c.
-    let lines = c.before.before in
-    let count = lines.before.before.before.before in
-    next (rw count.before.tally.ensures at count.write-count.ensures) lines.write-row-lines.ensures))
+    let lines = c in
+    let count = c in
+    next (rw count.tally.ensures at count.write_count-used.ensures) lines.write_row_lines.ensures))

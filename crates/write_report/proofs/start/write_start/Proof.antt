@@ -6,13 +6,13 @@ use Rattle.write_report.proofs.start.write_start.Tie as tie
 
 returns : tie.Need-returns
 returns c =
-    let connections = c.before.before in
-    let rows = connections.before.before.before.before in
-    rw (← start-parts _ _ _) (next (next rows.before.before.before.before.write-key.ensures rows.write-rows.ensures) connections.write-connections.ensures)
+    let connections = c in
+    let rows = c in
+    rw (← start-parts _ _ _) (next (next rows.write_key-used.ensures rows.write_rows-used.ensures) connections.write_connections.ensures)
 
-pub write-start-spec : {M : Type 1} → statement M
-write-start-spec =
+pub write_start_spec : {M : Type 1} → statement M
+write_start_spec =
     tie.close
-    (tie.spec (λ c. search rules) (λ c κs. search rules) (λ c. search rules) (λ c. search rules) (λ c. search rules) (λ c κs. search rules)
-    (λ c. search rules) (λ c. search rules) (λ c. search rules) (λ c. search rules) (λ c κs. search rules) (λ c. used-fits (returns c) (search rules))
-    (λ c. search rules) returns)
+    (tie.spec
+    (λ c κs. search rules) (λ c. search rules) (λ c. search rules) (λ c. search rules) (λ c κs. search rules) (λ c. search rules) (λ c. search rules)
+    (λ c. search rules) (λ c. search rules) (λ c κs. search rules) (λ c. used-fits (returns c) (search rules)) (λ c. search rules) returns)

@@ -10,19 +10,20 @@ use borrow.Author.Rules.{rules}
 use Rattle.write_texts.proofs.faults.kind_fault.Statement.{statement}
 use Rattle.write_texts.proofs.faults.kind_fault.Tie as tie
 
-abbrev invariant-loop : tie.invariant-loop
+abbrev invariant-loop : tie.invariant-loop-n
 invariant-loop tables rows i count known n₀ x₀ n x = Found (limit_fault (count_ok rows count)) (λ x. row_fault rows known (row_at rows (tables_in tables) i x)) count x n
 
-abbrev decreases-loop : tie.decreases-loop
+abbrev decreases-loop : tie.decreases-loop-n
 decreases-loop tables rows i count known n₀ x₀ n x = count - x
 
-pub kind-fault-spec : {M : Type 1} → statement M
+pub kind_fault_spec : {M : Type 1} → statement M
 unfolding kind_fault
-kind-fault-spec =
+kind_fault_spec =
     tie.close
-    (tie.spec invariant-loop decreases-loop (λ c κs. search rules) (λ c κs. search rules) (λ c κs. search rules) (λ c κs. search rules)
-    (λ c. found_none _ _ _ _ (rw c.before.count-ok.ensures at c.limit-fault.ensures)) (λ c κs. search rules) (λ c κs. search rules)
-    (λ c. let l = going c.before.before.before.before.before.before.before.count_of.result c.before.before.before.loop.x c.before.before.before.loop.n c.before.before.loop-test.true in search rules)
-    (λ c. omega (arith, going c.before.before.before.before.before.before.before.count_of.result c.before.before.before.loop.x c.before.before.before.loop.n c.before.before.loop-test.true))
-    (λ c. found-more _ _ _ _ _ _ c.before.before.before.loop.invariant c.before.before.loop-test.true (c.row-fault.ensures ∙ rw c.before.row-at.ensures))
-    (λ c. rw (c.before.before.before.before.Known-of.ensures, c.before.before.before.before.before.count_of.ensures) at (found_all _ _ _ c.before.loop.x _ c.before.loop.invariant c.loop-test.false)))
+    (tie.spec
+    invariant-loop decreases-loop (λ c κs. search rules) (λ c κs. search rules) (λ c κs. search rules) (λ c κs. search rules)
+    (λ c. found_none _ _ _ _ (rw c.count_ok.ensures at c.limit_fault-n.ensures)) (λ c κs. search rules) (λ c κs. search rules)
+    (λ c. let l = going c.count_of-count.result c.loop-n.x c.loop-n.n c.loop-n-test.true in search rules)
+    (λ c. omega (arith, going c.count_of-count.result c.loop-n.x c.loop-n.n c.loop-n-test.true))
+    (λ c. found-more _ _ _ _ _ _ c.loop-n.invariant c.loop-n-test.true (c.row_fault-n.ensures ∙ rw c.row_at.ensures))
+    (λ c. rw (c.Known-of.ensures, c.count_of-count.ensures) at (found_all _ _ _ c.loop-n.x _ c.loop-n.invariant c.loop-n-test.false)))

@@ -8,19 +8,20 @@ use borrow.Author.Rules.{rules}
 use Rattle.write_texts.proofs.faults.part_fault.Statement.{statement}
 use Rattle.write_texts.proofs.faults.part_fault.Tie as tie
 
-abbrev invariant-loop : tie.invariant-loop
+abbrev invariant-loop : tie.invariant-loop-n
 invariant-loop part tables program count n₀ i₀ n i = Found (limit_fault (part_ok part count)) (line_fault part (tables_in tables) (program_in program)) count i n
 
-abbrev decreases-loop : tie.decreases-loop
+abbrev decreases-loop : tie.decreases-loop-n
 decreases-loop part tables program count n₀ i₀ n i = count - i
 
-pub part-fault-spec : {M : Type 1} → statement M
+pub part_fault_spec : {M : Type 1} → statement M
 unfolding part_fault
-part-fault-spec =
+part_fault_spec =
     tie.close
-    (tie.spec invariant-loop decreases-loop (λ c κs. search rules) (λ c κs. search rules) (λ c κs. search rules)
-    (λ c. found_none _ _ _ _ (rw c.before.part-ok.ensures at c.limit-fault.ensures)) (λ c κs. search rules)
-    (λ c. let l = going c.before.before.before.before.before.part_count.result c.before.before.loop.i c.before.before.loop.n c.before.loop-test.true in search rules)
-    (λ c. omega (arith, going c.before.before.before.before.before.part_count.result c.before.before.loop.i c.before.before.loop.n c.before.loop-test.true))
-    (λ c. found-more _ _ _ _ _ _ c.before.before.loop.invariant c.before.loop-test.true c.line-fault.ensures)
-    (λ c. rw c.before.before.before.before.part_count.ensures at (found_all _ _ _ c.before.loop.i _ c.before.loop.invariant c.loop-test.false)))
+    (tie.spec
+    invariant-loop decreases-loop (λ c κs. search rules) (λ c κs. search rules) (λ c κs. search rules)
+    (λ c. found_none _ _ _ _ (rw c.part_ok.ensures at c.limit_fault-n.ensures)) (λ c κs. search rules)
+    (λ c. let l = going c.part_count-count.result c.loop-n.i c.loop-n.n c.loop-n-test.true in search rules)
+    (λ c. omega (arith, going c.part_count-count.result c.loop-n.i c.loop-n.n c.loop-n-test.true))
+    (λ c. found-more _ _ _ _ _ _ c.loop-n.invariant c.loop-n-test.true c.line_fault-n.ensures)
+    (λ c. rw c.part_count-count.ensures at (found_all _ _ _ c.loop-n.i _ c.loop-n.invariant c.loop-n-test.false)))

@@ -4,9 +4,10 @@ use borrow.Author.Rules.{rules}
 use Rattle.write_texts.proofs.faults.type_fault.Statement.{statement}
 use Rattle.write_texts.proofs.faults.type_fault.Tie as tie
 
-pub type-fault-spec : {M : Type 1} → statement M
-type-fault-spec =
+pub type_fault_spec : {M : Type 1} → statement M
+type_fault_spec =
     tie.close
-    (tie.spec (λ c κs. search rules) (λ c κs. search rules) (λ c κs. search rules) (λ c κs. search rules) (λ c κs. search rules)
-    (λ c κs. search rules) (λ c κs. search rules)
-    (λ c. c.or-number3.ensures ∙ rw (c.before.or-number2.ensures, c.before.before.or-number.ensures, c.before.before.before.before.before.before.head-fault.ensures, c.before.before.before.before.before.kind-fault.ensures, c.before.before.before.before.kind-fault2.ensures, c.before.before.before.kind-fault3.ensures) (type-numbers _ _)))
+    (tie.spec
+    (λ c κs. search rules) (λ c κs. search rules) (λ c κs. search rules) (λ c κs. search rules) (λ c κs. search rules) (λ c κs. search rules)
+    (λ c κs. search rules)
+    (λ c. c.or_number-3.ensures ∙ rw (c.or_number-2.ensures, c.or_number.ensures, c.head_fault-head.ensures, c.kind_fault-ends.ensures, c.kind_fault-sets.ensures, c.kind_fault-groups.ensures) (type-numbers _ _)))

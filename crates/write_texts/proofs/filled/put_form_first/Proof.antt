@@ -5,9 +5,10 @@ use borrow.Author.Rules.{rules}
 use Rattle.write_texts.proofs.filled.put_form_first.Statement.{statement}
 use Rattle.write_texts.proofs.filled.put_form_first.Tie as tie
 
-pub put-form-first-spec : {M : Type 1} → statement M
+pub put_form_first_spec : {M : Type 1} → statement M
 unfolding form_first count_text
-put-form-first-spec =
+put_form_first_spec =
     tie.close
-    (tie.spec (λ c κs. search rules) (λ c. search rules) (λ c. search rules) (λ c. search rules) (λ c. search rules) (λ c κs. search rules) (λ c. search rules) (λ c. search rules)
-    (λ c. next c.before.before.before.before.before.before.before.put-edition-row.ensures c.before.before.write-one.ensures))
+    (tie.spec
+    (λ c κs. search rules) (λ c. search rules) (λ c. search rules) (λ c. search rules) (λ c κs. search rules) (λ c. search rules) (λ c. search rules)
+    (λ c. next c.put_edition_row-used.ensures c.write_one.ensures))

@@ -5,10 +5,11 @@ use borrow.Author.Rules.{rules}
 use Rattle.write_texts.proofs.filled.put_type_lines.Statement.{statement}
 use Rattle.write_texts.proofs.filled.put_type_lines.Tie as tie
 
-pub put-type-lines-spec : {M : Type 1} → statement M
+pub put_type_lines_spec : {M : Type 1} → statement M
 unfolding type_lines_text count_text
-put-type-lines-spec =
+put_type_lines_spec =
     tie.close
-    (tie.spec (λ c κs. search rules) (λ c κs. search rules) (λ c. search rules) (λ c κs. search rules) (λ c. search rules) (λ c. search rules)
-    (λ c. search rules) (λ c κs. search rules) (λ c. search rules) (λ c. search rules)
-    (λ c. rw (c.before.before.before.before.before.before.before.before.before.before.places_of.ensures, c.before.before.before.before.before.before.before.before.before.initial-of.ensures) at (next c.before.before.before.before.before.before.write-one.ensures c.before.before.write-initial.ensures)))
+    (tie.spec
+    (λ c κs. search rules) (λ c κs. search rules) (λ c κs. search rules) (λ c. search rules) (λ c. search rules) (λ c. search rules)
+    (λ c κs. search rules) (λ c. search rules) (λ c. search rules)
+    (λ c. rw (c.places_of-places.ensures, c.initial_of-initial.ensures) at (next c.write_one-used.ensures c.write_initial.ensures)))

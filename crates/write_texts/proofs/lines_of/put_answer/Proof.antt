@@ -6,12 +6,12 @@ use borrow.Author.Rules.{rules}
 use Rattle.write_texts.proofs.lines_of.put_answer.Statement.{statement}
 use Rattle.write_texts.proofs.lines_of.put_answer.Tie as tie
 
-pub put-answer-spec : {M : Type 1} → statement M
+pub put_answer_spec : {M : Type 1} → statement M
 unfolding answer_text count_text
-put-answer-spec =
+put_answer_spec =
     tie.close
-    (tie.spec (λ c κs. search rules) (λ c. search rules) (λ c κs. search rules) (λ c. search rules) (λ c. search rules) (λ c. search rules)
-    (λ c. search rules) (λ c κs. search rules) (λ c. search rules) (λ c. search rules) (λ c. search rules) (λ c. search rules) (λ c κs. search rules)
-    (λ c. used-fits (next (next c.before.before.before.before.before.before.before.before.before.before.before.write-one.ensures c.before.before.before.before.before.before.write-one2.ensures) c.before.before.put-steps.ensures) (search rules))
-    (λ c. search rules)
-    (λ c. rw c.before.before.before.before.before.before.before.before.before.before.before.before.before.before.steps.ensures at (simp append_assoc at (next (next c.before.before.before.before.before.before.before.before.before.before.before.write-one.ensures c.before.before.before.before.before.before.write-one2.ensures) c.before.before.put-steps.ensures))))
+    (tie.spec
+    (λ c κs. search rules) (λ c κs. search rules) (λ c. search rules) (λ c. search rules) (λ c. search rules) (λ c κs. search rules)
+    (λ c. search rules) (λ c. search rules) (λ c. search rules) (λ c. search rules) (λ c κs. search rules)
+    (λ c. used-fits (next (next c.write_one-used.ensures c.write_one-used-2.ensures) c.put_steps.ensures) (search rules)) (λ c. search rules)
+    (λ c. rw c.steps-count.ensures at (simp append_assoc at (next (next c.write_one-used.ensures c.write_one-used-2.ensures) c.put_steps.ensures))))

@@ -5,10 +5,10 @@ use borrow.Author.Rules.{rules}
 use Rattle.write_texts.proofs.lines_of.put_first.Statement.{statement}
 use Rattle.write_texts.proofs.lines_of.put_first.Tie as tie
 
-pub put-first-spec : {M : Type 1} → statement M
+pub put_first_spec : {M : Type 1} → statement M
 unfolding first_text count_text
-put-first-spec =
+put_first_spec =
     tie.close
-    (tie.spec (λ c. search rules) (λ c κs. search rules) (λ c. search rules) (λ c. search rules) (λ c. search rules) (λ c. search rules)
-    (λ c κs. search rules) (λ c. search rules) (λ c. search rules)
-    (λ c. next c.before.before.before.before.before.before.before.write-one.ensures c.before.before.write-one2.ensures))
+    (tie.spec
+    (λ c κs. search rules) (λ c. search rules) (λ c. search rules) (λ c. search rules) (λ c κs. search rules) (λ c. search rules) (λ c. search rules)
+    (λ c. next c.write_one-used.ensures c.write_one.ensures))

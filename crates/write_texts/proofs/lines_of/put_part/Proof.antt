@@ -5,10 +5,10 @@ use borrow.Author.Rules.{rules}
 use Rattle.write_texts.proofs.lines_of.put_part.Statement.{statement}
 use Rattle.write_texts.proofs.lines_of.put_part.Tie as tie
 
-pub put-part-spec : {M : Type 1} → statement M
+pub put_part_spec : {M : Type 1} → statement M
 unfolding part_text count_text
-put-part-spec =
+put_part_spec =
     tie.close
-    (tie.spec (λ c κs. search rules) (λ c κs. search rules) (λ c. search rules) (λ c. search rules) (λ c. search rules) (λ c κs. search rules)
-    (λ c. search rules) (λ c. search rules)
-    (λ c. rw c.before.before.before.before.before.before.before.before.part_count.ensures at (next c.before.before.before.before.before.before.write-one.ensures c.before.before.put-lines.ensures)))
+    (tie.spec
+    (λ c κs. search rules) (λ c κs. search rules) (λ c. search rules) (λ c. search rules) (λ c. search rules) (λ c κs. search rules)
+    (λ c. search rules) (λ c. search rules) (λ c. rw c.part_count-count.ensures at (next c.write_one-used.ensures c.put_lines.ensures)))

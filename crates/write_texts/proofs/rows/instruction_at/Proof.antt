@@ -2,5 +2,6 @@ use borrow.Author.Rules.{rules}
 use Rattle.write_texts.proofs.rows.instruction_at.Statement.{statement}
 use Rattle.write_texts.proofs.rows.instruction_at.Tie as tie
 
-pub instruction-at-spec : {M : Type 1} → statement M
-instruction-at-spec = tie.close (tie.spec (λ c κs. search rules) (λ c. c.instruction.ensures))
+pub instruction_at_spec : {M : Type 1} → statement M
+instruction_at_spec = tie.close (tie.spec
+    (λ c κs. search rules) (λ c. c.instruction-x.ensures))
