@@ -52,8 +52,8 @@ loop-again c =
     rw c.later-rest.ensures (
       rest-later _ l.rest l.invariant.0 some,
       ⊎_elim
-          (λ w. omega (arith, w.1, l.invariant.1, passing-in (test c.before.before) l.rest l.invariant.0.fits some (own c.before.before true w.0.taken)))
-          (λ w. omega (arith, w.1, l.invariant.1, passing-out (test c.before.before) l.rest l.invariant.0.fits some (own c.before.before false w.0.left)))
+          (λ w. omega (arith, w.n-is, l.invariant.1, passing-in (test c.before.before) l.rest l.invariant.0.fits some (own c.before.before true w.if-passes.true)))
+          (λ w. omega (arith, w.n-is, l.invariant.1, passing-out (test c.before.before) l.rest l.invariant.0.fits some (own c.before.before false w.if-passes.false)))
           c.if-passes.branch-raw,
     )
 

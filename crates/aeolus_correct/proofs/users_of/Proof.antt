@@ -44,8 +44,8 @@ loop-again c =
     rw c.later-rest.ensures (
       rest-later _ l.rest l.invariant.0 some,
       ⊎_elim
-          (λ w. w.2 ∙ w.1.ensures ∙ ap₂ with e.least-y.ensures l.invariant.1 ∙ members-in _ _ l.rest l.invariant.0 some (own c.before.before true w.0.taken))
-          (λ w. w.1 ∙ l.invariant.1 ∙ members-out _ _ l.rest l.invariant.0 some (own c.before.before false w.0.left))
+          (λ w. w.users-is ∙ w.with-users.ensures ∙ ap₂ with e.least-y.ensures l.invariant.1 ∙ members-in _ _ l.rest l.invariant.0 some (own c.before.before true w.if-member.true))
+          (λ w. w.users-is ∙ l.invariant.1 ∙ members-out _ _ l.rest l.invariant.0 some (own c.before.before false w.if-member.false))
           c.if-member.branch-raw,
     )
 

@@ -28,7 +28,7 @@ fewer : (c : tie.Joined-count-gt0) → c.args.count < 7
 fewer c = omega (arith, most-few c.args.digits, c.most.ensures)
 
 leads : (c : tie.Joined-count-gt0) → eqb c.args.count 0 ≡ false → c.args.value ≡ 0 → ⊥
-leads c z e = ⊎_elim (λ w. w.1.left e) (λ w. eqb-false c.args.count 0 z (omega (arith, w.left))) c.if-count-gt0.branch-raw
+leads c z e = ⊎_elim (λ w. w.if-value-eq0.false e) (λ w. eqb-false c.args.count 0 z (omega (arith, w.if-count-gt0.false))) c.if-count-gt0.branch-raw
 
 mul-more : tie.Need-overflow_mul-more
 mul-more c =

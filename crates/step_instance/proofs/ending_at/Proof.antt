@@ -45,8 +45,8 @@ loop-again c =
     rw c.later-rest.ensures (
       rest-later _ l.rest l.invariant.0 some,
       ⊎_elim
-          (λ w. w.2 ∙ w.1.ensures ∙ ap₂ with e.least-x.ensures l.invariant.1 ∙ members-in _ _ l.rest l.invariant.0 some (own c.before.before true (eq-eqb _ _ w.0.taken)))
-          (λ w. w.1 ∙ l.invariant.1 ∙ members-out _ _ l.rest l.invariant.0 some (own c.before.before false (ne_eqb _ _ w.0.left)))
+          (λ w. w.xs-is ∙ w.with-xs.ensures ∙ ap₂ with e.least-x.ensures l.invariant.1 ∙ members-in _ _ l.rest l.invariant.0 some (own c.before.before true (eq-eqb _ _ w.if-end_of-p.true)))
+          (λ w. w.xs-is ∙ l.invariant.1 ∙ members-out _ _ l.rest l.invariant.0 some (own c.before.before false (ne_eqb _ _ w.if-end_of-p.false)))
           c.if-end_of-p.branch-raw,
     )
 

@@ -102,8 +102,8 @@ loop-again c =
       any-more _ _ i.1 (rw (own c.before.before.before, ne_eqb _ _ c.if-x-eq-UNCONNECTED.false, ne_eqb _ _ c.if-x-eq-UNSERVED.false)),
       ap₂ ◌||◌ i.2 (sym (told c.before.before.before provider_refusing _ refl)) ∙ sym (any_next l.loop-q.q (getting c.before.before.before.before.before.before.before.before.before.before provider_refusing)),
       ⊎_elim
-          (λ w. w.2 ∙ w.1.ensures ∙ ap (with l.loop-q.q) i.3 ∙ below_in _ l.loop-q.q (told c.before.before.before service_in_use true (eq-eqb _ _ w.0.taken)))
-          (λ w. w.1 ∙ i.3 ∙ below_out _ l.loop-q.q (told c.before.before.before service_in_use false (ne_eqb _ _ w.0.left)))
+          (λ w. w.ending-is ∙ w.with-ending.ensures ∙ ap (with l.loop-q.q) i.3 ∙ below_in _ l.loop-q.q (told c.before.before.before service_in_use true (eq-eqb _ _ w.if-x-eq-SERVICE_IN_USE.true)))
+          (λ w. w.ending-is ∙ i.3 ∙ below_out _ l.loop-q.q (told c.before.before.before service_in_use false (ne_eqb _ _ w.if-x-eq-SERVICE_IN_USE.false)))
           c.if-x-eq-SERVICE_IN_USE.branch-raw,
     )
 

@@ -27,7 +27,7 @@ tally_spec =
     let l = c.loop-i in
     let here = sym c.present.ensures in
     ⊎_elim
-    (λ w. (omega arith, omega (arith, w.1), w.1 ∙ rw l.invariant.2 (sym (tally-in _ _ (here ∙ w.0.taken)))))
-    (λ w. (omega arith, omega (arith, w.1), w.1 ∙ rw l.invariant.2 (sym (tally-out _ _ (here ∙ w.0.left)))))
+    (λ w. (omega arith, omega (arith, w.n-is), w.n-is ∙ rw l.invariant.2 (sym (tally-in _ _ (here ∙ w.if-present.true)))))
+    (λ w. (omega arith, omega (arith, w.n-is), w.n-is ∙ rw l.invariant.2 (sym (tally-out _ _ (here ∙ w.if-present.false)))))
     c.if-present.branch-raw)
     (λ c. let e : c.loop-i.i ≡ 32 = omega arith in rw e at c.loop-i.invariant.2))

@@ -60,12 +60,12 @@ write_connection_lines_spec =
     let read = c.server-x.ensures in
     ⊎_elim
     (λ w.
-    let on : not (eqb (server x l.loop-left.s) 0) ≡ true = rw (← read, ne_eqb _ _ w.0.taken) refl in
+    let on : not (eqb (server x l.loop-left.s) 0) ≡ true = rw (← read, ne_eqb _ _ w.if-x-ne0.true) refl in
     let line : line_at x l.loop-left.s ≡ connection_text (connection_of l.loop-left.s c.server-x.result) = rw (on, read) refl in
-    (omega (arith, w.7, l.loop-left.invariant.0, tally-in (is_served x) l.loop-left.s on), rw (w.5, w.6) (turns_more l.loop-left.invariant.1 (last c) (rw (sym line) at w.2.ensures))))
+    (omega (arith, w.left-is, l.loop-left.invariant.0, tally-in (is_served x) l.loop-left.s on), rw (w.t-is, w.used-is) (turns_more l.loop-left.invariant.1 (last c) (rw (sym line) at w.write_connection-used.ensures))))
     (λ w.
-    let off : not (eqb (server x l.loop-left.s) 0) ≡ false = rw (← read, eq-eqb _ _ w.0.left) refl in
-    (omega (arith, w.3, l.loop-left.invariant.0, tally-out (is_served x) l.loop-left.s off), rw (w.1, w.2) (turns-empty l.loop-left.invariant.1 (last c) (rw off refl))))
+    let off : not (eqb (server x l.loop-left.s) 0) ≡ false = rw (← read, eq-eqb _ _ w.if-x-ne0.false) refl in
+    (omega (arith, w.left-is, l.loop-left.invariant.0, tally-out (is_served x) l.loop-left.s off), rw (w.t-is, w.used-is) (turns-empty l.loop-left.invariant.1 (last c) (rw off refl))))
     c.if-x-ne0.branch-raw)
     (λ c. c.loop-left.invariant.1.same_length)
     (λ c.

@@ -30,8 +30,8 @@ loop-again c =
     let l = c.loop-q in (
       search rules,
       ⊎_elim
-          (λ w. w.2 ∙ w.1.ensures ∙ ap (with (l.q + 1)) l.invariant.1 ∙ gather-in (l.q + 1) _ (omega (arith, s.loop-q-test.true)) (own c.before true w.0.taken))
-          (λ w. w.1 ∙ l.invariant.1 ∙ gather-out (l.q + 1) _ (own c.before false w.0.left))
+          (λ w. w.ports-is ∙ w.with-ports.ensures ∙ ap (with (l.q + 1)) l.invariant.1 ∙ gather-in (l.q + 1) _ (omega (arith, s.loop-q-test.true)) (own c.before true w.if-is_served_by.true))
+          (λ w. w.ports-is ∙ l.invariant.1 ∙ gather-out (l.q + 1) _ (own c.before false w.if-is_served_by.false))
           c.if-is_served_by.branch-raw,
     )
 

@@ -31,8 +31,8 @@ loop-again c =
     let l = c.loop-s in
     let read = c.server.ensures in
     ⊎_elim
-    (λ w. (omega arith, omega (arith, w.1), w.1 ∙ rw l.invariant.2 (sym (tally-in _ _ (rw (← read, eq-eqb _ _ w.0.taken))))))
-    (λ w. (omega arith, omega (arith, w.1), w.1 ∙ rw l.invariant.2 (sym (tally-out _ _ (rw (← read, ne_eqb _ _ w.0.left))))))
+    (λ w. (omega arith, omega (arith, w.free-is), w.free-is ∙ rw l.invariant.2 (sym (tally-in _ _ (rw (← read, eq-eqb _ _ w.if-server-eq0.true))))))
+    (λ w. (omega arith, omega (arith, w.free-is), w.free-is ∙ rw l.invariant.2 (sym (tally-out _ _ (rw (← read, ne_eqb _ _ w.if-server-eq0.false))))))
     c.if-server-eq0.branch-raw
 
 returns : tie.Need-returns invariant-loop decreases-loop
