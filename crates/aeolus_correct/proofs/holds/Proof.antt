@@ -41,7 +41,7 @@ returns c =
     let l = c in
     let a = c.args in
     sym (all-missed (ports_hold (universe_in a.universe.now) (configuration_in a.deployed.now) a.m) l.loop-rest.rest l.loop-rest.invariant.0.fits t.loop-rest-test.true
-    (own c.before false (not-true e.component_holds.result c.if-not-component_holds.true))) ∙ l.loop-rest.invariant.1 ∙ all_hold (universe_in a.universe.now) (configuration_in a.deployed.now) a.m _ _ l.asked_of-rest.ensures (λ e. (l.reach_of-reach.ensures e).1)
+    (own c.before false c.if-not-component_holds.true)) ∙ l.loop-rest.invariant.1 ∙ all_hold (universe_in a.universe.now) (configuration_in a.deployed.now) a.m _ _ l.asked_of-rest.ensures (λ e. (l.reach_of-reach.ensures e).1)
 
 loop-less : tie.Need-loop-rest-smaller invariant-loop decreases-loop
 loop-less c =
@@ -58,7 +58,7 @@ loop-again c =
     rw c.later-rest.ensures (
       rest-later _ l.loop-rest.rest l.loop-rest.invariant.0 some,
       all-hit (ports_hold (universe_in a.universe.now) (configuration_in a.deployed.now) a.m) l.loop-rest.rest l.loop-rest.invariant.0.fits some
-          (own c.before.before true (not-false e.component_holds.result c.if-not-component_holds.false)) ∙ l.loop-rest.invariant.1,
+          (own c.before.before true c.if-not-component_holds.false) ∙ l.loop-rest.invariant.1,
     )
 
 returns-2 : tie.Need-returns invariant-loop decreases-loop

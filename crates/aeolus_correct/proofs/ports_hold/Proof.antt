@@ -26,11 +26,11 @@ returns : tie.Need-returns-then-not-port_holds invariant-loop decreases-loop
 returns c =
     let l = c in
     let a = c.args in
-    sym (all-miss _ _ c.loop-j.j c.loop-j-test.true (sym c.port_holds.ensures ∙ not-true c.port_holds.result c.if-not-port_holds.true))
+    sym (all-miss _ _ c.loop-j.j c.loop-j-test.true (sym c.port_holds.ensures ∙ c.if-not-port_holds.true))
     ∙ ap (λ (n : ℕ). all_below n (port_holds (universe_in a.universe.now) (configuration_in a.deployed.now) a.m a.z)) (rw (← l.kind_of.ensures) l.interfaces_of-n.ensures)
 
 loop-again : tie.Need-loop-j-preserved invariant-loop decreases-loop
-loop-again c = (search rules, all_more _ _ c.loop-j.invariant.1 (sym c.port_holds.ensures ∙ not-false c.port_holds.result c.if-not-port_holds.false))
+loop-again c = (search rules, all_more _ _ c.loop-j.invariant.1 (sym c.port_holds.ensures ∙ c.if-not-port_holds.false))
 
 returns-2 : tie.Need-returns invariant-loop decreases-loop
 returns-2 c =

@@ -9,7 +9,7 @@ use Rattle.aeolus_correct.proofs.providers_of.Tie as tie
 returns : tie.Need-returns-then-not-is_deployed
 returns c =
     let a = c.args in
-    λ y. bound-absent (universe_in a.universe.now) (configuration_in a.deployed.now) a.z a.r y (sym c.is_deployed.ensures ∙ not-true c.is_deployed.result c.if-not-is_deployed.true)
+    λ y. bound-absent (universe_in a.universe.now) (configuration_in a.deployed.now) a.z a.r y (sym c.is_deployed.ensures ∙ c.if-not-is_deployed.true)
 
 returns-2 : tie.Need-returns-then-interfaces_of-j
 returns-2 c =
@@ -24,7 +24,7 @@ returns-3 c =
     let k = c.kind_of-k.ensures in
     let a = c.args in
     λ y. bound-there (universe_in a.universe.now) (configuration_in a.deployed.now) a.z a.r _ _ (rw k at here.place_of-j.ensures) (rw k at c.interfaces_of.ensures) _ y
-    (sym here.is_deployed.ensures ∙ not-false here.is_deployed.result c.if-not-is_deployed.false) c.if-interfaces_of-j.false c.bound_at.ensures
+    (sym here.is_deployed.ensures ∙ c.if-not-is_deployed.false) c.if-interfaces_of-j.false c.bound_at.ensures
 
 pub providers_of_spec : {M : Type 1} → statement M
 providers_of_spec =

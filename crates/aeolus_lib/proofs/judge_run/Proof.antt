@@ -18,7 +18,7 @@ returns c =
     let r = report (universe_in x.universe.now) w in
     let d = c in
     let fits = c.has_room-fits in
-    let e = sym fits.ensures ∙ not-true fits.result c.if-not-fits.true in
+    let e = sym fits.ensures ∙ c.if-not-fits.true in
     record { verdict-is = rw (e, in_room) c.no_room-verdict.ensures; place_is = d.run_place-place.ensures w.configuration r _ fits.ensures; buffer-is = rw (e, in_room) }
 
 returns-2 : tie.Need-returns
@@ -30,7 +30,7 @@ returns-2 c =
     let left = c in
     let d = c in
     let fits = c.has_room-fits in
-    let e = sym fits.ensures ∙ not-false fits.result left.if-not-fits.false in
+    let e = sym fits.ensures ∙ left.if-not-fits.false in
     let whole = fits_all c.write_report-written.ensures (leb-true _ _ e) in
     record { verdict-is = rw (e, in_room) (c.run_verdict-verdict.ensures w.configuration r x.answer.now whole.0); place_is = d.run_place-place.ensures w.configuration r _ fits.ensures; buffer-is = rw (e, in_room) whole.1 }
 

@@ -22,7 +22,7 @@ decreases-loop universe deployed z from best most next₀ j₀ next j = most - j
 
 returns : tie.Need-returns-then-not-is_deployed invariant-loop decreases-loop
 returns c =
-    let off = sym c.is_deployed.ensures ∙ not-true c.is_deployed.result c.if-not-is_deployed.true in
+    let off = sym c.is_deployed.ensures ∙ c.if-not-is_deployed.true in
     next-none (λ y i p. true≢false (sym p.1.0 ∙ (rw p.0 off)))
 
 loop-holds : tie.Need-loop-j-init invariant-loop decreases-loop

@@ -11,6 +11,6 @@ unfolding component_at component_text
 write_component_spec =
     tie.close
     (tie.spec
-    (λ c κs. search rules) (λ c. line-absent _ (sym c.is_deployed.ensures ∙ not-true c.is_deployed.result c.if-not-is_deployed.true))
+    (λ c κs. search rules) (λ c. line-absent _ (sym c.is_deployed.ensures ∙ c.if-not-is_deployed.true))
     (λ c κs. search rules) (λ c κs. search rules) (λ c κs. search rules) (λ c. search rules)
-    (λ c. line-there (sym c.is_deployed.ensures ∙ not-false c.is_deployed.result c.if-not-is_deployed.false) (rw (c.kind_of-k.ensures, c.state_of-q.ensures) at c.write_three.ensures)))
+    (λ c. line-there (sym c.is_deployed.ensures ∙ c.if-not-is_deployed.false) (rw (c.kind_of-k.ensures, c.state_of-q.ensures) at c.write_three.ensures)))

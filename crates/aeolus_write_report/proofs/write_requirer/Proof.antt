@@ -12,8 +12,8 @@ unfolding bindings_at
 write_requirer_spec =
     tie.close
     (tie.spec
-    (λ c κs. search rules) (λ c. line-absent _ (first-fails _ (sym c.is_deployed.ensures ∙ not-true c.is_deployed.result c.if-not-is_deployed.true)))
+    (λ c κs. search rules) (λ c. line-absent _ (first-fails _ (sym c.is_deployed.ensures ∙ c.if-not-is_deployed.true)))
     (λ c κs. search rules) (λ c κs. search rules)
-    (λ c. line-absent _ (second-fails (sym c.is_deployed.ensures ∙ not-false c.is_deployed.result c.if-not-is_deployed.false) (rw c.kind_of-k.ensures at (sym c.lists.ensures ∙ not-true c.lists.result c.if-not-lists.true))))
+    (λ c. line-absent _ (second-fails (sym c.is_deployed.ensures ∙ c.if-not-is_deployed.false) (rw c.kind_of-k.ensures at (sym c.lists.ensures ∙ c.if-not-lists.true))))
     (λ c κs. search rules) (λ c κs. search rules) (λ c κs. search rules) (λ c. search rules)
-    (λ c. line-there (both_hold (sym c.is_deployed.ensures ∙ not-false c.is_deployed.result c.if-not-is_deployed.false) (rw c.kind_of-k.ensures at (sym c.lists.ensures ∙ not-false c.lists.result c.if-not-lists.false))) (rw (c.bound_at-m.ensures, c.place_of.ensures, c.kind_of-k.ensures) at c.write_providers.ensures)))
+    (λ c. line-there (both_hold (sym c.is_deployed.ensures ∙ c.if-not-is_deployed.false) (rw c.kind_of-k.ensures at (sym c.lists.ensures ∙ c.if-not-lists.false))) (rw (c.bound_at-m.ensures, c.place_of.ensures, c.kind_of-k.ensures) at c.write_providers.ensures)))

@@ -29,7 +29,7 @@ returns c =
     let h = c in
     let x = c.args in
     let ws = x.state.now in
-    let e = sym (told c.before.before.before.before.before) ∙ not-true h.has_room-fits.result c.if-not-fits.true in
+    let e = sym (told c.before.before.before.before.before) ∙ c.if-not-fits.true in
     (rw (e, in_room) c.no_room-verdict.ensures, (fits-place (walked x.w (state_in ws)) (report_in x.w ws) _ _ d.walk_place-place.ensures (told c.before.before.before.before.before), rw (e, in_room)))
 
 returns-2 : tie.Need-returns
@@ -42,7 +42,7 @@ returns-2 c =
     let x = c.args in
     let ws = x.state.now in
     let w = walked x.w (state_in ws) in
-    let e = sym (told c.before.before.before.before.before.before.before.before.before.before) ∙ not-false h.has_room-fits.result left.if-not-fits.false in
+    let e = sym (told c.before.before.before.before.before.before.before.before.before.before) ∙ left.if-not-fits.false in
     let whole = fits_all written.write_report-written.ensures (leb-true _ _ e) in
     (rw (e, in_room) (size-verdict w (report_in x.w ws) x.answer.now (c.walk_verdict-verdict.ensures (state_in ws) c.done.ensures) whole.0), (fits-place w (report_in x.w ws) _ _ d.walk_place-place.ensures (told c.before.before.before.before.before.before.before.before.before.before), rw (e, in_room) whole.1))
 

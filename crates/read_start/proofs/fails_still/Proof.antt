@@ -7,12 +7,12 @@ use Rattle.read_start.proofs.fails_still.Tie as tie
 
 returns : tie.Need-returns-then-not-present
 unfolding fails_still
-returns c = rw (sym c.present.ensures ∙ not-true c.present.result c.if-not-present.true)
+returns c = rw (sym c.present.ensures ∙ c.if-not-present.true)
 
 returns-2 : tie.Need-returns
 unfolding fails_still
 returns-2 c =
-    rw (c.still_check.ensures, sym c.present.ensures ∙ not-false c.present.result c.if-not-present.false)
+    rw (c.still_check.ensures, sym c.present.ensures ∙ c.if-not-present.false)
 
 pub fails_still_spec : {M : Type 1} → statement M
 fails_still_spec = tie.close (tie.spec

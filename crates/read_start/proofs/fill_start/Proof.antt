@@ -14,7 +14,7 @@ returns c =
     let i = c in
     let g = c in
     rw (c.came_to.ensures, w.clear_words-then-not-goes_on.ensures.0, w.clear_words-then-not-goes_on.ensures.1)
-    (start-stopped _ _ _ _ _ g.read_lines-read.ensures (sym g.goes_on.ensures ∙ not-true g.goes_on.result i.if-not-goes_on.true))
+    (start-stopped _ _ _ _ _ g.read_lines-read.ensures (sym g.goes_on.ensures ∙ i.if-not-goes_on.true))
 
 returns-2 : tie.Need-returns-then-some_unserved
 returns-2 c =
@@ -23,7 +23,7 @@ returns-2 c =
     let i = c in
     let g = c in
     rw (c.clear_words-then-some_unserved.ensures.0, c.clear_words-then-some_unserved.ensures.1)
-    (start-fifty _ _ _ _ _ g.read_lines-read.ensures (sym g.goes_on.ensures ∙ not-false g.goes_on.result i.if-not-goes_on.false) (sym u.some_unserved.ensures ∙ f.if-some_unserved.true))
+    (start-fifty _ _ _ _ _ g.read_lines-read.ensures (sym g.goes_on.ensures ∙ i.if-not-goes_on.false) (sym u.some_unserved.ensures ∙ f.if-some_unserved.true))
 
 returns-3 : tie.Need-returns
 returns-3 c =
@@ -33,7 +33,7 @@ returns-3 c =
     let i = c in
     let g = c in
     rw (c.came_to-2.ensures, w.show_queues.ensures)
-    (start-served _ _ _ _ _ g.read_lines-read.ensures (sym g.goes_on.ensures ∙ not-false g.goes_on.result i.if-not-goes_on.false) (sym u.some_unserved.ensures ∙ f.if-some_unserved.false))
+    (start-served _ _ _ _ _ g.read_lines-read.ensures (sym g.goes_on.ensures ∙ i.if-not-goes_on.false) (sym u.some_unserved.ensures ∙ f.if-some_unserved.false))
 
 pub fill_start_spec : {M : Type 1} → statement M
 fill_start_spec =

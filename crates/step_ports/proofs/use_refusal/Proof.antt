@@ -36,14 +36,14 @@ returns-2 c =
     let a = c in
     let p = c in
     let e = c in
-    rw (looked c.before.before.before.before.before, ← e.server_of-x.ensures, ne_eqb _ _ e.if-x-eq0.false, ← p.provider-v.ensures, ← p.provideport-p.ensures, ← a.active.ensures, not-true a.active.result c.if-not-active.true)
+    rw (looked c.before.before.before.before.before, ← e.server_of-x.ensures, ne_eqb _ _ e.if-x-eq0.false, ← p.provider-v.ensures, ← p.provideport-p.ensures, ← a.active.ensures, c.if-not-active.true)
 
 returns-3 : tie.Need-returns-then-before
 returns-3 c =
     let a = c in
     let p = c in
     let e = c in
-    rw (looked c.before.before.before.before.before.before, ← e.server_of-x.ensures, ne_eqb _ _ e.if-x-eq0.false, ← p.provider-v.ensures, ← p.provideport-p.ensures, ← a.active.ensures, not-false a.active.result c.if-not-active.false, c.if-before.true)
+    rw (looked c.before.before.before.before.before.before, ← e.server_of-x.ensures, ne_eqb _ _ e.if-x-eq0.false, ← p.provider-v.ensures, ← p.provideport-p.ensures, ← a.active.ensures, c.if-not-active.false, c.if-before.true)
 
 returns-4 : tie.Need-returns
 returns-4 c =
@@ -51,7 +51,7 @@ returns-4 c =
     let a = c in
     let p = c in
     let e = c in
-    rw (looked c.before.before.before.before.before.before.before.before, ← e.server_of-x.ensures, ne_eqb _ _ e.if-x-eq0.false, ← p.provider-v.ensures, ← p.provideport-p.ensures, ← a.active.ensures, not-false a.active.result f.if-not-active.false, f.if-before.false, ← c.refusing.ensures)
+    rw (looked c.before.before.before.before.before.before.before.before, ← e.server_of-x.ensures, ne_eqb _ _ e.if-x-eq0.false, ← p.provider-v.ensures, ← p.provideport-p.ensures, ← a.active.ensures, f.if-not-active.false, f.if-before.false, ← c.refusing.ensures)
     c.refuse_if.ensures
 
 pub use_refusal_spec : {M : Type 1} → statement M

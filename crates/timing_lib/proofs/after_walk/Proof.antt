@@ -27,7 +27,7 @@ unfolding in_room no_room over mark_in_room
 returns c =
     let d = c in
     let h = c in
-    let e = sym (told c.before.before.before) ∙ not-true h.has_room.result d.if-not-has_room.true in
+    let e = sym (told c.before.before.before) ∙ d.if-not-has_room.true in
     (λ a. rw (e, in_room, c.unmarked.ensures) c.no_room-verdict.ensures, (rw (e, mark_in_room, c.unmarked.ensures), λ a. rw (e, in_room)))
 
 returns-2 : tie.Need-returns
@@ -38,7 +38,7 @@ returns-2 c =
     let h = c in
     let x = c.args in
     let ws = x.state.now in
-    let e = sym (told c.before.before.before.before.before.before.before.before.before.before) ∙ not-false h.has_room.result d.if-not-has_room.false in
+    let e = sym (told c.before.before.before.before.before.before.before.before.before.before) ∙ d.if-not-has_room.false in
     let whole = fits_all written.write_marked-written.ensures (leb-true _ _ e) in
     let is = c.walk_verdict-verdict.ensures (state_in ws) c.done.ensures in
     (λ a. rw (e, in_room) (size-verdict (walked x.w.passed (state_in ws)) (marked_in x.w ws) a is whole.0), (rw (e, mark_in_room), λ a. rw (e, in_room) whole.1))

@@ -46,7 +46,7 @@ returns-3 c =
     let t = c in
     let l = c.loop-i in
     let h = told item_says _ t.item_then.ensures g.in-Got.is in
-    let last = rw (not-true g.in-Got.more c.if-not-more.true) at h in
+    let last = rw c.if-not-more.true at h in
     some {n = l.n + 1} (l.invariant.0.items ++ ((g.in-Got.behavior, g.in-Got.stamp) ∷ [])) h.within (l.invariant.1 ∙ item-last _ _ _ _ _ _ _ l.invariant.0 (search rules) last)
     (omega (arith, l.invariant.0.count, length-append l.invariant.0.items ((g.in-Got.behavior, g.in-Got.stamp) ∷ []))) (rw p.put_item.ensures (slot_kept _ _ _ _ _ _ _ l.invariant.0 (search rules) h))
 
@@ -66,7 +66,7 @@ loop-again c =
     let t = c in
     let l = c.loop-i in
     let h = told item_says _ t.item_then.ensures g.in-Got.is in
-    (rw p.put_item.ensures (item_on _ _ _ _ _ _ _ l.invariant.0 (search rules) (rw (not-false g.in-Got.more c.if-not-more.false) at h)), l.invariant.1)
+    (rw p.put_item.ensures (item_on _ _ _ _ _ _ _ l.invariant.0 (search rules) (rw c.if-not-more.false at h)), l.invariant.1)
 
 returns-4 : tie.Need-returns invariant-loop decreases-loop
 returns-4 c = let l = c.loop-i in none (l.invariant.1 ∙ items-over _ _ _ _ _ _ _ l.invariant.0 (omega arith))

@@ -26,7 +26,7 @@ returns-3 c =
     let w = c in
     let f = c in (
       row-beyond _ _ _ _ _ _ _ (told form_says _ f.row_form.ensures w.in-Got.is) _ _ _ _ (room-few _ _) (rw g.in-Got-queue_form.is at q.queue_form.ensures)
-          (sym o.row_ok.ensures ∙ not-true o.row_ok.result c.if-not-row_ok.true),
+          (sym o.row_ok.ensures ∙ c.if-not-row_ok.true),
       tt,
     )
 
@@ -43,7 +43,7 @@ returns-4 c =
     let w = c in
     let f = c in (
       row-clause _ _ _ _ _ _ _ (told form_says _ f.row_form.ensures w.in-Got.is) _ _ _ _ (room-few _ _) _ u.pair_up.ensures (rw g.in-Got-queue_form.is at q.queue_form.ensures)
-          (sym o.row_ok.ensures ∙ not-false o.row_ok.result i.if-not-row_ok.false) (rw (← h.held_ok.ensures, ← r.rises_to.ensures) (not-true _ c.if-not-held_ok-rises.true)),
+          (sym o.row_ok.ensures ∙ i.if-not-row_ok.false) (rw (← h.held_ok.ensures, ← r.rises_to.ensures) c.if-not-held_ok-rises.true),
       tt,
     )
 
@@ -59,10 +59,10 @@ returns-5 c =
     let q = c in
     let w = c in
     let f = c in
-    let ok = sym o.row_ok.ensures ∙ not-false o.row_ok.result i.if-not-row_ok.false in
+    let ok = sym o.row_ok.ensures ∙ i.if-not-row_ok.false in
     let queue = rw g.in-Got-queue_form.is at q.queue_form.ensures in (
       row-got _ _ _ _ _ _ _ (told form_says _ f.row_form.ensures w.in-Got.is) _ _ _ _ (room-few _ _) _ u.pair_up.ensures queue ok
-          (rw (← h.held_ok.ensures, ← r.rises_to.ensures) (not-false _ c.if-not-held_ok-rises.false)),
+          (rw (← h.held_ok.ensures, ← r.rises_to.ensures) c.if-not-held_ok-rises.false),
       (row-short _ _ _ _ _ _ ok, (next-within _ _ queue, u.pair_up.ensures.width ∙ slots-wide _ _ queue)),
     )
 
