@@ -3,14 +3,15 @@ use borrow.Author.Rules.{rules}
 use Rattle.outcome_lib.proofs.after_steps.Statement.{statement}
 use Rattle.outcome_lib.proofs.after_steps.Tie as tie
 
-returns : tie.Need-returns
-returns c = rw (ne_eqb _ _ c.if1.true)
+returns : tie.Need-returns-then-refused-ne0
+returns c = rw (ne_eqb _ _ c.if-refused-ne0.true)
 
-returns-2 : tie.Need-returns-2
-returns-2 c = rw (eq-eqb _ _ c.before.if1.false, c.if2.true)
+returns-2 : tie.Need-returns-then-ended
+returns-2 c = rw (eq-eqb _ _ c.if-refused-ne0.false, c.if-ended.true)
 
-returns-3 : tie.Need-returns-3
-returns-3 c = rw (eq-eqb _ _ c.before.if1.false, c.if2.false)
+returns-3 : tie.Need-returns
+returns-3 c = rw (eq-eqb _ _ c.if-refused-ne0.false, c.if-ended.false)
 
-pub after-steps-spec : {M : Type 1} → statement M
-after-steps-spec = tie.close (tie.spec returns returns-2 returns-3)
+pub after_steps_spec : {M : Type 1} → statement M
+after_steps_spec = tie.close (tie.spec
+    returns returns-2 returns-3)

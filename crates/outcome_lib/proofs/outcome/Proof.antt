@@ -13,21 +13,22 @@ use Rattle.outcome_lib.proofs.outcome.Tie as tie
 
 returns : tie.Need-returns
 returns c =
-    let walks = c.before.before.before.before.before.before in
-    let came = walks.before.before.before.before.before.before in
-    let opened = came.before.before.before.open-paper in
+    let walks = c in
+    let came = c in
+    let opened = c.open_paper-opened in
     let o = opened.ensures in
-    let e = outcome-comes _ _ came.outcome-of.ensures o.0 o.1.0 o.1.1 came.before.fill-answer.ensures in
-    let w = walked walks.walk-words.result (state_in walks.walk-words.new.1.1.1.1.0) in
-    let goes = came-course _ _ came.outcome-of.result _ w (outcome-walks _ _ came.outcome-of.result _ _ _ _ {w = w} e walks.walk-words.ensures) in
+    let e = outcome-comes _ _ came.outcome_of-came.ensures o.0 o.1.0 o.1.1 came.fill_answer-read.ensures in
+    let w = walked walks.walk_words-passed.result (state_in walks.walk_words-passed.new.1.1.1.1.0) in
+    let goes = came-course _ _ came.outcome_of-came.result _ w (outcome-walks _ _ came.outcome_of-came.result _ _ _ _ {w = w} e walks.walk_words-passed.ensures) in
     let p = ap (λ (z : Whole (Tables × Program)). z.value.1) o.0 ∙ program-read _ in (
-      c.before.before.outcome-after.ensures
-          ∙ outcome-is _ _ came.outcome-of.result w (program_in opened.new.1.1.1.1.0) goes p c.before.before.before.all_done.ensures,
+      c.outcome_after-outcome.ensures
+          ∙ outcome-is _ _ came.outcome_of-came.result w (program_in opened.new.1.1.1.1.0) goes p c.all_done-ended.ensures,
       c.instructions.ensures ∙ ap (λ (q : Program). q.count) p,
     )
 
-pub outcome-spec : {M : Type 1} → statement M
-outcome-spec =
+pub outcome_spec : {M : Type 1} → statement M
+outcome_spec =
     tie.close
-    (tie.spec (λ c κs. search rules) (λ c κs. search rules) (λ c κs. search rules) (λ c κs. search rules) (λ c κs. search rules) (λ c κs. search rules)
+    (tie.spec
+    (λ c κs. search rules) (λ c κs. search rules) (λ c κs. search rules) (λ c κs. search rules) (λ c κs. search rules) (λ c κs. search rules)
     (λ c κs. search rules) returns)

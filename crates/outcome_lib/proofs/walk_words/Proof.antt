@@ -5,5 +5,6 @@ use Rattle.outcome_lib.proofs.walk_words.Tie as tie
 returns : tie.Need-returns
 returns c = c.walk.ensures
 
-pub walk-words-spec : {M : Type 1} → statement M
-walk-words-spec = tie.close (tie.spec (λ c. search rules) (λ c κs. search rules) returns)
+pub walk_words_spec : {M : Type 1} → statement M
+walk_words_spec = tie.close (tie.spec
+    (λ c. search rules) (λ c κs. search rules) returns)

@@ -7,20 +7,22 @@ use borrow.Author.Rules.{rules}
 use Rattle.page_lib.proofs.write_body.Statement.{statement}
 use Rattle.page_lib.proofs.write_body.Tie as tie
 
-returns : tie.Need-returns
+returns : tie.Need-returns-then-found-eq0
 unfolding body page_text piece_text
-returns c = rw (eq-eqb _ _ c.before.before.before.before.before.if1.true, body) (then c.before.before.write-key.ensures (none _ _))
+returns c = rw (eq-eqb _ _ c.if-found-eq0.true, body) (then c.write_key.ensures (none _ _))
 
-returns-2 : tie.Need-returns-2
+returns-2 : tie.Need-returns
 unfolding body
 returns-2 c =
-    let signs = c.before.before in
-    let beside = signs.before.before.before.before in
-    let next = beside.before.before.before.before in
-    rw (ne_eqb _ _ next.before.before.if1.false, body)
-    (more _ _ next.write-instruction.ensures (more _ _ beside.write-sides.ensures signs.write-signs.ensures))
+    let signs = c in
+    let beside = c in
+    let next = c in
+    rw (ne_eqb _ _ next.if-found-eq0.false, body)
+    (more _ _ next.write_instruction-a.ensures (more _ _ beside.write_sides-b.ensures signs.write_signs.ensures))
 
-pub write-body-spec : {M : Type 1} → statement M
-write-body-spec =
+pub write_body_spec : {M : Type 1} → statement M
+write_body_spec =
     tie.close
-    (tie.spec (λ c. search rules) (λ c κs. search rules) (λ c. length-written (returns c)) returns (λ c κs. search rules) (λ c κs. search rules) (λ c κs. search rules) (λ c. length-written (returns-2 c)) returns-2)
+    (tie.spec
+    (λ c κs. search rules) (λ c. length-written (returns c)) returns (λ c κs. search rules) (λ c κs. search rules) (λ c κs. search rules)
+    (λ c. length-written (returns-2 c)) returns-2)

@@ -8,12 +8,13 @@ use Rattle.page_lib.proofs.write_candidate.Tie as tie
 returns : tie.Need-returns
 unfolding candidate
 returns c =
-    let w3 = c.before.before in
-    let w2 = w3.before.before.before.before in
-    let w1 = w2.before.before.before.before in
-    more _ _ w1.write-opening.ensures (more _ _ w2.write-mark.ensures w3.write-body.ensures)
+    let w3 = c in
+    let w2 = c in
+    let w1 = c in
+    more _ _ w1.write_opening-a.ensures (more _ _ w2.write_mark-b.ensures w3.write_body.ensures)
 
-pub write-candidate-spec : {M : Type 1} → statement M
-write-candidate-spec =
+pub write_candidate_spec : {M : Type 1} → statement M
+write_candidate_spec =
     tie.close
-    (tie.spec (λ c κs. search rules) (λ c κs. search rules) (λ c κs. search rules) (λ c. length-written (returns c)) returns)
+    (tie.spec
+    (λ c κs. search rules) (λ c κs. search rules) (λ c κs. search rules) (λ c. length-written (returns c)) returns)

@@ -7,31 +7,34 @@ use borrow.Author.Rules.{rules}
 use Rattle.page_lib.proofs.write_instruction.Statement.{statement}
 use Rattle.page_lib.proofs.write_instruction.Tie as tie
 
-returns : tie.Need-returns
+returns : tie.Need-returns-then-n-k
 unfolding instruction_line page_text piece_text
-returns c = rw (le-ltb _ _ c.if1.true, instruction_line) (none _ _)
+returns c = rw (le-ltb _ _ c.if-n-k.true, instruction_line) (none _ _)
 
-returns-2 : tie.Need-returns-2
+returns-2 : tie.Need-returns
 unfolding instruction_line page_text piece_text
 returns-2 c =
-    let w9 = c.before.before in
-    let w8 = w9.before.before.before.before.before in
-    let w7 = w8.before.before.before.before.before in
-    let w6 = w7.before.before.before.before.before in
-    let w5 = w6.before.before.before.before in
-    let w4 = w5.before.before.before.before.before in
-    let w3 = w4.before.before.before.before in
-    let w2 = w3.before.before.before.before.before in
-    let w1 = w2.before.before.before.before in
-    let at = w1.before.before.before in
-    let count = at.before in
-    let test = count.before in
-    let x = test.before.before.before.args in
-    let line = next-is x.sheet.now x.n x.k count.line-number.ensures at.less.ensures in
-    rw (lt-ltb _ _ test.if1.false, instruction_line, ← line, ← w8.before.less2.ensures)
-    (then w1.write-key.ensures (then w2.write-number.ensures (then w3.write-key2.ensures (then w4.write-number2.ensures (then w5.write-key3.ensures (then w6.write-number3.ensures (then w7.write-key4.ensures (then w8.show-line.ensures (then w9.write-key5.ensures (none _ _))))))))))
+    let w9 = c in
+    let w8 = c in
+    let w7 = c in
+    let w6 = c in
+    let w5 = c in
+    let w4 = c in
+    let w3 = c in
+    let w2 = c in
+    let w1 = c in
+    let at = c in
+    let count = c in
+    let test = c in
+    let x = c.args in
+    let line = next-is x.sheet.now x.n x.k count.line_number.ensures at.less-line.ensures in
+    rw (lt-ltb _ _ test.if-n-k.false, instruction_line, ← line, ← w8.less.ensures)
+    (then w1.write_key-a.ensures (then w2.write_number-b.ensures (then w3.write_key-c.ensures (then w4.write_number-d.ensures (then w5.write_key-e.ensures (then w6.write_number-f.ensures (then w7.write_key-g.ensures (then w8.show_line-h.ensures (then w9.write_key.ensures (none _ _))))))))))
 
-pub write-instruction-spec : {M : Type 1} → statement M
-write-instruction-spec =
+pub write_instruction_spec : {M : Type 1} → statement M
+write_instruction_spec =
     tie.close
-    (tie.spec returns (λ c κs. search rules) (λ c. search rules) (λ c κs. search rules) (λ c. search rules) (λ c κs. search rules) (λ c κs. search rules) (λ c. search rules) (λ c κs. search rules) (λ c κs. search rules) (λ c. search rules) (λ c κs. search rules) (λ c κs. search rules) (λ c. search rules) (λ c κs. search rules) (λ c κs. search rules) (λ c κs. search rules) (λ c. search rules) (λ c κs. search rules) (λ c. length-written (returns-2 c)) returns-2)
+    (tie.spec
+    returns (λ c κs. search rules) (λ c. search rules) (λ c κs. search rules) (λ c κs. search rules) (λ c κs. search rules) (λ c κs. search rules)
+    (λ c κs. search rules) (λ c κs. search rules) (λ c κs. search rules) (λ c κs. search rules) (λ c κs. search rules) (λ c κs. search rules)
+    (λ c κs. search rules) (λ c. length-written (returns-2 c)) returns-2)

@@ -5,21 +5,22 @@ use borrow.Author.Rules.{rules}
 use Rattle.page_lib.proofs.write_mark.Statement.{statement}
 use Rattle.page_lib.proofs.write_mark.Tie as tie
 
-returns : tie.Need-returns
+returns : tie.Need-returns-then-marked
 unfolding mark_line page_text piece_text
 returns c =
-    let w3 = c.before.before in
-    let w2 = w3.before.before.before.before.before in
-    let w1 = w2.before.before.before.before in
-    let test = w1.before.before.before in
-    rw (test.if1.true, mark_line)
-    (then w1.write-key.ensures (then w2.write-number.ensures (then w3.write-key2.ensures (none _ _))))
+    let w3 = c in
+    let w2 = c in
+    let w1 = c in
+    let test = c in
+    rw (test.if-marked.true, mark_line)
+    (then w1.write_key-a.ensures (then w2.write_number-b.ensures (then w3.write_key.ensures (none _ _))))
 
-returns-2 : tie.Need-returns-2
+returns-2 : tie.Need-returns
 unfolding mark_line page_text piece_text
-returns-2 c = rw (c.if1.false, mark_line) (none _ _)
+returns-2 c = rw (c.if-marked.false, mark_line) (none _ _)
 
-pub write-mark-spec : {M : Type 1} → statement M
-write-mark-spec =
+pub write_mark_spec : {M : Type 1} → statement M
+write_mark_spec =
     tie.close
-    (tie.spec (λ c. search rules) (λ c κs. search rules) (λ c κs. search rules) (λ c. search rules) (λ c κs. search rules) (λ c. length-written (returns c)) returns returns-2)
+    (tie.spec
+    (λ c κs. search rules) (λ c κs. search rules) (λ c κs. search rules) (λ c. length-written (returns c)) returns returns-2)

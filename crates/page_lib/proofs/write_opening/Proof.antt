@@ -8,20 +8,23 @@ use Rattle.page_lib.proofs.write_opening.Tie as tie
 returns : tie.Need-returns
 unfolding opening page_text piece_text
 returns c =
-    let w11 = c.before.before in
-    let w10 = w11.before.before.before.before.before in
-    let w9 = w10.before.before.before.before in
-    let w8 = w9.before.before.before.before.before in
-    let w7 = w8.before.before.before.before in
-    let w6 = w7.before.before.before.before.before in
-    let w5 = w6.before.before.before.before in
-    let w4 = w5.before.before.before.before.before in
-    let w3 = w4.before.before.before.before in
-    let w2 = w3.before.before.before.before.before in
-    let w1 = w2.before.before.before.before in
-    then w1.write-key.ensures (then w2.write-number.ensures (then w3.write-key2.ensures (then w4.write-number2.ensures (then w5.write-key3.ensures (then w6.write-number3.ensures (then w7.write-key4.ensures (then w8.show.ensures (then w9.write-key5.ensures (then w10.write-words.ensures (then w11.write-key6.ensures (none _ _)))))))))))
+    let w11 = c in
+    let w10 = c in
+    let w9 = c in
+    let w8 = c in
+    let w7 = c in
+    let w6 = c in
+    let w5 = c in
+    let w4 = c in
+    let w3 = c in
+    let w2 = c in
+    let w1 = c in
+    then w1.write_key-a.ensures (then w2.write_number-b.ensures (then w3.write_key-c.ensures (then w4.write_number-d.ensures (then w5.write_key-e.ensures (then w6.write_number-f.ensures (then w7.write_key-g.ensures (then w8.show-h.ensures (then w9.write_key-i.ensures (then w10.write_words-j.ensures (then w11.write_key.ensures (none _ _)))))))))))
 
-pub write-opening-spec : {M : Type 1} → statement M
-write-opening-spec =
+pub write_opening_spec : {M : Type 1} → statement M
+write_opening_spec =
     tie.close
-    (tie.spec (λ c. search rules) (λ c κs. search rules) (λ c κs. search rules) (λ c. search rules) (λ c κs. search rules) (λ c κs. search rules) (λ c. search rules) (λ c κs. search rules) (λ c κs. search rules) (λ c. search rules) (λ c κs. search rules) (λ c κs. search rules) (λ c. search rules) (λ c κs. search rules) (λ c κs. search rules) (λ c. search rules) (λ c κs. search rules) (λ c. length-written (returns c)) returns)
+    (tie.spec
+    (λ c κs. search rules) (λ c κs. search rules) (λ c κs. search rules) (λ c κs. search rules) (λ c κs. search rules) (λ c κs. search rules)
+    (λ c κs. search rules) (λ c κs. search rules) (λ c κs. search rules) (λ c κs. search rules) (λ c κs. search rules)
+    (λ c. length-written (returns c)) returns)

@@ -9,17 +9,19 @@ use Rattle.page_lib.proofs.write_sides.Tie as tie
 returns : tie.Need-returns
 unfolding sides piece_text
 returns c =
-    let w8 = c.before.before in
-    let w7 = w8.before.before.before.before.before in
-    let w6 = w7.before.before.before.before in
-    let w5 = w6.before.before.before.before.before in
-    let w4 = w5.before.before.before.before.before in
-    let w3 = w4.before.before.before.before in
-    let w2 = w3.before.before.before.before.before in
-    let w1 = w2.before.before.before.before in
-    one _ _ w1.write-key.ensures (one _ _ w2.write-number.ensures (one _ _ w3.write-key2.ensures (more _ _ w4.write-lines.ensures (one _ _ w5.write-key3.ensures (one _ _ w6.write-key4.ensures (more _ _ w7.write-rows.ensures (one _ _ w8.write-key5.ensures (end _ _))))))))
+    let w8 = c in
+    let w7 = c in
+    let w6 = c in
+    let w5 = c in
+    let w4 = c in
+    let w3 = c in
+    let w2 = c in
+    let w1 = c in
+    one _ _ w1.write_key-a.ensures (one _ _ w2.write_number-b.ensures (one _ _ w3.write_key-c.ensures (more _ _ w4.write_lines-d.ensures (one _ _ w5.write_key-e.ensures (one _ _ w6.write_key-f.ensures (more _ _ w7.write_rows-g.ensures (one _ _ w8.write_key.ensures (end _ _))))))))
 
-pub write-sides-spec : {M : Type 1} → statement M
-write-sides-spec =
+pub write_sides_spec : {M : Type 1} → statement M
+write_sides_spec =
     tie.close
-    (tie.spec (λ c. search rules) (λ c κs. search rules) (λ c κs. search rules) (λ c. search rules) (λ c κs. search rules) (λ c κs. search rules) (λ c. search rules) (λ c κs. search rules) (λ c. search rules) (λ c κs. search rules) (λ c κs. search rules) (λ c. search rules) (λ c κs. search rules) (λ c. length-written (returns c)) returns)
+    (tie.spec
+    (λ c κs. search rules) (λ c κs. search rules) (λ c κs. search rules) (λ c κs. search rules) (λ c κs. search rules) (λ c κs. search rules)
+    (λ c κs. search rules) (λ c κs. search rules) (λ c. length-written (returns c)) returns)

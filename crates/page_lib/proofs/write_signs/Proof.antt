@@ -8,11 +8,12 @@ use Rattle.page_lib.proofs.write_signs.Tie as tie
 returns : tie.Need-returns
 unfolding signs page_text piece_text
 returns c =
-    let w2 = c.before.before in
-    let w1 = w2.before.before.before.before.before in
-    then w1.write-key.ensures (then w2.write-key2.ensures (none _ _))
+    let w2 = c in
+    let w1 = c in
+    then w1.write_key-a.ensures (then w2.write_key.ensures (none _ _))
 
-pub write-signs-spec : {M : Type 1} → statement M
-write-signs-spec =
+pub write_signs_spec : {M : Type 1} → statement M
+write_signs_spec =
     tie.close
-    (tie.spec (λ c. search rules) (λ c κs. search rules) (λ c. search rules) (λ c κs. search rules) (λ c. length-written (returns c)) returns)
+    (tie.spec
+    (λ c κs. search rules) (λ c κs. search rules) (λ c. length-written (returns c)) returns)

@@ -8,11 +8,12 @@ use Rattle.page_lib.proofs.write_unreadable.Tie as tie
 returns : tie.Need-returns
 unfolding unreadable
 returns c =
-    let w2 = c.before.before in
-    let w1 = w2.before.before.before.before in
-    more _ _ w1.write-opening.ensures w2.write-signs.ensures
+    let w2 = c in
+    let w1 = c in
+    more _ _ w1.write_opening-a.ensures w2.write_signs.ensures
 
-pub write-unreadable-spec : {M : Type 1} → statement M
-write-unreadable-spec =
+pub write_unreadable_spec : {M : Type 1} → statement M
+write_unreadable_spec =
     tie.close
-    (tie.spec (λ c κs. search rules) (λ c κs. search rules) (λ c. length-written (returns c)) returns)
+    (tie.spec
+    (λ c κs. search rules) (λ c κs. search rules) (λ c. length-written (returns c)) returns)

@@ -8,14 +8,16 @@ use Rattle.page_style.proofs.write_colours.Tie as tie
 returns : tie.Need-returns
 unfolding look_in_colour page_text piece_text
 returns c =
-    let w5 = c.before.before in
-    let w4 = w5.before.before.before.before.before in
-    let w3 = w4.before.before.before.before.before in
-    let w2 = w3.before.before.before.before.before in
-    let w1 = w2.before.before.before.before.before in
-    then w1.write-key.ensures (then w2.write-key2.ensures (then w3.write-key3.ensures (then w4.write-key4.ensures (then w5.write-key5.ensures (none _ _)))))
+    let w5 = c in
+    let w4 = c in
+    let w3 = c in
+    let w2 = c in
+    let w1 = c in
+    then w1.write_key-a.ensures (then w2.write_key-b.ensures (then w3.write_key-c.ensures (then w4.write_key-d.ensures (then w5.write_key.ensures (none _ _)))))
 
-pub write-colours-spec : {M : Type 1} → statement M
-write-colours-spec =
+pub write_colours_spec : {M : Type 1} → statement M
+write_colours_spec =
     tie.close
-    (tie.spec (λ c. search rules) (λ c κs. search rules) (λ c. search rules) (λ c κs. search rules) (λ c. search rules) (λ c κs. search rules) (λ c. search rules) (λ c κs. search rules) (λ c. search rules) (λ c κs. search rules) (λ c. length-written (returns c)) returns)
+    (tie.spec
+    (λ c κs. search rules) (λ c κs. search rules) (λ c κs. search rules) (λ c κs. search rules) (λ c κs. search rules)
+    (λ c. length-written (returns c)) returns)

@@ -5,10 +5,10 @@ use Rattle.passlist_lib.proofs.candidates_of.Tie as tie
 
 returns : tie.Need-returns
 unfolding candidates
-returns c = rw (c.sum-of5.ensures, c.before.before.sum-of4.ensures, c.before.before.before.before.sum-of3.ensures, c.before.before.before.before.before.before.sum-of2.ensures, c.before.before.before.before.before.before.before.before.sum_of.ensures)
+returns c = rw (c.sum_of.ensures, c.sum_of-d.ensures, c.sum_of-c.ensures, c.sum_of-b.ensures, c.sum_of-a.ensures)
 
-pub candidates-of-spec : {M : Type 1} → statement M
-candidates-of-spec =
+pub candidates_of_spec : {M : Type 1} → statement M
+candidates_of_spec =
     tie.close
     (tie.spec
     (λ c. search rules) (λ c. search rules) (λ c κs. search rules) (λ c. search rules) (λ c κs. search rules) (λ c. search rules)

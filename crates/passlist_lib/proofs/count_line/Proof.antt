@@ -5,10 +5,10 @@ use Rattle.passlist_lib.proofs.count_line.Tie as tie
 
 returns : tie.Need-returns
 unfolding counted
-returns c = rw (← c.before.before.before.line-standing.ensures, ← c.before.before.place_of.ensures.0, ← c.sum_of.ensures)
+returns c = rw (← c.line_standing.ensures, ← c.place_of-k.ensures.0, ← c.sum_of.ensures)
 
-pub count-line-spec : {M : Type 1} → statement M
-count-line-spec =
+pub count_line_spec : {M : Type 1} → statement M
+count_line_spec =
     tie.close
     (tie.spec
     (λ c κs. search rules) (λ c κs. search rules) (λ c. search rules) (λ c. search rules) (λ c κs. search rules) (λ c. search rules)

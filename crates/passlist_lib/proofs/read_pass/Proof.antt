@@ -9,18 +9,17 @@ use Rattle.passlist_lib.proofs.Laws.{pass-fault, pass-is}
 use Rattle.passlist_lib.proofs.read_pass.Statement.{statement}
 use Rattle.passlist_lib.proofs.read_pass.Tie as tie
 
-returns : tie.Need-returns
-returns c = pass-fault (told mark_says _ c.before.before.last-mark.ensures c.enum_told.given.1)
+returns : tie.Need-returns-in_default
+returns c = pass-fault (told mark_says _ c.last_mark.ensures c.in_default.is)
 
-returns-2 : tie.Need-returns-2
-returns-2 c = rw c.before.mark2.given.1 at (pass-is (told mark_says _ c.before.before.before.before.before.before.last-mark.ensures c.before.before.before.before.mark.given.1))
+returns-2 : tie.Need-returns-in-Of
+returns-2 c = rw c.in-Of.is at (pass-is (told mark_says _ c.last_mark.ensures c.in-Got.is))
 
-returns-3 : tie.Need-returns-3
-returns-3 c = rw c.enum-told2.given.1 at (pass-is (told mark_says _ c.before.before.before.before.before.last-mark.ensures c.before.before.before.mark.given.1))
+returns-3 : tie.Need-returns-in-Empty
+returns-3 c = rw c.in-Empty.is at (pass-is (told mark_says _ c.last_mark.ensures c.in-Got.is))
 
-pub read-pass-spec : {M : Type 1} → statement M
-read-pass-spec =
+pub read_pass_spec : {M : Type 1} → statement M
+read_pass_spec =
     tie.close
     (tie.spec
-    (λ c. search rules) (λ c κs. search rules) (λ c. search rules) (λ c. search rules) returns (λ c. search rules) (λ c. search rules) returns-2
-    returns-3)
+    (λ c κs. search rules) (λ c. search rules) (λ c. search rules) returns (λ c. search rules) (λ c. search rules) returns-2 returns-3)

@@ -10,38 +10,38 @@ use Rattle.passlist_lib.proofs.Laws.{said_then, mark_then, row-fault, row_is, re
 use Rattle.passlist_lib.proofs.row_standing.Statement.{statement}
 use Rattle.passlist_lib.proofs.row_standing.Tie as tie
 
-returns : tie.Need-returns
+returns : tie.Need-returns-in_default
 unfolding row_says
-returns c = row-fault c.before.before.before.before.args.pass (read-fault (past_cell Name) (λ _. said_then) (told due_says _ c.before.before.past-cell.ensures c.enum_told.given.1))
+returns c = row-fault c.args.pass (read-fault (past_cell Name) (λ _. said_then) (told due_says _ c.past_cell.ensures c.in_default.is))
 
-returns-2 : tie.Need-returns-2
+returns-2 : tie.Need-returns-in_default-said_at
 unfolding row_says
 returns-2 c =
-    row-fault c.before.before.before.before.before.before.before.before.args.pass
-    (read-then (past_cell Name) (λ _. said_then) (told due_says _ c.before.before.before.before.before.before.past-cell.ensures c.before.before.before.before.a.given.1)
-    (read-fault said_cell mark_then (told said_says _ c.before.before.Said-at.ensures c.enum-told2.given.1)))
+    row-fault c.args.pass
+    (read-then (past_cell Name) (λ _. said_then) (told due_says _ c.past_cell.ensures c.in-Past.is)
+    (read-fault said_cell mark_then (told said_says _ c.Said-at.ensures c.in_default-said_at.is)))
 
-returns-3 : tie.Need-returns-3
+returns-3 : tie.Need-returns-in_default-number_cells
 unfolding row_says
 returns-3 c =
-    row-fault c.before.before.before.before.before.before.before.before.before.before.before.before.args.pass
-    (read-then (past_cell Name) (λ _. said_then) (told due_says _ c.before.before.before.before.before.before.before.before.before.before.past-cell.ensures c.before.before.before.before.before.before.before.before.a.given.1)
-    (read-then said_cell mark_then (told said_says _ c.before.before.before.before.before.before.Said-at.ensures c.before.before.before.before.said.given.1)
-    (read-fault number_cells (λ m. give (_, m)) (told mark_says _ c.before.before.number-cells.ensures c.enum-told3.given.1))))
+    row-fault c.args.pass
+    (read-then (past_cell Name) (λ _. said_then) (told due_says _ c.past_cell.ensures c.in-Past.is)
+    (read-then said_cell mark_then (told said_says _ c.Said-at.ensures c.in-Got.is)
+    (read-fault number_cells (λ m. give (_, m)) (told mark_says _ c.number_cells.ensures c.in_default-number_cells.is))))
 
-returns-4 : tie.Need-returns-4
+returns-4 : tie.Need-returns
 unfolding row_says
 returns-4 c =
-    let k = told mark_says _ c.before.before.before.before.number-cells.ensures c.before.before.mark.given.1 in
+    let k = told mark_says _ c.number_cells.ensures c.in-Got-number_cells.is in
     c.Standing-by.ensures
-    ∙ row_is c.before.before.before.before.before.before.before.before.before.before.before.before.before.before.args.pass
-    (read-then (past_cell Name) (λ _. said_then) (told due_says _ c.before.before.before.before.before.before.before.before.before.before.before.before.past-cell.ensures c.before.before.before.before.before.before.before.before.before.before.a.given.1)
-    (read-then said_cell mark_then (told said_says _ c.before.before.before.before.before.before.before.before.Said-at.ensures c.before.before.before.before.before.before.said.given.1)
+    ∙ row_is c.args.pass
+    (read-then (past_cell Name) (λ _. said_then) (told due_says _ c.past_cell.ensures c.in-Past.is)
+    (read-then said_cell mark_then (told said_says _ c.Said-at.ensures c.in-Got.is)
     (read-then number_cells (λ m. give (_, m)) k (record { within = k.within; same = refl }))))
 
-pub row-standing-spec : {M : Type 1} → statement M
-row-standing-spec =
+pub row_standing_spec : {M : Type 1} → statement M
+row_standing_spec =
     tie.close
     (tie.spec
-    (λ c κs. search rules) (λ c. search rules) (λ c. search rules) returns (λ c κs. search rules) (λ c. search rules) (λ c. search rules)
-    returns-2 (λ c κs. search rules) (λ c. search rules) (λ c. search rules) returns-3 (λ c κs. search rules) returns-4)
+    (λ c κs. search rules) (λ c. search rules) (λ c. search rules) returns (λ c κs. search rules) (λ c. search rules) (λ c. search rules) returns-2
+    (λ c κs. search rules) (λ c. search rules) (λ c. search rules) returns-3 (λ c κs. search rules) returns-4)

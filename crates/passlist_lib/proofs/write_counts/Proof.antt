@@ -4,24 +4,23 @@ use Rattle.passlist_spec.specs.Listed.{counts_text}
 use Rattle.passlist_lib.proofs.write_counts.Statement.{statement}
 use Rattle.passlist_lib.proofs.write_counts.Tie as tie
 
-same_length : tie.Need-same-length
+same_length : tie.Need-shape_of-t
 same_length c =
     length-written
-    (then (then (then (then (then (then c.before.before.before.before.before.before.before.before.before.before.before.before.before.before.before.before.before.before.before.before.before.before.before.before.before.before.before.before.before.before.before.before.before.before.before.before.before.before.write-count.ensures c.before.before.before.before.before.before.before.before.before.before.before.before.before.before.before.before.before.before.before.before.before.before.before.before.before.before.before.before.before.before.before.before.write-count2.ensures) c.before.before.before.before.before.before.before.before.before.before.before.before.before.before.before.before.before.before.before.before.before.before.before.before.before.before.write-count3.ensures) c.before.before.before.before.before.before.before.before.before.before.before.before.before.before.before.before.before.before.before.before.write-count4.ensures) c.before.before.before.before.before.before.before.before.before.before.before.before.before.before.write-count5.ensures) c.before.before.before.before.before.before.before.before.write-count6.ensures)
-    c.before.before.write-count7.ensures)
+    (then (then (then (then (then (then c.write_count-a.ensures c.write_count-b.ensures) c.write_count-c.ensures) c.write_count-d.ensures) c.write_count-e.ensures) c.write_count-f.ensures)
+    c.write_count.ensures)
 
 returns : tie.Need-returns
 unfolding counts_text
 returns c =
-    rw (← c.before.before.before.candidates-of.ensures)
-    (then (then (then (then (then (then c.before.before.before.before.before.before.before.before.before.before.before.before.before.before.before.before.before.before.before.before.before.before.before.before.before.before.before.before.before.before.before.before.before.before.before.before.before.before.write-count.ensures c.before.before.before.before.before.before.before.before.before.before.before.before.before.before.before.before.before.before.before.before.before.before.before.before.before.before.before.before.before.before.before.before.write-count2.ensures) c.before.before.before.before.before.before.before.before.before.before.before.before.before.before.before.before.before.before.before.before.before.before.before.before.before.before.write-count3.ensures) c.before.before.before.before.before.before.before.before.before.before.before.before.before.before.before.before.before.before.before.before.write-count4.ensures) c.before.before.before.before.before.before.before.before.before.before.before.before.before.before.write-count5.ensures) c.before.before.before.before.before.before.before.before.write-count6.ensures)
-    c.before.before.write-count7.ensures)
+    rw (← c.candidates_of.ensures)
+    (then (then (then (then (then (then c.write_count-a.ensures c.write_count-b.ensures) c.write_count-c.ensures) c.write_count-d.ensures) c.write_count-e.ensures) c.write_count-f.ensures)
+    c.write_count.ensures)
 
-pub write-counts-spec : {M : Type 1} → statement M
-write-counts-spec =
+pub write_counts_spec : {M : Type 1} → statement M
+write_counts_spec =
     tie.close
     (tie.spec
-    (λ c. search rules) (λ c. search rules) (λ c κs. search rules) (λ c. search rules) (λ c. search rules) (λ c κs. search rules)
-    (λ c. search rules) (λ c. search rules) (λ c κs. search rules) (λ c. search rules) (λ c. search rules) (λ c κs. search rules)
-    (λ c. search rules) (λ c. search rules) (λ c κs. search rules) (λ c. search rules) (λ c. search rules) (λ c κs. search rules)
-    (λ c. search rules) (λ c κs. search rules) (λ c κs. search rules) same_length returns)
+    (λ c. search rules) (λ c κs. search rules) (λ c. search rules) (λ c κs. search rules) (λ c. search rules) (λ c κs. search rules)
+    (λ c. search rules) (λ c κs. search rules) (λ c. search rules) (λ c κs. search rules) (λ c. search rules) (λ c κs. search rules)
+    (λ c κs. search rules) (λ c κs. search rules) same_length returns)

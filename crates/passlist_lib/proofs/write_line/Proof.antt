@@ -7,19 +7,19 @@ use Rattle.passlist_spec.specs.Listed.{place_of, line_text}
 use Rattle.passlist_lib.proofs.write_line.Statement.{statement}
 use Rattle.passlist_lib.proofs.write_line.Tie as tie
 
-same_length : tie.Need-same-length
-same_length c = length-written c.before.before.write-passed.ensures
+same_length : tie.Need-shape_of-t-then-place_of-eq0
+same_length c = length-written c.write_passed.ensures
 
-returns : tie.Need-returns
+returns : tie.Need-returns-then-place_of-eq0
 unfolding line_text
-returns c = rw (← c.before.before.before.before.before.before.line-standing.ensures, ← c.before.before.before.before.before.place_of.ensures.0, eq-eqb _ _ c.before.before.before.before.if1.true) c.before.before.write-passed.ensures
+returns c = rw (← c.line_standing.ensures, ← c.place_of.ensures.0, eq-eqb _ _ c.if-place_of-eq0.true) c.write_passed.ensures
 
-returns-2 : tie.Need-returns-2
+returns-2 : tie.Need-returns
 unfolding line_text
-returns-2 c = rw (← c.before.before.line-standing.ensures, ← c.before.place_of.ensures.0, ne_eqb _ _ c.if1.false) (none _ _)
+returns-2 c = rw (← c.line_standing.ensures, ← c.place_of.ensures.0, ne_eqb _ _ c.if-place_of-eq0.false) (none _ _)
 
-pub write-line-spec : {M : Type 1} → statement M
-write-line-spec =
+pub write_line_spec : {M : Type 1} → statement M
+write_line_spec =
     tie.close
     (tie.spec
     (λ c κs. search rules) (λ c κs. search rules) (λ c κs. search rules) same_length returns returns-2)

@@ -7,18 +7,17 @@ use Rattle.passlist_lib.proofs.write_passed.Statement.{statement}
 use Rattle.passlist_lib.proofs.write_passed.Tie as tie
 
 slice-aggregate-write-key-2 : tie.Need-slice-aggregate-write-key-2
-slice-aggregate-write-key-2 c = simp length-take (omega (arith, c.before.before.before.before.before.before.before.name-size.ensures.0))
+slice-aggregate-write-key-2 c = simp length-take (omega (arith, c.name_size-n.ensures.0))
 
-same_length : tie.Need-same-length
-same_length c = length-written (then (then c.before.before.before.before.before.before.before.before.before.before.before.write-key.ensures c.before.before.before.before.before.before.write-key2.ensures) c.before.before.write_byte.ensures)
+same_length : tie.Need-shape_of-t
+same_length c = length-written (then (then c.write_key-a.ensures c.write_key-b.ensures) c.write_byte.ensures)
 
 returns : tie.Need-returns
 unfolding passed_line
-returns c = rw c.before.before.before.before.before.before.before.before.before.before.before.before.before.before.name-size.ensures.1 at (then (then c.before.before.before.before.before.before.before.before.before.before.before.write-key.ensures c.before.before.before.before.before.before.write-key2.ensures) c.before.before.write_byte.ensures)
+returns c = rw c.name_size-n.ensures.1 at (then (then c.write_key-a.ensures c.write_key-b.ensures) c.write_byte.ensures)
 
-pub write-passed-spec : {M : Type 1} → statement M
-write-passed-spec =
+pub write_passed_spec : {M : Type 1} → statement M
+write_passed_spec =
     tie.close
     (tie.spec
-    (λ c κs. search rules) (λ c. search rules) (λ c κs. search rules) slice-aggregate-write-key-2 (λ c κs. search rules) (λ c κs. search rules)
-    same_length returns)
+    (λ c κs. search rules) (λ c κs. search rules) slice-aggregate-write-key-2 (λ c κs. search rules) (λ c κs. search rules) same_length returns)

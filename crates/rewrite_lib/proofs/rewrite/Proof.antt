@@ -9,26 +9,27 @@ use Rattle.rewrite_lib.proofs.Bytes.{counted}
 use Rattle.rewrite_lib.proofs.rewrite.Statement.{statement}
 use Rattle.rewrite_lib.proofs.rewrite.Tie as tie
 
-returns : tie.Need-returns
+returns : tie.Need-returns-then-read-ne0
 unfolding after_fault
 returns c =
-    let y = c.before.before.before.fill-sheet in
-    let s = c.before.before.before.before.before.before.before in
-    (refused-so (sheet-came _ y.ensures) s.args.out.now c.before.if1.true c.after-fault.result.line (ap (λ (v : Verdict). v.line) c.after-fault.ensures), (search rules, refl))
+    let y = c.fill_sheet-read in
+    let s = c in
+    (refused-so (sheet-came _ y.ensures) s.args.out.now c.if-read-ne0.true c.after_fault-fault.result.line (ap (λ (v : Verdict). v.line) c.after_fault-fault.ensures), (search rules, refl))
 
-write-sheet-requires : tie.Need-write-sheet-requires
+write-sheet-requires : tie.Need-write_sheet-written-requires
 write-sheet-requires c κs =
-    let k = sheet-came _ c.before.before.before.before.before.fill-sheet.ensures in
-    let z = c.before.before.before.if1.false in
-    (k.short-is z, λ e. k.begins-so z (sym c.before.depth.ensures ∙ e))
+    let k = sheet-came _ c.fill_sheet-read.ensures in
+    let z = c.if-read-ne0.false in
+    (k.short-is z, λ e. k.begins-so z (sym c.depth-depth.ensures ∙ e))
 
-returns-2 : tie.Need-returns-2
+returns-2 : tie.Need-returns
 returns-2 c =
-    let k = sheet-came _ c.before.before.before.before.before.before.fill-sheet.ensures in
-    let s = c.before.before.before.before.before.before.before.before.before.before in
-    let d = c.before.before.depth.ensures in
-    let (size, is) = rw d at c.write-sheet.ensures in
-    (rewritten-so k s.args.out.now c.before.before.before.before.if1.false _ _ size is, counted _ s.args.out.now _ _ size is)
+    let k = sheet-came _ c.fill_sheet-read.ensures in
+    let s = c in
+    let d = c.depth-depth.ensures in
+    let (size, is) = rw d at c.write_sheet-written.ensures in
+    (rewritten-so k s.args.out.now c.if-read-ne0.false _ _ size is, counted _ s.args.out.now _ _ size is)
 
-pub rewrite-spec : {M : Type 1} → statement M
-rewrite-spec = tie.close (tie.spec (λ c κs. search rules) (λ c κs. search rules) returns (λ c κs. search rules) write-sheet-requires returns-2)
+pub rewrite_spec : {M : Type 1} → statement M
+rewrite_spec = tie.close (tie.spec
+    (λ c κs. search rules) (λ c κs. search rules) returns (λ c κs. search rules) write-sheet-requires returns-2)

@@ -5,14 +5,15 @@ use Rattle.rewrite_lib.proofs.Bytes.{as_it_was, with-four}
 use Rattle.rewrite_lib.proofs.write_sheet.Statement.{statement}
 use Rattle.rewrite_lib.proofs.write_sheet.Tie as tie
 
-returns : tie.Need-returns
+returns : tie.Need-returns-then-depth-eq0
 returns c =
-    let s = c.before.before.before.before.before.before in
-    with-four s.requires.0 c.before.before.before.before.write-key-arg.given.0.1 c.before.before.before.write-key.ensures
-    c.write_byte.ensures s.args.depth c.before.before.if1.true (s.requires.1 c.before.before.if1.true)
+    let s = c in
+    with-four s.requires.0 c.write_key-arg-1.given.0.1 c.write_key-written.ensures
+    c.write_byte.ensures s.args.depth c.if-depth-eq0.true (s.requires.1 c.if-depth-eq0.true)
 
-returns-2 : tie.Need-returns-2
-returns-2 c = as_it_was c.before.before.before.before.requires.0 c.before.before.write-key-arg.given.0.1 c.before.write-key.ensures c.before.before.before.before.args.depth c.if1.false
+returns-2 : tie.Need-returns
+returns-2 c = as_it_was c.requires.0 c.write_key-arg-1.given.0.1 c.write_key-written.ensures c.args.depth c.if-depth-eq0.false
 
-pub write-sheet-spec : {M : Type 1} → statement M
-write-sheet-spec = tie.close (tie.spec (λ c κs. search rules) (λ c κs. search rules) returns returns-2)
+pub write_sheet_spec : {M : Type 1} → statement M
+write_sheet_spec = tie.close (tie.spec
+    (λ c κs. search rules) (λ c κs. search rules) returns returns-2)

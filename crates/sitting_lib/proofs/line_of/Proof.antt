@@ -5,7 +5,8 @@ use Rattle.sitting_lib.proofs.line_of.Statement.{statement}
 use Rattle.sitting_lib.proofs.line_of.Tie as tie
 
 returns : tie.Need-returns
-returns c = rw (from_end, c.before.line-size.ensures, line_taken, c.before.before.line-start.ensures, c.before.before.before.less.ensures) at c.part_of.ensures.holds
+returns c = rw (from_end, c.line_size-size.ensures, line_taken, c.line_start-start.ensures, c.less.ensures) at c.part_of.ensures.holds
 
-pub line-of-spec : {M : Type 1} → statement M
-line-of-spec = tie.close (tie.spec (λ c κs. search rules) (λ c κs. search rules) (λ c κs. search rules) (λ c κs. search rules) returns)
+pub line_of_spec : {M : Type 1} → statement M
+line_of_spec = tie.close (tie.spec
+    (λ c κs. search rules) (λ c κs. search rules) (λ c κs. search rules) (λ c κs. search rules) returns)

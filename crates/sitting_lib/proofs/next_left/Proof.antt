@@ -3,11 +3,12 @@ use borrow.Author.Rules.{rules}
 use Rattle.sitting_lib.proofs.next_left.Statement.{statement}
 use Rattle.sitting_lib.proofs.next_left.Tie as tie
 
-returns : tie.Need-returns
-returns c = rw (lt-ltb _ _ c.before.before.if1.true) c.begins-at.ensures
+returns : tie.Need-returns-then-k-count
+returns c = rw (lt-ltb _ _ c.if-k-count.true) c.begins_at.ensures
 
-returns-2 : tie.Need-returns-2
-returns-2 c = rw (le-ltb _ _ c.if1.false)
+returns-2 : tie.Need-returns
+returns-2 c = rw (le-ltb _ _ c.if-k-count.false)
 
-pub next-left-spec : {M : Type 1} → statement M
-next-left-spec = tie.close (tie.spec (λ c. search rules) (λ c κs. search rules) returns returns-2)
+pub next_left_spec : {M : Type 1} → statement M
+next_left_spec = tie.close (tie.spec
+    (λ c κs. search rules) returns returns-2)

@@ -6,7 +6,8 @@ use Rattle.sitting_lib.proofs.write_candidate.Tie as tie
 
 returns : tie.Need-returns
 unfolding candidate_text
-returns c = then c.before.before.before.before.before.before.write-name.ensures c.before.before.write-either.ensures
+returns c = then c.write_name-at.ensures c.write_either.ensures
 
-pub write-candidate-spec : {M : Type 1} → statement M
-write-candidate-spec = tie.close (tie.spec (λ c κs. search rules) (λ c κs. search rules) (λ c. search rules) returns)
+pub write_candidate_spec : {M : Type 1} → statement M
+write_candidate_spec = tie.close (tie.spec
+    (λ c κs. search rules) (λ c κs. search rules) (λ c. search rules) returns)

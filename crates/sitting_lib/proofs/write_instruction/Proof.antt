@@ -7,8 +7,10 @@ use Rattle.sitting_lib.proofs.write_instruction.Tie as tie
 returns : tie.Need-returns
 unfolding instruction_text
 returns c =
-    let place = then (then (then c.before.before.before.before.before.before.before.before.before.before.before.before.before.before.before.before.before.before.write-number.ensures c.before.before.before.before.before.before.before.before.before.before.before.before.before.before.write_byte.ensures) c.before.before.before.before.before.before.before.before.before.before.write-number2.ensures) c.before.before.before.before.before.before.write-byte2.ensures in
-    then place (rw c.before.before.before.before.before.before.before.before.before.before.before.before.before.before.before.before.before.before.before.before.line_of.ensures at c.before.before.show-first.ensures)
+    let place = then (then (then c.write_number-a.ensures c.write_byte-b.ensures) c.write_number-c.ensures) c.write_byte-d.ensures in
+    then place (rw c.line_of-line.ensures at c.show_first.ensures)
 
-pub write-instruction-spec : {M : Type 1} → statement M
-write-instruction-spec = tie.close (tie.spec (λ c κs. search rules) (λ c κs. search rules) (λ c κs. search rules) (λ c κs. search rules) (λ c κs. search rules) (λ c κs. search rules) (λ c. search rules) returns)
+pub write_instruction_spec : {M : Type 1} → statement M
+write_instruction_spec = tie.close (tie.spec
+    (λ c κs. search rules) (λ c κs. search rules) (λ c κs. search rules) (λ c κs. search rules) (λ c κs. search rules) (λ c κs. search rules)
+    (λ c. search rules) returns)

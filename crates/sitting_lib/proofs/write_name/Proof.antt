@@ -6,7 +6,8 @@ use Rattle.sitting_lib.proofs.write_name.Tie as tie
 
 returns : tie.Need-returns
 unfolding name_text
-returns c = then (then c.before.before.before.before.before.before.before.before.before.before.write-key.ensures c.before.before.before.before.before.before.show-cell.ensures) c.before.before.write_byte.ensures
+returns c = then (then c.write_key-a.ensures c.show_cell-b.ensures) c.write_byte.ensures
 
-pub write-name-spec : {M : Type 1} → statement M
-write-name-spec = tie.close (tie.spec (λ c. search rules) (λ c κs. search rules) (λ c κs. search rules) (λ c κs. search rules) (λ c. search rules) returns)
+pub write_name_spec : {M : Type 1} → statement M
+write_name_spec = tie.close (tie.spec
+    (λ c κs. search rules) (λ c κs. search rules) (λ c κs. search rules) (λ c. search rules) returns)

@@ -4,7 +4,8 @@ use Rattle.sitting_lib.proofs.write_print.Statement.{statement}
 use Rattle.sitting_lib.proofs.write_print.Tie as tie
 
 returns : tie.Need-returns
-returns c = rw (print-taken _ _ _ _ c.before.before.before.before.before.print.ensures.0.used-is c.before.before.before.before.before.print.ensures.0.array-is) at c.before.before.write-key.ensures
+returns c = rw (print-taken _ _ _ _ c.print-used.ensures.0.used-is c.print-used.ensures.0.array-is) at c.write_key.ensures
 
-pub write-print-spec : {M : Type 1} → statement M
-write-print-spec = tie.close (tie.spec (λ c κs. search rules) (λ c. search rules) (λ c. search rules) (λ c κs. search rules) (λ c. search rules) returns)
+pub write_print_spec : {M : Type 1} → statement M
+write_print_spec = tie.close (tie.spec
+    (λ c κs. search rules) (λ c. search rules) (λ c. search rules) (λ c κs. search rules) (λ c. search rules) returns)

@@ -7,9 +7,10 @@ use Rattle.sitting_lib.proofs.write_told.Tie as tie
 returns : tie.Need-returns
 unfolding told_text
 returns c =
-    let fault = c.before.before.before.before.before.before.before.before.before.before.before.before.before.before.before.before.before.at-fault.ensures in
-    let word = then c.before.before.before.before.before.before.before.before.before.before.before.before.before.before.write-key.ensures c.before.before.before.before.before.before.before.before.before.before.write-outcome.ensures in
-    then (then word (rw fault at c.before.before.before.before.before.before.write-where.ensures)) (rw fault at c.before.before.write-offending.ensures)
+    let fault = c.at_fault-pointed.ensures in
+    let word = then c.write_key-a.ensures c.write_outcome-b.ensures in
+    then (then word (rw fault at c.write_where-c.ensures)) (rw fault at c.write_offending.ensures)
 
-pub write-told-spec : {M : Type 1} → statement M
-write-told-spec = tie.close (tie.spec (λ c κs. search rules) (λ c. search rules) (λ c κs. search rules) (λ c κs. search rules) (λ c κs. search rules) (λ c κs. search rules) (λ c. search rules) returns)
+pub write_told_spec : {M : Type 1} → statement M
+write_told_spec = tie.close (tie.spec
+    (λ c κs. search rules) (λ c κs. search rules) (λ c κs. search rules) (λ c κs. search rules) (λ c κs. search rules) (λ c. search rules) returns)

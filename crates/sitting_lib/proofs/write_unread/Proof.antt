@@ -6,7 +6,8 @@ use Rattle.sitting_lib.proofs.write_unread.Tie as tie
 
 returns : tie.Need-returns
 unfolding unread_text
-returns c = then c.before.before.before.before.before.before.before.write-name.ensures c.before.before.write-key.ensures
+returns c = then c.write_name-at.ensures c.write_key.ensures
 
-pub write-unread-spec : {M : Type 1} → statement M
-write-unread-spec = tie.close (tie.spec (λ c κs. search rules) (λ c. search rules) (λ c κs. search rules) (λ c. search rules) returns)
+pub write_unread_spec : {M : Type 1} → statement M
+write_unread_spec = tie.close (tie.spec
+    (λ c κs. search rules) (λ c κs. search rules) (λ c. search rules) returns)

@@ -3,8 +3,9 @@ use borrow.Author.Rules.{rules}
 use Rattle.page_lib.proofs.lines.line_count.Statement.{statement}
 use Rattle.page_lib.proofs.lines.line_count.Tie as tie
 
-pub line-count-spec : {M : Type 1} → statement M
+pub line_count_spec : {M : Type 1} → statement M
 unfolding line_count
-line-count-spec =
+line_count_spec =
     tie.close
-    (tie.spec (λ c κs. search rules) (λ c. c.line-number.ensures))
+    (tie.spec
+    (λ c κs. search rules) (λ c. c.line_number.ensures))

@@ -3,8 +3,9 @@ use borrow.Author.Rules.{rules}
 use Rattle.page_lib.proofs.lines.size_of.Statement.{statement}
 use Rattle.page_lib.proofs.lines.size_of.Tie as tie
 
-pub size-of-spec : {M : Type 1} → statement M
+pub size_of_spec : {M : Type 1} → statement M
 unfolding line_of
-size-of-spec =
+size_of_spec =
     tie.close
-    (tie.spec (λ c κs. search rules) (λ c κs. search rules) (λ c. rw c.before.line-start.ensures at c.line-size.ensures))
+    (tie.spec
+    (λ c κs. search rules) (λ c κs. search rules) (λ c. rw c.line_start.ensures at c.line_size.ensures))

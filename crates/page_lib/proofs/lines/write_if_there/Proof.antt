@@ -6,19 +6,21 @@ use borrow.Author.Rules.{rules}
 use Rattle.page_lib.proofs.lines.write_if_there.Statement.{statement}
 use Rattle.page_lib.proofs.lines.write_if_there.Tie as tie
 
-returns : tie.Need-returns
+returns : tie.Need-returns-then-i-less
 returns c =
-    let x = c.before.before.before.before.before.before.before.before.before.before.args in
-    let test = lt-ltb _ _ (rw (c.before.before.before.before.before.less2.ensures, c.before.before.before.before.before.before.line-count.ensures, c.before.before.before.before.before.before.before.less.ensures) at c.before.before.before.before.if1.true) in
-    when-so (line_row x.answer.now x.hit (x.hit - 7 + x.i + 1)) test (rw c.before.before.before.before.before.before.before.less.ensures at c.before.before.write-line-row.ensures)
+    let x = c.args in
+    let test = lt-ltb _ _ (rw (c.less.ensures, c.line_count.ensures, c.less-first.ensures) at c.if-i-less.true) in
+    when-so (line_row x.answer.now x.hit (x.hit - 7 + x.i + 1)) test (rw c.less-first.ensures at c.write_line_row.ensures)
 
-returns-2 : tie.Need-returns-2
+returns-2 : tie.Need-returns
 returns-2 c =
-    let x = c.before.before.before.before.before.before.args in
-    let test = le-ltb _ _ (rw (c.before.less2.ensures, c.before.before.line-count.ensures, c.before.before.before.less.ensures) at c.if1.false) in
+    let x = c.args in
+    let test = le-ltb _ _ (rw (c.less.ensures, c.line_count.ensures, c.less-first.ensures) at c.if-i-less.false) in
     when-not (line_row x.answer.now x.hit (x.hit - 7 + x.i + 1)) _ _ test
 
-pub write-if-there-spec : {M : Type 1} → statement M
-write-if-there-spec =
+pub write_if_there_spec : {M : Type 1} → statement M
+write_if_there_spec =
     tie.close
-    (tie.spec (λ c κs. search rules) (λ c κs. search rules) (λ c κs. search rules) (λ c. search rules) (λ c. search rules) (λ c κs. search rules) (λ c. search rules) returns returns-2)
+    (tie.spec
+    (λ c κs. search rules) (λ c κs. search rules) (λ c κs. search rules) (λ c. search rules) (λ c. search rules) (λ c κs. search rules)
+    (λ c. search rules) returns returns-2)

@@ -6,21 +6,22 @@ use borrow.Author.Rules.{rules}
 use Rattle.page_lib.proofs.lines.write_left.Statement.{statement}
 use Rattle.page_lib.proofs.lines.write_left.Tie as tie
 
-returns : tie.Need-returns
+returns : tie.Need-returns-then-left-gt0
 unfolding left_note page_text piece_text
 returns c =
-    let w3 = c.before.before in
-    let w2 = w3.before.before.before.before.before in
-    let w1 = w2.before.before.before.before in
-    let test = w1.before.before.before in
-    rw (lt-ltb _ _ test.if1.true, left_note)
-    (then w1.write-key.ensures (then w2.write-number.ensures (then w3.write-key2.ensures (none _ _))))
+    let w3 = c in
+    let w2 = c in
+    let w1 = c in
+    let test = c in
+    rw (lt-ltb _ _ test.if-left-gt0.true, left_note)
+    (then w1.write_key-a.ensures (then w2.write_number-b.ensures (then w3.write_key.ensures (none _ _))))
 
-returns-2 : tie.Need-returns-2
+returns-2 : tie.Need-returns
 unfolding left_note page_text piece_text
-returns-2 c = rw (le-ltb _ _ c.if1.false, left_note) (none _ _)
+returns-2 c = rw (le-ltb _ _ c.if-left-gt0.false, left_note) (none _ _)
 
-pub write-left-spec : {M : Type 1} → statement M
-write-left-spec =
+pub write_left_spec : {M : Type 1} → statement M
+write_left_spec =
     tie.close
-    (tie.spec (λ c. search rules) (λ c κs. search rules) (λ c κs. search rules) (λ c. search rules) (λ c κs. search rules) (λ c. length-written (returns c)) returns returns-2)
+    (tie.spec
+    (λ c κs. search rules) (λ c κs. search rules) (λ c κs. search rules) (λ c. length-written (returns c)) returns returns-2)

@@ -10,17 +10,19 @@ use borrow.Author.Rules.{rules}
 use Rattle.page_lib.proofs.lines.write_lines.Statement.{statement}
 use Rattle.page_lib.proofs.lines.write_lines.Tie as tie
 
-abbrev invariant-loop : tie.invariant-loop
+abbrev invariant-loop : tie.invariant-loop-i
 invariant-loop t₀ at answer hit p₀ i₀ t p i = Pieces (λ j. when (ltb j (line_count answer - (hit - 7))) (line_row answer hit (hit - 7 + j + 1))) 10 i t₀ t at p
 
-abbrev decreases-loop : tie.decreases-loop
+abbrev decreases-loop : tie.decreases-loop-i
 decreases-loop t₀ at answer hit p₀ i₀ t p i = 10 - i
 
 returns : tie.Need-returns invariant-loop decreases-loop
 unfolding line_rows
-returns c = pieces-all c.before.loop.invariant c.loop-test.false
+returns c = pieces-all c.loop-i.invariant c.loop-i-test.false
 
-pub write-lines-spec : {M : Type 1} → statement M
-write-lines-spec =
+pub write_lines_spec : {M : Type 1} → statement M
+write_lines_spec =
     tie.close
-    (tie.spec invariant-loop decreases-loop (λ c. pieces_none _ _) (λ c κs. search rules) (λ c. search rules) (λ c. search rules) (λ c. pieces_more c.before.before.before.before.before.loop.invariant c.before.before.before.before.loop-test.true c.before.before.write-if-there.ensures) (λ c. length-written c.before.loop.invariant.written) returns)
+    (tie.spec
+    invariant-loop decreases-loop (λ c. pieces_none _ _) (λ c κs. search rules) (λ c. search rules) (λ c. search rules)
+    (λ c. pieces_more c.loop-i.invariant c.loop-i-test.true c.write_if_there-p.ensures) (λ c. length-written c.loop-i.invariant.written) returns)

@@ -4,8 +4,10 @@ use borrow.Author.Rules.{rules}
 use Rattle.page_lib.proofs.reports.begins_line.Statement.{statement}
 use Rattle.page_lib.proofs.reports.begins_line.Tie as tie
 
-pub begins-line-spec : {M : Type 1} → statement M
+pub begins_line_spec : {M : Type 1} → statement M
 unfolding begins
-begins-line-spec =
+begins_line_spec =
     tie.close
-    (tie.spec (λ c. rw (eq-eqb _ _ c.if1.true, begins)) (λ c. search rules) (λ c κs. search rules) (λ c. rw (ne_eqb _ _ c.before.if1.false, begins, c.number_at.ensures.0)))
+    (tie.spec
+    (λ c. rw (eq-eqb _ _ c.if-i-eq0.true, begins)) (λ c. search rules) (λ c κs. search rules)
+    (λ c. rw (ne_eqb _ _ c.if-i-eq0.false, begins, c.number_at.ensures.0)))

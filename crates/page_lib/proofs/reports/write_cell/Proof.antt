@@ -5,8 +5,14 @@ use borrow.Author.Rules.{rules}
 use Rattle.page_lib.proofs.reports.write_cell.Statement.{statement}
 use Rattle.page_lib.proofs.reports.write_cell.Tie as tie
 
-pub write-cell-spec : {M : Type 1} → statement M
+pub write_cell_spec : {M : Type 1} → statement M
 unfolding cell_piece piece_text
-write-cell-spec =
+write_cell_spec =
     tie.close
-    (tie.spec (λ c. search rules) (λ c κs. search rules) (λ c. search rules) (λ c. rw (eq-eqb _ _ c.before.before.before.before.before.if1.true, cell_piece) c.before.before.write-key.ensures) (λ c. search rules) (λ c κs. search rules) (λ c. search rules) (λ c. rw (ne_eqb _ _ c.before.before.before.before.before.before.if1.false, eq-eqb _ _ c.before.before.before.before.before.if2.true, cell_piece) c.before.before.write-key2.ensures) (λ c. search rules) (λ c κs. search rules) (λ c. search rules) (λ c. rw (ne_eqb _ _ c.before.before.before.before.before.before.before.if1.false, ne_eqb _ _ c.before.before.before.before.before.before.if2.false, eq-eqb _ _ c.before.before.before.before.before.if3.true, cell_piece) c.before.before.write-key3.ensures) (λ c. search rules) (λ c κs. search rules) (λ c. search rules) (λ c. rw (ne_eqb _ _ c.before.before.before.before.before.before.before.if1.false, ne_eqb _ _ c.before.before.before.before.before.before.if2.false, ne_eqb _ _ c.before.before.before.before.before.if3.false, cell_piece) c.before.before.show.ensures))
+    (tie.spec
+    (λ c κs. search rules) (λ c. search rules) (λ c. rw (eq-eqb _ _ c.if-b-eq10.true, cell_piece) c.write_key.ensures) (λ c κs. search rules)
+    (λ c. search rules) (λ c. rw (ne_eqb _ _ c.if-b-eq10.false, eq-eqb _ _ c.if-b-eq61.true, cell_piece) c.write_key-then-b-eq61.ensures)
+    (λ c κs. search rules) (λ c. search rules)
+    (λ c. rw (ne_eqb _ _ c.if-b-eq10.false, ne_eqb _ _ c.if-b-eq61.false, eq-eqb _ _ c.if-b-eq44.true, cell_piece) c.write_key-then-b-eq44.ensures)
+    (λ c. search rules) (λ c κs. search rules) (λ c. search rules)
+    (λ c. rw (ne_eqb _ _ c.if-b-eq10.false, ne_eqb _ _ c.if-b-eq61.false, ne_eqb _ _ c.if-b-eq44.false, cell_piece) c.show.ensures))

@@ -5,8 +5,11 @@ use borrow.Author.Rules.{rules}
 use Rattle.page_lib.proofs.reports.write_report_byte.Statement.{statement}
 use Rattle.page_lib.proofs.reports.write_report_byte.Tie as tie
 
-pub write-report-byte-spec : {M : Type 1} → statement M
+pub write_report_byte_spec : {M : Type 1} → statement M
 unfolding report_byte page_text piece_text
-write-report-byte-spec =
+write_report_byte_spec =
     tie.close
-    (tie.spec (λ c. search rules) (λ c κs. search rules) (λ c κs. search rules) (λ c. search rules) (λ c. rw (c.before.before.before.before.before.before.before.before.before.if1.true, report_byte) (then c.before.before.before.before.before.before.write-key.ensures (then c.before.before.write_cell.ensures (none _ _)))) (λ c κs. search rules) (λ c. search rules) (λ c. rw (c.before.before.before.before.if1.false, report_byte) (then c.before.before.write-cell2.ensures (none _ _))))
+    (tie.spec
+    (λ c κs. search rules) (λ c κs. search rules) (λ c. search rules)
+    (λ c. rw (c.if-first.true, report_byte) (then c.write_key-p.ensures (then c.write_cell.ensures (none _ _)))) (λ c κs. search rules)
+    (λ c. search rules) (λ c. rw (c.if-first.false, report_byte) (then c.write_cell-2.ensures (none _ _))))

@@ -5,13 +5,14 @@ use Rattle.page_lib.proofs.said.line_at.Tie as tie
 
 returns : tie.Need-returns
 returns c =
-    let size = c.before in
-    let start = size.before.before in
-    let x = start.before.before.args in
-    line-held x.text.now x.n start.line-start.result size.smaller.result start.line-start.ensures
-    (rw size.before.line-size.ensures at size.smaller.ensures.0) c.part_of.ensures.holds
+    let size = c in
+    let start = c in
+    let x = c.args in
+    line-held x.text.now x.n start.line_start-start.result size.smaller-size.result start.line_start-start.ensures
+    (rw size.line_size.ensures at size.smaller-size.ensures.0) c.part_of.ensures.holds
 
-pub line-at-spec : {M : Type 1} → statement M
-line-at-spec =
+pub line_at_spec : {M : Type 1} → statement M
+line_at_spec =
     tie.close
-    (tie.spec (λ c κs. search rules) (λ c κs. search rules) (λ c κs. search rules) (λ c κs. search rules) returns)
+    (tie.spec
+    (λ c κs. search rules) (λ c κs. search rules) (λ c κs. search rules) (λ c κs. search rules) returns)

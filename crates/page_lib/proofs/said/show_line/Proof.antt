@@ -2,7 +2,8 @@ use borrow.Author.Rules.{rules}
 use Rattle.page_lib.proofs.said.show_line.Statement.{statement}
 use Rattle.page_lib.proofs.said.show_line.Tie as tie
 
-pub show-line-spec : {M : Type 1} → statement M
-show-line-spec =
+pub show_line_spec : {M : Type 1} → statement M
+show_line_spec =
     tie.close
-    (tie.spec (λ c κs. search rules) (λ c κs. search rules) (λ c. search rules) (λ c. rw c.before.before.before.before.line_at_lem.ensures at c.before.before.show.ensures))
+    (tie.spec
+    (λ c κs. search rules) (λ c κs. search rules) (λ c. search rules) (λ c. rw c.line_at-line.ensures at c.show.ensures))

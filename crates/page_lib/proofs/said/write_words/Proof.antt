@@ -4,8 +4,9 @@ use borrow.Author.Rules.{rules}
 use Rattle.page_lib.proofs.said.write_words.Statement.{statement}
 use Rattle.page_lib.proofs.said.write_words.Tie as tie
 
-pub write-words-spec : {M : Type 1} → statement M
+pub write_words_spec : {M : Type 1} → statement M
 unfolding piece_text words_text
-write-words-spec =
+write_words_spec =
     tie.close
-    (tie.spec (λ c. search rules) (λ c κs. search rules) (λ c. search rules) (λ c. c.before.before.write-line.ensures))
+    (tie.spec
+    (λ c κs. search rules) (λ c. search rules) (λ c. c.write_line.ensures))

@@ -8,12 +8,13 @@ use Rattle.page_lib.proofs.tops.write_foot.Tie as tie
 returns : tie.Need-returns
 unfolding foot page_text piece_text
 returns c =
-    let w3 = c.before.before in
-    let w2 = w3.before.before.before.before.before in
-    let w1 = w2.before.before.before.before in
-    then w1.write-key.ensures (then w2.write-number.ensures (then w3.write-key2.ensures (none _ _)))
+    let w3 = c in
+    let w2 = c in
+    let w1 = c in
+    then w1.write_key-a.ensures (then w2.write_number-b.ensures (then w3.write_key.ensures (none _ _)))
 
-pub write-foot-spec : {M : Type 1} → statement M
-write-foot-spec =
+pub write_foot_spec : {M : Type 1} → statement M
+write_foot_spec =
     tie.close
-    (tie.spec (λ c. search rules) (λ c κs. search rules) (λ c κs. search rules) (λ c. search rules) (λ c κs. search rules) (λ c. length-written (returns c)) returns)
+    (tie.spec
+    (λ c κs. search rules) (λ c κs. search rules) (λ c κs. search rules) (λ c. length-written (returns c)) returns)

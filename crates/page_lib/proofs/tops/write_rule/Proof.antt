@@ -8,14 +8,16 @@ use Rattle.page_lib.proofs.tops.write_rule.Tie as tie
 returns : tie.Need-returns
 unfolding filter_rule page_text piece_text
 returns c =
-    let w5 = c.before.before in
-    let w4 = w5.before.before.before.before.before in
-    let w3 = w4.before.before.before.before in
-    let w2 = w3.before.before.before.before.before in
-    let w1 = w2.before.before.before.before in
-    then w1.write-key.ensures (then w2.write-number.ensures (then w3.write-key2.ensures (then w4.write-number2.ensures (then w5.write-key3.ensures (none _ _)))))
+    let w5 = c in
+    let w4 = c in
+    let w3 = c in
+    let w2 = c in
+    let w1 = c in
+    then w1.write_key-a.ensures (then w2.write_number-b.ensures (then w3.write_key-c.ensures (then w4.write_number-d.ensures (then w5.write_key.ensures (none _ _)))))
 
-pub write-rule-spec : {M : Type 1} → statement M
-write-rule-spec =
+pub write_rule_spec : {M : Type 1} → statement M
+write_rule_spec =
     tie.close
-    (tie.spec (λ c. search rules) (λ c κs. search rules) (λ c κs. search rules) (λ c. search rules) (λ c κs. search rules) (λ c κs. search rules) (λ c. search rules) (λ c κs. search rules) (λ c. length-written (returns c)) returns)
+    (tie.spec
+    (λ c κs. search rules) (λ c κs. search rules) (λ c κs. search rules) (λ c κs. search rules) (λ c κs. search rules)
+    (λ c. length-written (returns c)) returns)

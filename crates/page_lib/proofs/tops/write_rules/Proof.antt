@@ -7,16 +7,18 @@ use borrow.Author.Rules.{rules}
 use Rattle.page_lib.proofs.tops.write_rules.Statement.{statement}
 use Rattle.page_lib.proofs.tops.write_rules.Tie as tie
 
-abbrev invariant-loop : tie.invariant-loop
+abbrev invariant-loop : tie.invariant-loop-k
 invariant-loop t₀ at p₀ k₀ t p k = Pieces filter_rule 41 k t₀ t at p
 
-abbrev decreases-loop : tie.decreases-loop
+abbrev decreases-loop : tie.decreases-loop-k
 decreases-loop t₀ at p₀ k₀ t p k = 41 - k
 
 returns : tie.Need-returns invariant-loop decreases-loop
-returns c = pieces-all c.before.loop.invariant c.loop-test.false
+returns c = pieces-all c.loop-k.invariant c.loop-k-test.false
 
-pub write-rules-spec : {M : Type 1} → statement M
-write-rules-spec =
+pub write_rules_spec : {M : Type 1} → statement M
+write_rules_spec =
     tie.close
-    (tie.spec invariant-loop decreases-loop (λ c. pieces_none _ _) (λ c κs. search rules) (λ c. search rules) (λ c. search rules) (λ c. pieces_more c.before.before.before.before.before.loop.invariant c.before.before.before.before.loop-test.true c.before.before.write-rule.ensures) (λ c. length-written c.before.loop.invariant.written) returns)
+    (tie.spec
+    invariant-loop decreases-loop (λ c. pieces_none _ _) (λ c κs. search rules) (λ c. search rules) (λ c. search rules)
+    (λ c. pieces_more c.loop-k.invariant c.loop-k-test.true c.write_rule-p.ensures) (λ c. length-written c.loop-k.invariant.written) returns)

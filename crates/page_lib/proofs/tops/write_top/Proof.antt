@@ -8,17 +8,19 @@ use Rattle.page_lib.proofs.tops.write_top.Tie as tie
 returns : tie.Need-returns
 unfolding top
 returns c =
-    let w8 = c.before.before in
-    let w7 = w8.before.before.before.before in
-    let w6 = w7.before.before.before.before in
-    let w5 = w6.before.before.before.before in
-    let w4 = w5.before.before.before.before in
-    let w3 = w4.before.before.before.before in
-    let w2 = w3.before.before.before.before in
-    let w1 = w2.before.before.before.before in
-    more _ _ w1.write-begin.ensures (more _ _ w2.write-colours.ensures (more _ _ w3.write-text-look.ensures (more _ _ w4.write-rules.ensures (more _ _ w5.write-candidates-look.ensures (more _ _ w6.write-parts-look.ensures (more _ _ w7.write-print-look.ensures w8.write-heading.ensures))))))
+    let w8 = c in
+    let w7 = c in
+    let w6 = c in
+    let w5 = c in
+    let w4 = c in
+    let w3 = c in
+    let w2 = c in
+    let w1 = c in
+    more _ _ w1.write_begin-a.ensures (more _ _ w2.write_colours-b.ensures (more _ _ w3.write_text_look-c.ensures (more _ _ w4.write_rules-d.ensures (more _ _ w5.write_candidates_look-e.ensures (more _ _ w6.write_parts_look-f.ensures (more _ _ w7.write_print_look-g.ensures w8.write_heading.ensures))))))
 
-pub write-top-spec : {M : Type 1} → statement M
-write-top-spec =
+pub write_top_spec : {M : Type 1} → statement M
+write_top_spec =
     tie.close
-    (tie.spec (λ c κs. search rules) (λ c κs. search rules) (λ c κs. search rules) (λ c κs. search rules) (λ c κs. search rules) (λ c κs. search rules) (λ c κs. search rules) (λ c κs. search rules) (λ c. length-written (returns c)) returns)
+    (tie.spec
+    (λ c κs. search rules) (λ c κs. search rules) (λ c κs. search rules) (λ c κs. search rules) (λ c κs. search rules) (λ c κs. search rules)
+    (λ c κs. search rules) (λ c κs. search rules) (λ c. length-written (returns c)) returns)

@@ -10,25 +10,25 @@ use Rattle.passlist_lib.proofs.Laws.{read-fault, read-then}
 use Rattle.passlist_lib.proofs.cells.head_standing.Statement.{statement}
 use Rattle.passlist_lib.proofs.cells.head_standing.Tie as tie
 
-returns : tie.Need-returns
+returns : tie.Need-returns-in_default
 unfolding head_line head_text
-returns c = ap head_standing (read-fault (key head_text) (λ _. over) (told due_says _ c.before.before.past-key.ensures c.enum_told.given.1)).same
+returns c = ap head_standing (read-fault (key head_text) (λ _. over) (told due_says _ c.past_key.ensures c.in_default.is)).same
 
-returns-2 : tie.Need-returns-2
+returns-2 : tie.Need-returns-in_default-past_end
 unfolding head_line head_text
 returns-2 c =
     ap head_standing
-    (read-then (key head_text) (λ _. over) (told due_says _ c.before.before.before.before.before.before.past-key.ensures c.before.before.before.before.n.given.1) (told due_says _ c.before.before.past_end.ensures c.enum-told3.given.1)).same
+    (read-then (key head_text) (λ _. over) (told due_says _ c.past_key.ensures c.in-Past.is) (told due_says _ c.past_end.ensures c.in_default-past_end.is)).same
 
-returns-3 : tie.Need-returns-3
+returns-3 : tie.Need-returns
 unfolding head_line head_text
 returns-3 c =
     ap head_standing
-    (read-then (key head_text) (λ _. over) (told due_says _ c.before.before.before.before.before.before.past-key.ensures c.before.before.before.before.n.given.1) (told due_says _ c.before.before.past_end.ensures c.enum-told2.given.1)).same
+    (read-then (key head_text) (λ _. over) (told due_says _ c.past_key.ensures c.in-Past.is) (told due_says _ c.past_end.ensures c.in-Past-past_end.is)).same
 
-pub head-standing-spec : {M : Type 1} → statement M
-head-standing-spec =
+pub head_standing_spec : {M : Type 1} → statement M
+head_standing_spec =
     tie.close
     (tie.spec
-    (λ c. search rules) (λ c κs. search rules) (λ c. search rules) (λ c. search rules) returns (λ c κs. search rules) (λ c. search rules)
-    (λ c. search rules) returns-2 returns-3)
+    (λ c κs. search rules) (λ c. search rules) (λ c. search rules) returns (λ c κs. search rules) (λ c. search rules) (λ c. search rules) returns-2
+    returns-3)

@@ -11,35 +11,35 @@ use Rattle.passlist_lib.proofs.Laws.{mark-few, mark-many, given-then, given-othe
 use Rattle.passlist_lib.proofs.cells.mark_or.Statement.{statement}
 use Rattle.passlist_lib.proofs.cells.mark_or.Tie as tie
 
-returns : tie.Need-returns
+returns : tie.Need-returns-then-m-gt1000
 unfolding mark_or
 returns c =
-    given-then (one_form 5) mark_of (upon c.before.before.before.before.before.before.before.args.none.now (give Empty) no_line) (told number_says _ c.before.before.before.before.one_number.ensures c.before.before.m.given.1)
-    (mark-many _ c.before.before.before.before.before.before.before.args.row.now _ c.if1.true)
+    given-then (one_form 5) mark_of (upon c.args.none.now (give Empty) no_line) (told number_says _ c.one_number.ensures c.in-Got.is)
+    (mark-many _ c.args.row.now _ c.if-m-gt1000.true)
 
-returns-2 : tie.Need-returns-2
+returns-2 : tie.Need-returns-in-Got
 unfolding mark_or
 returns-2 c =
-    let r = told number_says _ c.before.before.before.before.one_number.ensures c.before.before.m.given.1 in
-    given-then (one_form 5) mark_of (upon c.before.before.before.before.before.before.before.args.none.now (give Empty) no_line) r (mark-few _ _ c.before.before.before.before.before.before.before.args.row.now r.within c.if1.false)
+    let r = told number_says _ c.one_number.ensures c.in-Got.is in
+    given-then (one_form 5) mark_of (upon c.args.none.now (give Empty) no_line) r (mark-few _ _ c.args.row.now r.within c.if-m-gt1000.false)
 
-returns-3 : tie.Need-returns-3
+returns-3 : tie.Need-returns-in_default-past_key
 unfolding mark_or
 returns-3 c =
-    given-other (one_form 5) mark_of (upon c.before.before.before.before.before.before.before.before.args.none.now (give Empty) no_line) (told number_says _ c.before.before.before.before.before.one_number.ensures c.before.before.before.enum_told.given.1)
-    (given-other (key c.before.before.before.before.before.before.before.before.args.none.now) (λ _. give Empty) no_line (told due_says _ c.before.before.past-key.ensures c.enum-told2.given.1)
+    given-other (one_form 5) mark_of (upon c.args.none.now (give Empty) no_line) (told number_says _ c.one_number.ensures c.in_default.is)
+    (given-other (key c.args.none.now) (λ _. give Empty) no_line (told due_says _ c.past_key.ensures c.in_default-past_key.is)
     (record { within = omega arith; same = refl }))
 
-returns-4 : tie.Need-returns-4
+returns-4 : tie.Need-returns
 unfolding mark_or
 returns-4 c =
-    let k = told due_says _ c.before.before.before.past-key.ensures c.before.i.given.1 in
-    given-other (one_form 5) mark_of (upon c.before.before.before.before.before.before.before.before.before.args.none.now (give Empty) no_line) (told number_says _ c.before.before.before.before.before.before.one_number.ensures c.before.before.before.before.enum_told.given.1)
-    (given-then (key c.before.before.before.before.before.before.before.before.before.args.none.now) (λ _. give Empty) no_line k (record { within = k.within; same = refl }))
+    let k = told due_says _ c.past_key.ensures c.in-Past.is in
+    given-other (one_form 5) mark_of (upon c.args.none.now (give Empty) no_line) (told number_says _ c.one_number.ensures c.in_default.is)
+    (given-then (key c.args.none.now) (λ _. give Empty) no_line k (record { within = k.within; same = refl }))
 
-pub mark-or-spec : {M : Type 1} → statement M
-mark-or-spec =
+pub mark_or_spec : {M : Type 1} → statement M
+mark_or_spec =
     tie.close
     (tie.spec
-    (λ c κs. search rules) (λ c. search rules) returns returns-2 (λ c. search rules) (λ c κs. search rules) (λ c. search rules)
-    (λ c. search rules) returns-3 returns-4)
+    (λ c κs. search rules) (λ c. search rules) returns returns-2 (λ c. search rules) (λ c κs. search rules) (λ c. search rules) (λ c. search rules)
+    returns-3 returns-4)

@@ -7,25 +7,25 @@ use Rattle.passlist_lib.proofs.Laws.{two_cells, read-fault, read-then}
 use Rattle.passlist_lib.proofs.cells.past_three.Statement.{statement}
 use Rattle.passlist_lib.proofs.cells.past_three.Tie as tie
 
-returns : tie.Need-returns
+returns : tie.Need-returns-in_default
 unfolding three_cells
-returns c = read-fault (past_cell Number) (λ _. two_cells) (told due_says _ c.before.before.past-cell.ensures c.enum_told.given.1)
+returns c = read-fault (past_cell Number) (λ _. two_cells) (told due_says _ c.past_cell.ensures c.in_default.is)
 
-returns-2 : tie.Need-returns-2
+returns-2 : tie.Need-returns-in_default-past_cell
 unfolding three_cells
 returns-2 c =
-    read-then (past_cell Number) (λ _. two_cells) (told due_says _ c.before.before.before.before.before.before.past-cell.ensures c.before.before.before.before.a.given.1)
-    (read-fault (past_cell Number) (λ _. past_cell Number) (told due_says _ c.before.before.past-cell2.ensures c.enum-told2.given.1))
+    read-then (past_cell Number) (λ _. two_cells) (told due_says _ c.past_cell.ensures c.in-Past.is)
+    (read-fault (past_cell Number) (λ _. past_cell Number) (told due_says _ c.past_cell-2.ensures c.in_default-past_cell.is))
 
-returns-3 : tie.Need-returns-3
+returns-3 : tie.Need-returns
 unfolding three_cells
 returns-3 c =
-    read-then (past_cell Number) (λ _. two_cells) (told due_says _ c.before.before.before.before.before.before.before.before.past-cell.ensures c.before.before.before.before.before.before.a.given.1)
-    (read-then (past_cell Number) (λ _. past_cell Number) (told due_says _ c.before.before.before.before.past-cell2.ensures c.before.before.b.given.1) c.past-cell3.ensures)
+    read-then (past_cell Number) (λ _. two_cells) (told due_says _ c.past_cell.ensures c.in-Past.is)
+    (read-then (past_cell Number) (λ _. past_cell Number) (told due_says _ c.past_cell-2.ensures c.in-Past-past_cell.is) c.past_cell-3.ensures)
 
-pub past-three-spec : {M : Type 1} → statement M
-past-three-spec =
+pub past_three_spec : {M : Type 1} → statement M
+past_three_spec =
     tie.close
     (tie.spec
-    (λ c κs. search rules) (λ c. search rules) (λ c. search rules) returns (λ c κs. search rules) (λ c. search rules) (λ c. search rules)
-    returns-2 (λ c κs. search rules) returns-3)
+    (λ c κs. search rules) (λ c. search rules) (λ c. search rules) returns (λ c κs. search rules) (λ c. search rules) (λ c. search rules) returns-2
+    (λ c κs. search rules) returns-3)

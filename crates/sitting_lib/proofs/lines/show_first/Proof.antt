@@ -4,7 +4,8 @@ use Rattle.sitting_lib.proofs.lines.show_first.Statement.{statement}
 use Rattle.sitting_lib.proofs.lines.show_first.Tie as tie
 
 returns : tie.Need-returns
-returns c = rw (rw from_end at c.before.before.before.part_of.ensures.holds) at c.before.before.show.ensures
+returns c = rw (rw from_end at c.part_of.ensures.holds) at c.show.ensures
 
-pub show-first-spec : {M : Type 1} → statement M
-show-first-spec = tie.close (tie.spec (λ c κs. search rules) (λ c κs. search rules) (λ c. search rules) returns)
+pub show_first_spec : {M : Type 1} → statement M
+show_first_spec = tie.close (tie.spec
+    (λ c κs. search rules) (λ c κs. search rules) (λ c. search rules) returns)

@@ -2,11 +2,12 @@ use borrow.Author.Rules.{rules}
 use Rattle.sitting_lib.proofs.lines.write_at.Statement.{statement}
 use Rattle.sitting_lib.proofs.lines.write_at.Tie as tie
 
-returns : tie.Need-returns
-returns c = rw c.before.before.before.before.before.if1.true (rw c.before.before.before.line-number.ensures at c.before.before.write-number.ensures)
+returns : tie.Need-returns-then-pointed
+returns c = rw c.if-pointed.true (rw c.line_number.ensures at c.write_number.ensures)
 
-returns-2 : tie.Need-returns-2
-returns-2 c = rw c.before.before.before.before.before.if1.false c.before.before.write-key.ensures
+returns-2 : tie.Need-returns
+returns-2 c = rw c.if-pointed.false c.write_key.ensures
 
-pub write-at-spec : {M : Type 1} → statement M
-write-at-spec = tie.close (tie.spec (λ c κs. search rules) (λ c κs. search rules) (λ c. search rules) returns (λ c. search rules) (λ c κs. search rules) (λ c. search rules) returns-2)
+pub write_at_spec : {M : Type 1} → statement M
+write_at_spec = tie.close (tie.spec
+    (λ c κs. search rules) (λ c κs. search rules) (λ c. search rules) returns (λ c κs. search rules) (λ c. search rules) returns-2)

@@ -7,10 +7,12 @@ use Rattle.sitting_lib.proofs.lines.write_offending.Tie as tie
 returns : tie.Need-returns
 unfolding offending_text
 returns c =
-    let line = c.before.before.before.before.before.before.before.before.before.before.before.before.before.before.before.before.before.before.before.before.before.before.before.before.before.before.before.before.offending-line.ensures in
-    let shows = then c.before.before.before.before.before.before.before.before.before.before.before.before.before.before.before.before.before.before.before.before.before.before.before.before.before.write-key.ensures (rw line at c.before.before.before.before.before.before.before.before.before.before.before.before.before.before.before.before.before.before.before.before.before.show-first.ensures) in
-    let ends = then (then shows c.before.before.before.before.before.before.before.before.before.before.before.before.before.before.before.before.write-key2.ensures) c.before.before.before.before.before.before.before.before.before.before.before.before.write-ended.ensures in
-    then (then ends c.before.before.before.before.before.before.before.write-key3.ensures) (rw (c.before.before.before.less.ensures, line) at c.before.before.write-number.ensures)
+    let line = c.offending_line-line.ensures in
+    let shows = then c.write_key-a.ensures (rw line at c.show_first-b.ensures) in
+    let ends = then (then shows c.write_key-c.ensures) c.write_ended-d.ensures in
+    then (then ends c.write_key-e.ensures) (rw (c.less.ensures, line) at c.write_number.ensures)
 
-pub write-offending-spec : {M : Type 1} → statement M
-write-offending-spec = tie.close (tie.spec (λ c κs. search rules) (λ c. search rules) (λ c κs. search rules) (λ c κs. search rules) (λ c. search rules) (λ c κs. search rules) (λ c κs. search rules) (λ c. search rules) (λ c κs. search rules) (λ c κs. search rules) (λ c κs. search rules) (λ c. search rules) returns)
+pub write_offending_spec : {M : Type 1} → statement M
+write_offending_spec = tie.close (tie.spec
+    (λ c κs. search rules) (λ c κs. search rules) (λ c κs. search rules) (λ c κs. search rules) (λ c κs. search rules) (λ c κs. search rules)
+    (λ c κs. search rules) (λ c κs. search rules) (λ c. search rules) returns)

@@ -6,7 +6,8 @@ use Rattle.sitting_lib.proofs.lines.write_where.Tie as tie
 
 returns : tie.Need-returns
 unfolding where_text
-returns c = then (then (then c.before.before.before.before.before.before.before.before.before.before.before.before.before.before.write-key.ensures c.before.before.before.before.before.before.before.before.before.before.write-at.ensures) c.before.before.before.before.before.before.write_byte.ensures) c.before.before.write-place.ensures
+returns c = then (then (then c.write_key-a.ensures c.write_at-b.ensures) c.write_byte-c.ensures) c.write_place.ensures
 
-pub write-where-spec : {M : Type 1} → statement M
-write-where-spec = tie.close (tie.spec (λ c. search rules) (λ c κs. search rules) (λ c κs. search rules) (λ c κs. search rules) (λ c κs. search rules) (λ c. search rules) returns)
+pub write_where_spec : {M : Type 1} → statement M
+write_where_spec = tie.close (tie.spec
+    (λ c κs. search rules) (λ c κs. search rules) (λ c κs. search rules) (λ c κs. search rules) (λ c. search rules) returns)

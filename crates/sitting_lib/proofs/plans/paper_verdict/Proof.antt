@@ -6,7 +6,8 @@ use Rattle.sitting_lib.proofs.plans.paper_verdict.Tie as tie
 
 returns : tie.Need-returns
 unfolding empty_plan
-returns c = plan-verdict _ _ c.before.judge.ensures.0 (search rules)
+returns c = plan-verdict _ _ c.judge.ensures.0 (search rules)
 
-pub paper-verdict-spec : {M : Type 1} → statement M
-paper-verdict-spec = tie.close (tie.spec (λ c. search rules) (λ c. search rules) (λ c κs. search rules) returns)
+pub paper_verdict_spec : {M : Type 1} → statement M
+paper_verdict_spec = tie.close (tie.spec
+    (λ c. search rules) (λ c κs. search rules) returns)

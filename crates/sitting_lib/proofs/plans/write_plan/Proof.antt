@@ -8,8 +8,9 @@ use Rattle.sitting_lib.proofs.plans.write_plan.Tie as tie
 returns : tie.Need-returns
 unfolding plan_block
 returns c =
-    let ends = then c.before.before.before.before.before.before.before.write-told.ensures c.before.before.write-key.ensures in
-    then c.before.before.before.before.before.before.before.before.before.before.before.write-print.ensures (rw (plan-ends c.before.before.before.before.before.before.before.before.before.before.before.before.before.before.before.before.judge-and-place.ensures (search rules)) at ends)
+    let ends = then c.write_told-b.ensures c.write_key.ensures in
+    then c.write_print-a.ensures (rw (plan-ends c.judge_and_place-judged.ensures (search rules)) at ends)
 
-pub write-plan-spec : {M : Type 1} → statement M
-write-plan-spec = tie.close (tie.spec (λ c. search rules) (λ c κs. search rules) (λ c κs. search rules) (λ c κs. search rules) (λ c. search rules) (λ c κs. search rules) (λ c. search rules) returns)
+pub write_plan_spec : {M : Type 1} → statement M
+write_plan_spec = tie.close (tie.spec
+    (λ c. search rules) (λ c κs. search rules) (λ c κs. search rules) (λ c κs. search rules) (λ c κs. search rules) (λ c. search rules) returns)
