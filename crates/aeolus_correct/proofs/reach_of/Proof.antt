@@ -45,7 +45,7 @@ loop-again c =
     let a = c.args in
     rw (c.later-rest.ensures, c.joined-used.ensures) (
       rest-later _ l.rest l.invariant.0 some,
-      filled_more (universe_in a.universe.now) (configuration_in a.deployed.now) l.rest l.targets l.used l.invariant.1 l.invariant.0.fits some c.least-y.ensures c.Targets-of.ensures,
+      filled_more (universe_in a.universe.now) (configuration_in a.deployed.now) l.rest l.targets l.used l.invariant.1 l.invariant.0.fits some c.least-y.ensures c.targets_of-own.ensures,
     )
 
 returns-2 : tie.Need-returns invariant-loop decreases-loop

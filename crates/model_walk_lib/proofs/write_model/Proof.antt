@@ -42,7 +42,7 @@ returns-2 c =
     let m = c in (
       λ fits.
           let h = walked c.before.before.before.before.before.before.before.before fits in
-          written-so (at c.before.before.before.before.before.before.before.before) _ h.full h.few h.is w.write_answer-text.ensures c.if-text-ne0.false _ _ _ h.size (m.model_steps-steps.ensures.1 fits).1 g.Ending-of.ensures,
+          written-so (at c.before.before.before.before.before.before.before.before) _ h.full h.few h.is w.write_answer-text.ensures c.if-text-ne0.false _ _ _ h.size (m.model_steps-steps.ensures.1 fits).1 g.ending_of-ending.ensures,
       counted _ _ (penned-within w.write_answer-text.ensures),
     )
 

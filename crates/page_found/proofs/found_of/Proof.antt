@@ -8,4 +8,4 @@ unfolding found_of
 found_of_spec =
     tie.close
     (tie.spec
-    (λ c κs. search rules) (λ c κs. search rules) (λ c κs. search rules) (λ c. rw (c.Group-of.ensures, c.looked_at.ensures, c.next_of.ensures)))
+    (λ c κs. search rules) (λ c κs. search rules) (λ c κs. search rules) (λ c. rw (c.group_of.ensures, c.looked_at.ensures, c.next_of.ensures)))

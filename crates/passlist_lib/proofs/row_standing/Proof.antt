@@ -19,24 +19,24 @@ unfolding row_says
 returns-2 c =
     row-fault c.args.pass
     (read-then (past_cell Name) (λ _. said_then) (told due_says _ c.past_cell.ensures c.in-Past.is)
-    (read-fault said_cell mark_then (told said_says _ c.Said-at.ensures c.in_default-said_at.is)))
+    (read-fault said_cell mark_then (told said_says _ c.said_at.ensures c.in_default-said_at.is)))
 
 returns-3 : tie.Need-returns-in_default-number_cells
 unfolding row_says
 returns-3 c =
     row-fault c.args.pass
     (read-then (past_cell Name) (λ _. said_then) (told due_says _ c.past_cell.ensures c.in-Past.is)
-    (read-then said_cell mark_then (told said_says _ c.Said-at.ensures c.in-Got.is)
+    (read-then said_cell mark_then (told said_says _ c.said_at.ensures c.in-Got.is)
     (read-fault number_cells (λ m. give (_, m)) (told mark_says _ c.number_cells.ensures c.in_default-number_cells.is))))
 
 returns-4 : tie.Need-returns
 unfolding row_says
 returns-4 c =
     let k = told mark_says _ c.number_cells.ensures c.in-Got-number_cells.is in
-    c.Standing-by.ensures
+    c.standing_by.ensures
     ∙ row_is c.args.pass
     (read-then (past_cell Name) (λ _. said_then) (told due_says _ c.past_cell.ensures c.in-Past.is)
-    (read-then said_cell mark_then (told said_says _ c.Said-at.ensures c.in-Got.is)
+    (read-then said_cell mark_then (told said_says _ c.said_at.ensures c.in-Got.is)
     (read-then number_cells (λ m. give (_, m)) k (record { within = k.within; same = refl }))))
 
 pub row_standing_spec : {M : Type 1} → statement M

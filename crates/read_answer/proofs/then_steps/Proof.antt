@@ -17,5 +17,5 @@ then_steps_spec =
     (λ text old most first _ answer read i. most - i) (λ c κs. search rules) (λ c. no-turn _ _ _ _ c.then_nothing-read.ensures) (λ c κs. search rules)
     (λ c κs. search rules) (λ c. omega (arith, below c.loop-i.i c.args.count.number c.goes_on.result c.loop-i-test.true))
     (λ c. omega (arith, below c.loop-i.i c.args.count.number c.goes_on.result c.loop-i-test.true))
-    (λ c. turn_on _ _ _ _ c.loop-i.invariant _ c.goes_on.ensures _ c.loop-i-test.true (sym (zero-add _)) c.Read-step.ensures)
+    (λ c. turn_on _ _ _ _ c.loop-i.invariant _ c.goes_on.ensures _ c.loop-i-test.true (sym (zero-add _)) c.read_step-read.ensures)
     (λ c. turns-over _ _ _ _ c.then_nothing-read.ensures c.loop-i.invariant _ c.goes_on.ensures c.loop-i-test.false))

@@ -10,4 +10,4 @@ pub fill_form_spec : {M : Type 1} → statement M
 fill_form_spec =
     tie.close
     (tie.spec
-    (λ c κs. search rules) (λ c κs. search rules) (λ c. c.Handed-out.ensures ∙ came-kept (no_tables, no_program) form _ _ c.read_rows-read.ensures))
+    (λ c κs. search rules) (λ c κs. search rules) (λ c. c.handed_out.ensures ∙ came-kept (no_tables, no_program) form _ _ c.read_rows-read.ensures))

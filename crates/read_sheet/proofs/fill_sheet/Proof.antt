@@ -11,4 +11,4 @@ fill_sheet_spec =
     tie.close
     (tie.spec
     (λ c κs. search rules) (λ c κs. search rules) (λ c κs. (c.clear_tables.ensures, c.clear_program.ensures)) (λ c κs. search rules)
-    (λ c. c.Handed-out.ensures ∙ came-kept (no_tables, no_program) sheet _ _ c.read_lines-read.ensures))
+    (λ c. c.handed_out.ensures ∙ came-kept (no_tables, no_program) sheet _ _ c.read_lines-read.ensures))

@@ -46,7 +46,7 @@ many : (p : tie.After-ports_of-n invariant-loop decreases-loop)
 many p =
     let k = p in
     let a = p.args in
-    p.ports_of-n.ensures ∙ ap (λ (k : ℕ). (type_of (tables_in a.tables.now) k).ports) k.kind.ensures
+    p.ports_of-n.ensures ∙ ap (λ (k : ℕ). (type_of (tables_in a.tables.now) k).ports) k.kind-k.ensures
 
 -- the port looked at gets what was answered
 own : (x : tie.After-port_refusal-x invariant-loop decreases-loop)

@@ -5,7 +5,7 @@ use Rattle.foretell_lib.proofs.names.keep_names.Statement.{statement}
 use Rattle.foretell_lib.proofs.names.keep_names.Tie as tie
 
 returns : tie.Need-returns
-returns c = c.zero_queues.ensures ∙ names-kept _ _ (instances-length _) (queue-length _) c.Quiet-all.ensures
+returns c = c.zero_queues.ensures ∙ names-kept _ _ (instances-length _) (queue-length _) c.quiet_all.ensures
 
 pub keep_names_spec : {M : Type 1} → statement M
 keep_names_spec = tie.close (tie.spec

@@ -26,4 +26,4 @@ kind_fault_spec =
     (λ c. let l = going c.count_of-count.result c.loop-n.x c.loop-n.n c.loop-n-test.true in search rules)
     (λ c. omega (arith, going c.count_of-count.result c.loop-n.x c.loop-n.n c.loop-n-test.true))
     (λ c. found-more _ _ _ _ _ _ c.loop-n.invariant c.loop-n-test.true (c.row_fault-n.ensures ∙ rw c.row_at.ensures))
-    (λ c. rw (c.Known-of.ensures, c.count_of-count.ensures) at (found_all _ _ _ c.loop-n.x _ c.loop-n.invariant c.loop-n-test.false)))
+    (λ c. rw (c.known_of-known.ensures, c.count_of-count.ensures) at (found_all _ _ _ c.loop-n.x _ c.loop-n.invariant c.loop-n-test.false)))
