@@ -25,13 +25,13 @@ module _ (t : Tables) (d n : ℕ) (depth : d ≡ t.depth) (count : n ≡ t.count
   abbrev told : ℕ → ℕ → Bool
   told a b = leb a 8 && ((leb 1 b && leb b 16) && all_below b (type_lawful t))
 
-  pub head-fails : not head ≡ true → false ≡ tables_lawful t
+  pub head-fails : head ≡ false → false ≡ tables_lawful t
   unfolding tables_lawful
-  head-fails e = off (leb d 8) (leb 1 n && leb n 16) (all_below n (type_lawful t)) (not-true head e) ∙ ap₂ told depth count
+  head-fails e = off (leb d 8) (leb 1 n && leb n 16) (all_below n (type_lawful t)) e ∙ ap₂ told depth count
 
-  pub head-holds : not head ≡ false → (r : Bool) → r ≡ all_below n (type_lawful t) → r ≡ tables_lawful t
+  pub head-holds : head ≡ true → (r : Bool) → r ≡ all_below n (type_lawful t) → r ≡ tables_lawful t
   unfolding tables_lawful
-  head-holds e r f = on (leb d 8) (leb 1 n && leb n 16) (all_below n (type_lawful t)) r (not-false head e) f ∙ ap₂ told depth count
+  head-holds e r f = on (leb d 8) (leb 1 n && leb n 16) (all_below n (type_lawful t)) r e f ∙ ap₂ told depth count
 
 -- a limit and what each row says, one pair after the other
 pub joined : (a b c d e f g h i x y z : Bool) → x ≡ (d && e) → y ≡ (f && g) → z ≡ (h && i)

@@ -20,11 +20,11 @@ module _ (n : ℕ) (test : ℕ → Bool) where
   all-passed i h l = sym (all_end n i test h.0 l h.1)
 
   module _ (i : ℕ) (r : Bool) (l : i < n) (is : r ≡ test i) where
-    pub one-fails : not r ≡ true → false ≡ all_below n test
-    one-fails e = sym (all-miss n test i l (sym is ∙ not-true r e))
+    pub one-fails : r ≡ false → false ≡ all_below n test
+    one-fails e = sym (all-miss n test i l (sym is ∙ e))
 
-    pub one_more : Passed n test i → not r ≡ false → Passed n test (i + 1)
-    one_more h e = (omega arith, all_more i test h.1 (sym is ∙ not-false r e))
+    pub one_more : Passed n test i → r ≡ true → Passed n test (i + 1)
+    one_more h e = (omega arith, all_more i test h.1 (sym is ∙ e))
 
 -- a count that has a limit, and what is counted
 module _ (n limit : ℕ) (test : ℕ → Bool) where

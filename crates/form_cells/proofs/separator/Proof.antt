@@ -21,13 +21,13 @@ returns : tie.Need-returns-then-not-is_letter invariant-loop decreases-loop
 returns c =
     let l = c.loop-i in
     let s = c.args.rows.now in
-    c.separator_at.ensures ∙ sym (separator-found s l.i (search rules) (sym c.is_letter.ensures ∙ not_on _ c.if-not-is_letter.true)) ∙ l.invariant.1
+    c.separator_at.ensures ∙ sym (separator-found s l.i (search rules) (sym c.is_letter.ensures ∙ c.if-not-is_letter.true)) ∙ l.invariant.1
 
 loop-again : tie.Need-loop-i-preserved invariant-loop decreases-loop
 loop-again c =
     let l = c.loop-i in
     let s = c.args.rows.now in
-    (search rules, sym (separator-later s l.i (search rules) (sym c.is_letter.ensures ∙ not-off _ c.if-not-is_letter.false)) ∙ l.invariant.1)
+    (search rules, sym (separator-later s l.i (search rules) (sym c.is_letter.ensures ∙ c.if-not-is_letter.false)) ∙ l.invariant.1)
 
 returns-2 : tie.Need-returns invariant-loop decreases-loop
 returns-2 c =

@@ -14,11 +14,11 @@ module _ (x y z a b c d : Bool) (p : x ≡ a) (q : y ≡ b) (r : z ≡ c) where
   after : ((x && (y && z)) && d) ≡ (a && (b && (c && d)))
   after = and_assoc x (y && z) d ∙ ap (◌&&◌ x) (and_assoc y z d) ∙ rw (p, q, r)
 
-  fails : not (x && (y && z)) ≡ true → false ≡ (a && (b && (c && d)))
-  fails e = rw (← after, not-true (x && (y && z)) e)
+  fails : (x && (y && z)) ≡ false → false ≡ (a && (b && (c && d)))
+  fails e = rw (← after, e)
 
-  passes : not (x && (y && z)) ≡ false → (o : Bool) → o ≡ d → o ≡ (a && (b && (c && d)))
-  passes e o f = rw (← after, not-false (x && (y && z)) e) f
+  passes : (x && (y && z)) ≡ true → (o : Bool) → o ≡ d → o ≡ (a && (b && (c && d)))
+  passes e o f = rw (← after, e) f
 
 -- the program in a sheet of as many types as the tables have
 program : (c : tie.After-program_lawful-program_law)
