@@ -5,7 +5,7 @@ use Rattle.aeolus_lib.proofs.run_texts.Statement.{statement}
 use Rattle.aeolus_lib.proofs.run_texts.Tie as tie
 
 returns : tie.Need-returns
-returns c = let r = c.read_both-outcome in outcome-runs _ _ r.result _ (plan_in r.new.1.1.1.0) r.ensures c.clear_deployed.ensures c.run-passed.ensures
+returns c = let r = c.read_both-outcome in outcome-runs _ _ r.result _ (plan_in r.new.plan) r.ensures c.clear_deployed.ensures c.run-passed.ensures
 
 pub run_texts_spec : {M : Type 1} → statement M
 run_texts_spec = tie.close (tie.spec

@@ -23,7 +23,7 @@ loop-holds c = (search rules, run-start _ _ _)
 
 -- what the turn of the loop came to is the action that is due
 abbrev came : tie.After-act-refused invariant-loop decreases-loop → Acted
-came s = record { refused = s.act-refused.result; configuration = configuration_in s.act-refused.new.1.0 }
+came s = record { refused = s.act-refused.result; configuration = configuration_in s.act-refused.new.deployed }
 
 due : (s : tie.After-act-refused invariant-loop decreases-loop)
     → let l = s in

@@ -27,8 +27,8 @@ lent f =
 
 abbrev said : tie.After-foretell_program-told → Tables × Program × Configuration
 said f =
-    let w = f.read_paper-fault.new.1.1.1 in
-    (tables_in w.0, program_from w.1.0 w.1.1.1.0, state_in w.1.1.0)
+    let w = f.read_paper-fault.new in
+    (tables_in w.tables, program_from w.program w.begun, state_in w.state)
 
 is_read : (f : tie.After-foretell_program-told) → paper_course (lent f) ≡ reached (said f)
 is_read f =

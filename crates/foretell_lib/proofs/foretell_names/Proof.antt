@@ -29,7 +29,7 @@ loop-holds c = (search rules, λ fits. rw (c.instructions-n.ensures, sub-zero) r
 
 -- what the turn of the loop came to: the rules' own step
 abbrev came : tie.After-step-answered invariant-loop decreases-loop → Stepped
-came s = stepped s.step-answered.result (state_in s.step-answered.new.1.1.1.1.0)
+came s = stepped s.step-answered.result (state_in s.step-answered.new.state)
 
 due : (s : tie.After-step-answered invariant-loop decreases-loop)
     → let l = s in

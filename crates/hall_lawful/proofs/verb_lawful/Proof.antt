@@ -25,7 +25,7 @@ returns-6 c = rw c.in-5.is
 
 returns-7 : tie.Need-returns-in_default
 returns-7 c =
-    let r = c.in_default-own.rest in
+    let r = c.in_default.in_default-own.rest in
     rw (
       ne_eqb _ _ r.0.0.0.0.0.1,
       ne_eqb _ _ r.0.0.0.0.1,

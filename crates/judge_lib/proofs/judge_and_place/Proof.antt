@@ -38,7 +38,7 @@ returns-3 c =
 came-to : (c : tie.In-Reached)
     → let t = c in
     let x = c.args in
-    reached (walked t.walk_texts-came.result.passed (state_in t.walk_texts-came.new.1.1.1.1.0)) ≡ course (paper x.sheet.now x.given x.start.now) x.answer.now
+    reached (walked t.walk_texts-came.result.passed (state_in t.walk_texts-came.new.state)) ≡ course (paper x.sheet.now x.given x.start.now) x.answer.now
 came-to c = rw c.in-Reached.is at c.walk_texts-came.ensures
 
 judge-walk-requires : tie.Need-judge_walk-requires

@@ -14,7 +14,7 @@ returns-2 c = rw c.in-50.is
 
 returns-3 : tie.Need-returns-in_default
 unfolding fault_line
-returns-3 c = rw (c.line_number.ensures, ne_eqb _ 1 c.in_default-own.rest.0.1, ne_eqb _ 50 c.in_default-own.rest.1, fault_line)
+returns-3 c = rw (c.line_number.ensures, ne_eqb _ 1 c.in_default.in_default-own.rest.0.1, ne_eqb _ 50 c.in_default.in_default-own.rest.1, fault_line)
 
 pub fault_line_spec : {M : Type 1} → statement M
 fault_line_spec = tie.close (tie.spec

@@ -14,7 +14,7 @@ returns-2 c = rw c.in-50.is c.empty_at-in-50.ensures
 
 returns-3 : tie.Need-returns-in_default
 unfolding fault_place
-returns-3 c = rw (ne_eqb _ 1 c.in_default-own.rest.0.1, ne_eqb _ 50 c.in_default-own.rest.1, fault_place) c.line_at.ensures
+returns-3 c = rw (ne_eqb _ 1 c.in_default.in_default-own.rest.0.1, ne_eqb _ 50 c.in_default.in_default-own.rest.1, fault_place) c.line_at.ensures
 
 pub fault_place_spec : {M : Type 1} → statement M
 fault_place_spec = tie.close (tie.spec

@@ -10,7 +10,7 @@ returns c = rw (eq-eqb _ 0 c.in-0.is, step_place) c.empty_at.ensures
 
 returns-2 : tie.Need-returns-in_default
 unfolding step_place
-returns-2 c = rw (ne_eqb _ 0 c.in_default-own.rest.1, step_place, ← c.step_start-start.ensures) c.line_at.ensures
+returns-2 c = rw (ne_eqb _ 0 c.in_default.in_default-own.rest.1, step_place, ← c.step_start-start.ensures) c.line_at.ensures
 
 pub step_place_spec : {M : Type 1} → statement M
 step_place_spec = tie.close (tie.spec

@@ -25,7 +25,7 @@ abbrev lent : tie.Else-fault-ne0 → Paper
 lent i = let a = i.args in paper a.sheet.now a.given a.start.now
 
 abbrev said : tie.Else-fault-ne0 → Said
-said i = let w = i.read_paper-fault.new.1.1.1 in (tables_in w.0, program_from w.1.0 w.1.1.1.0, state_in w.1.1.0)
+said i = let w = i.read_paper-fault.new in (tables_in w.tables, program_from w.program w.begun, state_in w.state)
 
 is_read : (i : tie.Else-fault-ne0) → paper_course (lent i) ≡ reached (said i)
 is_read i =

@@ -17,11 +17,11 @@ abbrev at : tie.After-put_steps → Said
 at s = let a = s.args in (tables_in a.tables.now, program_from a.program.now a.begun.now, state_in a.state.now)
 
 walked : (s : tie.After-put_steps) → PortsFit (at s).1
-    → Holds (at s) (answer_in s.put_steps.new.0) s.model_steps-steps.result
+    → Holds (at s) (answer_in s.put_steps.new.answer) s.model_steps-steps.result
 walked s fits =
     let m = s in
     let e = s.model_steps-steps.ensures in
-    held-so (at s) _ (answer_in m.model_steps-steps.new.1.1.1.1.0) m.model_steps-steps.result s.put_steps.ensures (answer-full _) e.0 (e.1 fits).0
+    held-so (at s) _ (answer_in m.model_steps-steps.new.answer) m.model_steps-steps.result s.put_steps.ensures (answer-full _) e.0 (e.1 fits).0
 
 returns : tie.Need-returns-then-text-ne0
 returns c =

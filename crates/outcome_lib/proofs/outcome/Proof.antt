@@ -18,7 +18,7 @@ returns c =
     let opened = c.open_paper-opened in
     let o = opened.ensures in
     let e = outcome-comes _ _ came.outcome_of-came.ensures o.0 o.1.0 o.1.1 came.fill_answer-read.ensures in
-    let w = walked walks.walk_words-passed.result (state_in walks.walk_words-passed.new.1.1.1.1.0) in
+    let w = walked walks.walk_words-passed.result (state_in walks.walk_words-passed.new.state) in
     let goes = came-course _ _ came.outcome_of-came.result _ w (outcome-walks _ _ came.outcome_of-came.result _ _ _ _ {w = w} e walks.walk_words-passed.ensures) in
     let p = ap (λ (z : Whole (Tables × Program)). z.value.1) o.0 ∙ program-read _ in (
       c.outcome_after-outcome.ensures

@@ -13,7 +13,7 @@ returns-2 c = rw c.in-4.is
 
 returns-3 : tie.Need-returns-in_default
 unfolding times_number
-returns-3 c = let h = c.in_default-own.rest in rw (ne_eqb _ 3 h.0.1, ne_eqb _ 4 h.1)
+returns-3 c = let h = c.in_default.in_default-own.rest in rw (ne_eqb _ 3 h.0.1, ne_eqb _ 4 h.1)
 
 pub times_number_spec : {M : Type 1} → statement M
 times_number_spec =

@@ -18,7 +18,7 @@ line_check_spec =
     (λ c. (rw c.in-4.is c.dcon_check.ensures, λ l e. rw c.in-4.is (omega arith)))
     (λ c. (rw c.in-6.is c.push_ticket_check.ensures.0, λ l e. rw c.in-6.is (c.push_ticket_check.ensures.1 e)))
     (λ c. (rw c.in-7.is c.wait_ticket_check.ensures, λ l e. rw c.in-7.is (omega arith)))
-    (λ c. let r = c.in_default-own.rest in (
+    (λ c. let r = c.in_default.in_default-own.rest in (
       rw (ne_eqb _ _ r.0.0.0.0.0.0.1, ne_eqb _ _ r.0.0.0.0.0.1, ne_eqb _ _ r.0.0.0.0.1, ne_eqb _ _ r.0.0.0.1, ne_eqb _ _ r.0.0.1, ne_eqb _ _ r.0.1, ne_eqb _ _ r.1) c.wait_check.ensures,
       λ l e. rw (ne_eqb _ _ r.0.0.0.0.0.0.1, ne_eqb _ _ r.0.0.0.0.0.1, ne_eqb _ _ r.0.0.0.0.1, ne_eqb _ _ r.0.0.0.1, ne_eqb _ _ r.0.0.1, ne_eqb _ _ r.0.1, ne_eqb _ _ r.1) (omega arith),
     )))

@@ -24,6 +24,6 @@ line_to_spec =
     (λ c l room. let m = c.in-2.is in rw m (c.push_to.ensures ∙ rw (lt-ltb _ _ (rw m at room), lt-ltb _ _ (number_fits c.before.before.before)) refl))
     (λ c l room. let m = c.in-3.is in rw m c.connect.ensures) (λ c l room. rw c.in-4.is (c.disconnect.ensures _ _))
     (λ c l room. let m = c.in-6.is in rw m (c.push_ticket_to.ensures ∙ rw (lt-ltb _ _ (rw m at room)) refl))
-    (λ c l room. let r = c.in_default-own.rest in
+    (λ c l room. let r = c.in_default.in_default-own.rest in
     rw (ne_eqb _ _ r.0.0.0.0.0.1, ne_eqb _ _ r.0.0.0.0.1, ne_eqb _ _ r.0.0.0.1, ne_eqb _ _ r.0.0.1, ne_eqb _ _ r.0.1, ne_eqb _ _ r.1)
     (by-test (eqb c.args.line.verb wait_ticket_verb) (λ w. rw w) (λ w. rw w))))

@@ -19,7 +19,7 @@ returns-3 c = λ default. rw c.in-3.is c.enter_check.ensures
 returns-4 : tie.Need-returns-in_default
 unfolding move_action action_check concern
 returns-4 c = λ default.
-    let r = c.in_default-own.rest in
+    let r = c.in_default.in_default-own.rest in
     rw (ne_eqb _ _ r.0.0.1, ne_eqb _ _ r.0.1, ne_eqb _ _ r.1, ← c.finish_check.ensures) c.about_none-in_default.ensures
 
 pub move_check_spec : {M : Type 1} → statement M

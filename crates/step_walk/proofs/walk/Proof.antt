@@ -32,36 +32,31 @@ full ws = length-list 1024 (λ k. step_in k (row ws 0 3 k))
 
 -- what the turn of the loop came to is the step that is due
 abbrev came : tie.After-step-answered invariant-loop decreases-loop → Stepped
-came s = stepped s.step-answered.result (state_in s.step-answered.new.1.1.1.1.0)
-
-abbrev turn : tie.After-step-answered invariant-loop decreases-loop → tie.In-loop-k invariant-loop decreases-loop
-turn s = s.before.before.before
+came s = stepped s.step-answered.result (state_in s.step-answered.new.state)
 
 due : (s : tie.After-step-answered invariant-loop decreases-loop)
-    → let l = (turn s).before in
-    let a = l.before.before.before.args in
-    came s ≡ held_step a.default (tables_in a.tables.now) (program_from a.program.now a.begun.now) (state_in l.loop.state) (get_or (answer_in a.answer.now).steps l.loop.k no_step)
+    → let l = s.loop-k in
+    let a = s.args in
+    came s ≡ held_step a.default (tables_in a.tables.now) (program_from a.program.now a.begun.now) (state_in l.state) (get_or (answer_in a.answer.now).steps l.k no_step)
 due s =
-    let l = (turn s).before in
-    let a = l.before.before.before.args in
-    s.step-answered.ensures ∙ ap (held_step a.default (tables_in a.tables.now) (program_from a.program.now a.begun.now) (state_in l.loop.state)) s.step_at-due.ensures
+    let l = s.loop-k in
+    let a = s.args in
+    s.step-answered.ensures ∙ ap (held_step a.default (tables_in a.tables.now) (program_from a.program.now a.begun.now) (state_in l.state)) s.step_at-due.ensures
 
 returns : tie.Need-returns-then-answered-ne0 invariant-loop decreases-loop
 returns c =
-    let s = c in
-    let l = (turn c.before.before.before).before in
-    let a = l.before.before.before.args in
-    rw c.come_to.ensures (sym (l.loop.inv.1
-    ∙ walk_refused a.default (tables_in a.tables.now) (program_from a.program.now a.begun.now) (answer_in a.answer.now) (state_in l.loop.state) (full a.answer.now) l.loop.k (came c.before.before.before) (omega (arith, l.before.step_count.ensures, (turn c.before.before.before).loop-test.true)) (due c.before.before.before) c.if-answered-ne0.true))
+    let l = c.loop-k in
+    let a = c.args in
+    rw c.come_to.ensures (sym (l.invariant.1
+    ∙ walk_refused a.default (tables_in a.tables.now) (program_from a.program.now a.begun.now) (answer_in a.answer.now) (state_in l.state) (full a.answer.now) l.k (came c.before.before.before) (omega (arith, c.step_count-n.ensures, c.loop-k-test.true)) (due c.before.before.before) c.if-answered-ne0.true))
 
 loop-again : tie.Need-loop-k-preserved invariant-loop decreases-loop
 loop-again c =
-    let s = c in
-    let l = (turn c.before.before).before in
-    let a = l.before.before.before.args in (
+    let l = c.loop-k in
+    let a = c.args in (
       search rules,
-      l.loop.inv.1
-          ∙ walk_more a.default (tables_in a.tables.now) (program_from a.program.now a.begun.now) (answer_in a.answer.now) (state_in l.loop.state) (full a.answer.now) l.loop.k (came c.before.before) (omega (arith, l.before.step_count.ensures, (turn c.before.before).loop-test.true)) (due c.before.before) c.if-answered-ne0.false,
+      l.invariant.1
+          ∙ walk_more a.default (tables_in a.tables.now) (program_from a.program.now a.begun.now) (answer_in a.answer.now) (state_in l.state) (full a.answer.now) l.k (came c.before.before) (omega (arith, c.step_count-n.ensures, c.loop-k-test.true)) (due c.before.before) c.if-answered-ne0.false,
     )
 
 returns-2 : tie.Need-returns invariant-loop decreases-loop

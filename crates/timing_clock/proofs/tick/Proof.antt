@@ -41,7 +41,7 @@ returns-2 x c d e =
 
 returns-3 : tie.Need-returns-in_default
 unfolding tick
-returns-3 x c d e = paced x.before c d _ (rw (ne_eqb _ _ x.in_default-own.rest.0.1, ne_eqb _ _ x.in_default-own.rest.1))
+returns-3 x c d e = paced x.before c d _ (rw (ne_eqb _ _ x.in_default.in_default-own.rest.0.1, ne_eqb _ _ x.in_default.in_default-own.rest.1))
 
 pub tick_spec : {M : Type 1} → statement M
 tick_spec =

@@ -40,7 +40,7 @@ loop-holds c = (search rules, search rules, kept-start, λ listed. at-start _ _ 
 
 -- what the turn came to is the step that is due
 abbrev came : tie.After-step-answered invariant-loop decreases-loop → Stepped
-came s = stepped s.step-answered.result (state_in s.step-answered.new.1.1.1.1.0)
+came s = stepped s.step-answered.result (state_in s.step-answered.new.state)
 
 due : (s : tie.After-step-answered invariant-loop decreases-loop)
     → let l = s in
@@ -74,7 +74,7 @@ loop-again c =
     let l = c in
     let a = c.args in
     let before = state_in l.loop-k.state in
-    let after = state_in s.step-answered.new.1.1.1.1.0 in
+    let after = state_in s.step-answered.new.state in
     let id = c.step_at-due.result.id in
     let starts : c.without-xs.result ≡ started before after id = c.without-xs.ensures ∙ rw (c.running.ensures, s.running-before.ensures) in
     let e = c.tick-clock.ensures before after starts in (

@@ -35,7 +35,7 @@ came-to : (c : tie.In-Reached)
     → let t = c in
     let x = c.args in
     let w = c.course-ended.result.walk in
-    reached (walked w.passed (state_in t.course-ended.new.1.1.1.1.1.0), w.mark) ≡ timed_course (paper x.sheet.now x.given x.start.now) x.answer.now x.times.now
+    reached (walked w.passed (state_in t.course-ended.new.state), w.mark) ≡ timed_course (paper x.sheet.now x.given x.start.now) x.answer.now x.times.now
 came-to c = rw c.in-Reached.is at c.course-ended.ensures
 
 cast-refused : tie.Need-overflow_cast-refused

@@ -16,5 +16,5 @@ write_line_spec =
     (λ c. rw c.in-2.is (then c.write_key-at.ensures c.write_pair.ensures)) (λ c. search rules)
     (λ c. rw c.in-3.is (then c.write_key-at.ensures c.write_three.ensures)) (λ c. search rules)
     (λ c.
-    let r = c.in_default-own.rest in
+    let r = c.in_default.in_default-own.rest in
     rw (ne_eqb _ _ r.0.0.0.1, ne_eqb _ _ r.0.0.1, ne_eqb _ _ r.0.1, ne_eqb _ _ r.1) (then c.write_key-at.ensures c.write_four.ensures)))

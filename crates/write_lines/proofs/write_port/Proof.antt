@@ -11,4 +11,4 @@ write_port_spec =
     (tie.spec
     (λ c κs. search rules) (λ c κs. search rules) (λ c κs. search rules) (λ c. search rules) (λ c. rw c.in-0.is c.write_sets.ensures)
     (λ c. search rules) (λ c. rw c.in-1.is c.write_sets-in-1.ensures) (λ c. search rules)
-    (λ c. rw (ne_eqb _ _ c.in_default-own.rest.1, ne_eqb _ _ c.in_default-own.rest.0.1) c.write_key.ensures))
+    (λ c. rw (ne_eqb _ _ c.in_default.in_default-own.rest.1, ne_eqb _ _ c.in_default.in_default-own.rest.0.1) c.write_key.ensures))

@@ -23,5 +23,5 @@ do_verb_spec =
     (λ c. rw c.in-6.is (record { short = omega arith; text-is = λ a b c d. refl; fault-is = λ a b c d. rw (below a 31, below b 7, below c 255) }))
     (λ c. rw c.in-7.is (record { short = omega arith; text-is = λ a b c d. refl; fault-is = λ a b c d. rw (below a 31, below b 255) }))
     (λ c.
-    let r = c.in_default-own.rest in
+    let r = c.in_default.in_default-own.rest in
     rw (ne_eqb _ _ r.0.0.0.0.0.0.0.1, ne_eqb _ _ r.0.0.0.0.0.0.1, ne_eqb _ _ r.0.0.0.0.0.1, ne_eqb _ _ r.0.0.0.0.1, ne_eqb _ _ r.0.0.0.1, ne_eqb _ _ r.0.0.1, ne_eqb _ _ r.0.1, ne_eqb _ _ r.1) (record { short = omega arith; text-is = λ a b c d. refl; fault-is = λ a b c d. refl })))

@@ -14,4 +14,4 @@ carry_out_spec =
     (λ c κs. search rules) (λ c κs. search rules) (λ c κs. search rules) (λ c κs. search rules) (λ c κs. search rules)
     (λ c. rw c.in-0.is c.add_to.ensures) (λ c. rw c.in-1.is c.delete_to.ensures) (λ c. rw c.in-2.is c.put_state.ensures)
     (λ c. rw c.in-3.is c.bind_to.ensures)
-    (λ c. let r = c.in_default-own.rest in rw (ne_eqb _ _ r.0.0.0.1, ne_eqb _ _ r.0.0.1, ne_eqb _ _ r.0.1, ne_eqb _ _ r.1) c.unbind_to.ensures))
+    (λ c. let r = c.in_default.in_default-own.rest in rw (ne_eqb _ _ r.0.0.0.1, ne_eqb _ _ r.0.0.1, ne_eqb _ _ r.0.1, ne_eqb _ _ r.1) c.unbind_to.ensures))

@@ -16,4 +16,4 @@ own_check_spec =
     (λ c κs. search rules) (λ c κs. search rules) (λ c. rw (c.in-0.is, ← c.is_deployed.ensures) c.refuse_if.ensures)
     (λ c. rw (c.in-1.is, ← c.is_deployed-in-1.ensures) c.refuse_if-in-1.ensures) (λ c. rw c.in-2.is c.change_check.ensures)
     (λ c. rw c.in-3.is c.bind_check.ensures)
-    (λ c. let r = c.in_default-own.rest in rw (ne_eqb _ _ r.0.0.0.1, ne_eqb _ _ r.0.0.1, ne_eqb _ _ r.0.1, ne_eqb _ _ r.1, ← c.is_bound-stands.ensures) c.refuse_if-in_default.ensures))
+    (λ c. let r = c.in_default.in_default-own.rest in rw (ne_eqb _ _ r.0.0.0.1, ne_eqb _ _ r.0.0.1, ne_eqb _ _ r.0.1, ne_eqb _ _ r.1, ← c.is_bound-stands.ensures) c.refuse_if-in_default.ensures))

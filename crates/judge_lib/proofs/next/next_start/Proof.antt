@@ -39,8 +39,8 @@ returns-3 c =
 came-to : (c : tie.In-Reached)
     → let t = c in
     let x = c.args in
-    let l = c.walk_paper-came.new.1.1.1.1 in
-    reached (program_from l.0 l.1.0, walked t.walk_paper-came.result.passed (state_in l.1.1.0)) ≡ whole_course (paper x.sheet.now x.given x.start.now) x.answer.now
+    let l = c.walk_paper-came.new in
+    reached (program_from l.program l.begun, walked t.walk_paper-came.result.passed (state_in l.state)) ≡ whole_course (paper x.sheet.now x.given x.start.now) x.answer.now
 came-to c = rw c.in-Reached.is at c.walk_paper-came.ensures
 
 after-steps-requires : tie.Need-after_steps-requires

@@ -21,8 +21,8 @@ lent f = let a = f.args in paper a.sheet.now a.given a.start.now
 -- what the words said once the texts were read
 abbrev said : tie.After-fault_of-fault → Tables × Program × Configuration
 said f =
-    let w = f.open_paper-opened.new.1.1.1 in
-    (tables_in w.0, program_from w.1.0 w.1.1.1.0, state_in w.1.1.0)
+    let w = f.open_paper-opened.new in
+    (tables_in w.tables, program_from w.program w.begun, state_in w.state)
 
 comes : (f : tie.After-fault_of-fault) → came f.paper_outcome-outcome.result (said f) ≡ paper_course (lent f)
 comes f =
@@ -42,7 +42,7 @@ returns c =
     let t = c in
     let f = c in
     let cleared : ◌≡◌ {A = Tables × Program × Configuration}
-    (tables_in t.clear_tables.new.0, program_from p.clear_program.new.0 c.clear_begun.new.0, state_in b.clear_state.new.0) (no_tables, no_program, start)
+    (tables_in t.clear_tables.new.tables, program_from p.clear_program.new.program c.clear_begun.new.begun, state_in b.clear_state.new.state) (no_tables, no_program, start)
     = rw (t.clear_tables.ensures, p.clear_program.ensures, b.clear_state.ensures, c.clear_begun.ensures) in
     (fault-is c.before.before.before.before.before.before.before.before.before.before, cleared ∙ words-clear (lent c.before.before.before.before.before.before.before.before.before.before) (λ z. t.if-fault-ne0.true (ap (λ (x : PaperFault). x.refused) (fault-is c.before.before.before.before.before.before.before.before.before.before) ∙ z)))
 

@@ -31,7 +31,7 @@ loop-holds : tie.Need-loop-k-init invariant-loop decreases-loop
 loop-holds c = (search rules, λ fits. (refl, turn-start _ _ _ _))
 
 abbrev came : tie.After-step-answered invariant-loop decreases-loop → Stepped
-came s = stepped s.step-answered.result (state_in s.step-answered.new.1.1.1.1.0)
+came s = stepped s.step-answered.result (state_in s.step-answered.new.state)
 
 -- what the turn of the loop came to is step k of the order, from the start of the turn
 due : (s : tie.After-step-answered invariant-loop decreases-loop)
