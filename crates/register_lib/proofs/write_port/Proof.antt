@@ -2,11 +2,13 @@ use borrow.Author.Rules.{rules}
 use Rattle.register_lib.proofs.write_port.Statement.{statement}
 use Rattle.register_lib.proofs.write_port.Tie as tie
 
-returns : tie.Need-returns
-returns c = rw c.before.before.before.before.enum_told.given.1 c.before.before.write_byte.ensures
+returns : tie.Need-returns-in-NoPort
+returns c = rw c.in-NoPort.is c.write_byte.ensures
 
-returns-2 : tie.Need-returns-2
-returns-2 c = rw c.before.before.before.before.before.port.given.1 c.before.before.write_cell.ensures
+returns-2 : tie.Need-returns-in-UsePort
+returns-2 c = rw c.in-UsePort.is c.write_cell.ensures
 
-pub write-port-spec : {M : Type 1} → statement M
-write-port-spec = tie.close (tie.spec (λ c. search rules) (λ c κs. search rules) (λ c. search rules) (λ c. search rules) (λ c κs. search rules) (λ c. search rules) returns (λ c. search rules) returns-2)
+pub write_port_spec : {M : Type 1} → statement M
+write_port_spec = tie.close (tie.spec
+    (λ c. search rules) (λ c κs. search rules) (λ c. search rules) (λ c. search rules) (λ c κs. search rules) (λ c. search rules) returns
+    (λ c. search rules) returns-2)

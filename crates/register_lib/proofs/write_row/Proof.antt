@@ -6,26 +6,29 @@ use Rattle.register_lib.proofs.write_row.Tie as tie
 
 returns : tie.Need-returns
 returns c =
-    let end = c.before.before in
-    let mark = end.before.before.before.before in
-    let program = mark.before.before.before.before in
-    let next = program.before.before.before.before in
-    let accepted = next.before.before.before.before in
-    let went = accepted.before.before in
-    let line = went.before.before.before in
-    let pointed = line.before in
-    let port = pointed.before.before.before.before in
-    let number = port.before.before.before.before in
-    let word = number.before.before.before.before.before in
-    let comma = word.before.before.before.before in
-    let name = comma.before.before.before.before in
-    let to_word = then (then name.show-cell.ensures comma.write_byte.ensures) word.write-outcome.ensures in
-    let to-port = then (then to_word number.write_cell.ensures) port.write-port.ensures in
-    let to-line = then to-port (rw pointed.is-pointed.ensures at line.write-cell2.ensures) in
-    let to-accepted = then to-line (rw went.is-walked.ensures at accepted.write-cell3.ensures) in
-    let to-next = then to-accepted (rw went.is-walked.ensures at next.write-cell4.ensures) in
-    let to-mark = then (then to-next program.write-cell5.ensures) mark.write-cell6.ensures in
-    row_written _ _ (then to-mark end.write-byte2.ensures)
+    let end = c in
+    let mark = c in
+    let program = c in
+    let next = c in
+    let accepted = c in
+    let went = c in
+    let line = c in
+    let pointed = c in
+    let port = c in
+    let number = c in
+    let word = c in
+    let comma = c in
+    let name = c in
+    let to_word = then (then name.show_cell-a.ensures comma.write_byte-b.ensures) word.write_outcome-c.ensures in
+    let to-port = then (then to_word number.write_cell-d.ensures) port.write_port-e.ensures in
+    let to-line = then to-port (rw pointed.is_pointed.ensures at line.write_cell-f.ensures) in
+    let to-accepted = then to-line (rw went.is_walked-went.ensures at accepted.write_cell-g.ensures) in
+    let to-next = then to-accepted (rw went.is_walked-went.ensures at next.write_cell-h.ensures) in
+    let to-mark = then (then to-next program.write_cell-i.ensures) mark.write_cell-j.ensures in
+    row_written _ _ (then to-mark end.write_byte.ensures)
 
-pub write-row-spec : {M : Type 1} → statement M
-write-row-spec = tie.close (tie.spec (λ c κs. search rules) (λ c κs. search rules) (λ c κs. search rules) (λ c. search rules) (λ c κs. search rules) (λ c κs. search rules) (λ c κs. search rules) (λ c κs. search rules) (λ c κs. search rules) (λ c κs. search rules) (λ c κs. search rules) (λ c κs. search rules) (λ c κs. search rules) (λ c κs. search rules) (λ c. length-written (returns c)) returns)
+pub write_row_spec : {M : Type 1} → statement M
+write_row_spec = tie.close (tie.spec
+    (λ c κs. search rules) (λ c κs. search rules) (λ c κs. search rules) (λ c. search rules) (λ c κs. search rules) (λ c κs. search rules)
+    (λ c κs. search rules) (λ c κs. search rules) (λ c κs. search rules) (λ c κs. search rules) (λ c κs. search rules) (λ c κs. search rules)
+    (λ c κs. search rules) (λ c κs. search rules) (λ c. length-written (returns c)) returns)

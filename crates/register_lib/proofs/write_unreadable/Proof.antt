@@ -6,7 +6,8 @@ use Rattle.register_lib.proofs.write_unreadable.Tie as tie
 
 returns : tie.Need-returns
 unfolding unreadable_text further_cells
-returns c = let key = c.before.before in then key.before.before.before.before.before.show-cell.ensures key.write-key.ensures
+returns c = let key = c in then key.show_cell-a.ensures key.write_key.ensures
 
-pub write-unreadable-spec : {M : Type 1} → statement M
-write-unreadable-spec = tie.close (tie.spec (λ c κs. search rules) (λ c. search rules) (λ c κs. search rules) (λ c. search rules) returns)
+pub write_unreadable_spec : {M : Type 1} → statement M
+write_unreadable_spec = tie.close (tie.spec
+    (λ c κs. search rules) (λ c κs. search rules) (λ c. search rules) returns)
