@@ -35,20 +35,20 @@ use Rattle.hall.proofs.Slots.{every-slot}
 
 module _ (t : Tables) (p : Program) (c : Configuration) (s : Step) where
   module _ (lawful : Bool) (says : lawful ≡ lent_lawful t p c s) where
-    pub broken-left : not lawful ≡ true → (a : Answered) → a ≡ record { refused = limit_broken; port = NoPort } → Left t p c s a c
+    pub broken-left : lawful ≡ false → (a : Answered) → a ≡ record { refused = limit_broken; port = NoPort } → Left t p c s a c
     unfolding hall_step
-    broken-left e a is = rw (sym says ∙ not-true lawful e, is) (refl, refl, refl)
+    broken-left e a is = rw (sym says ∙ e, is) (refl, refl, refl)
 
     -- the ports that a lawful program names fit the words
-    fit : not lawful ≡ false → PortsFit p
+    fit : lawful ≡ true → PortsFit p
     unfolding lent_lawful LawfulPortsFit
-    fit e = lawful-ports-fit t.count p (and_right (eqb p.edition 1) _ (and_left (eqb p.edition 1 && program_lawful t.count p) _ (and_right (tables_lawful t) _ (sym says ∙ not-false lawful e))))
+    fit e = lawful-ports-fit t.count p (and_right (eqb p.edition 1) _ (and_left (eqb p.edition 1 && program_lawful t.count p) _ (and_right (tables_lawful t) _ (sym says ∙ e))))
 
-    pub ruled-left : not lawful ≡ false → (a : Answered) (d : Configuration) → stepped a d ≡ held_step default_depth t p c s → Left t p c s a d
+    pub ruled-left : lawful ≡ true → (a : Answered) (d : Configuration) → stepped a d ≡ held_step default_depth t p c s → Left t p c s a d
     unfolding hall_step HeldStepIsTheStep
     ruled-left e a d is =
         let steps = is ∙ held-step-is-the-step default_depth t p c s (fit e) in
-        rw (sym says ∙ not-false lawful e)
+        rw (sym says ∙ e)
         (ap (λ (m : Stepped). m.refused) steps, ap (λ (m : Stepped). m.port) steps, ap (λ (m : Stepped). m.configuration) steps)
 
 -- what is left after a refusal is what was lent, so that to store it or not is one

@@ -103,7 +103,7 @@ pub fn hall_step(
     }
 }
 
-// Stores the result, or leaves the lent configuration on a refusal. Its proof is a walk by hand.
+// Stores the result, or leaves the lent configuration on a refusal.
 pub fn hall(
     tables: &TableWords,
     program: &ProgramWords,

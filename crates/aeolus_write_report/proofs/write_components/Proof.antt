@@ -11,4 +11,4 @@ write_components_spec =
     (tie.spec
     (λ c κs. search rules) (λ c κs. search rules) (λ c. search rules) (λ c κs. search rules) (λ c. search rules) (λ c. search rules)
     (λ c. search rules) (λ c κs. search rules) (λ c. search rules) (λ c. search rules)
-    (λ c. next (rw (c.type_size.ensures, c.present.ensures) at c.write_count-used.ensures) c.write_component_lines.ensures))
+    (λ c. next (rw (c.size_of-n.ensures, c.present.ensures) at c.write_count-used.ensures) c.write_component_lines.ensures))

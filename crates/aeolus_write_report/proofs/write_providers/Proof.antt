@@ -6,10 +6,10 @@ use Rattle.aeolus_write_report.proofs.write_providers.Statement.{statement}
 use Rattle.aeolus_write_report.proofs.write_providers.Tie as tie
 
 abbrev invariant-loop : tie.invariant-loop-rest
-invariant-loop t₀ r z m used₀ rest₀ key t used rest = Lines (binding_text r z) m rest t₀ t used
+invariant-loop t₀ r z m used₀ rest₀ t used rest = Lines (binding_text r z) m rest t₀ t used
 
 abbrev decreases-loop : tie.decreases-loop-rest
-decreases-loop t₀ r z m used₀ rest₀ key t used rest = left rest
+decreases-loop t₀ r z m used₀ rest₀ t used rest = left rest
 
 loop-holds : tie.Need-loop-rest-init invariant-loop decreases-loop
 loop-holds c = lines_none c.ranges.m.fits

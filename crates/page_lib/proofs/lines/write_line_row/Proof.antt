@@ -19,7 +19,7 @@ returns c =
     let count = c in
     let left = c in
     let size = c in
-    rw (line_row, ← size.less-before.ensures, ← size.type_size.ensures, ← left.less-left.ensures, ← count.line_count-count.ensures)
+    rw (line_row, ← size.less-before.ensures, ← size.size_of.ensures, ← left.less-left.ensures, ← count.line_count-count.ensures)
     (one _ _ w1.write_begin-a.ensures (one _ _ w2.write_number-b.ensures (one _ _ w3.write_key-c.ensures (one _ _ w4.show_line-d.ensures (more _ _ w5.write_left-e.ensures (more _ _ w6.write_ended-f.ensures (one _ _ w7.write_key.ensures (end _ _))))))))
 
 pub write_line_row_spec : {M : Type 1} → statement M
