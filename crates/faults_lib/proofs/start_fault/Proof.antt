@@ -7,7 +7,7 @@ returns : tie.Need-returns-in-Start
 returns c = at-start _ _ c.paper_fault-fault.ensures c.in-Start.is
 
 returns-2 : tie.Need-returns-in_default
-returns-2 c = rw c.no_fault.ensures (elsewhere _ _ c.paper_fault-fault.ensures c.in_default.keys2)
+returns-2 c = rw c.no_fault.ensures (elsewhere _ _ c.paper_fault-fault.ensures c.in_default.in_default-own.keys2)
 
 pub start_fault_spec : {M : Type 1} → statement M
 start_fault_spec = tie.close (tie.spec

@@ -15,7 +15,7 @@ returns c =
 returns-2 : tie.Need-returns-in_default
 returns-2 c =
     let f = c.foretell-f in
-    let w = prints-so _ _ _ _ _ f.result f.ensures c.write_fault-arg-1.given.0.1 (of-text _ c.in_default.keys2 f.result) c.write_fault.ensures in
+    let w = prints-so _ _ _ _ _ f.result f.ensures c.write_fault-arg-1.given.0.1 (of-text _ c.in_default.in_default-own.keys2 f.result) c.write_fault.ensures in
     ((w.0, w.1), w.2)
 
 pub foretell_print_spec : {M : Type 1} → statement M

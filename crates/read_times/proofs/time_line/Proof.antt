@@ -21,13 +21,11 @@ stands : (c : tie.In-Past) → let s = c.args.s.now in Reads s (past tt c.in-Pas
 stands c = told due_says _ c.past_key.ensures c.in-Past.is
 
 numbers : (c : tie.In-Got) →
-    let x = c.line-1.given.0 in
-    let d = c in
     let s = c.args.s.now in
-    Reads s (past x.0 x.1.0) (numbers_within 7 day_limits (drop d.in-Past.i s))
+    Reads s (past c.in-Got.n c.in-Got.used) (numbers_within 7 day_limits (drop c.in-Past.i s))
 numbers c = told numbers_says _ c.numbers_within-line.ensures c.in-Got.is
 
-few : (c : tie.In-Got) → let x = c.line-1.given.0 in (x.0.first < 32) × (x.0.second < 32)
+few : (c : tie.In-Got) → (c.in-Got.n.first < 32) × (c.in-Got.n.second < 32)
 few c = pair-few _ c.in-Past.i (numbers c)
 
 returns : tie.Need-returns-in_default

@@ -11,7 +11,7 @@ returns c =
 returns-2 : tie.Need-returns-in_default
 returns-2 c =
     let x = c.args in
-    part_placed x.sheet x.given x.start x.answer x.times _ c.timed_place-place.ensures (rw (elsewhere _ c.in_default.keys2 x.sheet x.start x.answer x.times) at c.part_at.ensures)
+    part_placed x.sheet x.given x.start x.answer x.times _ c.timed_place-place.ensures (rw (elsewhere _ c.in_default.in_default-own.keys2 x.sheet x.start x.answer x.times) at c.part_at.ensures)
 
 pub timed_offending_spec : {M : Type 1} → statement M
 timed_offending_spec = tie.close (tie.spec

@@ -11,8 +11,8 @@ walk-paper-requires c κs = (c.requires, none-begun 288)
 returns : tie.Need-returns
 returns c =
     let t = c.walk_paper in
-    let l = t.new.1.1.1.1 in
-    came-course _ _ t.result.outcome (program_from l.0 l.1.0) (walked t.result.passed (state_in l.1.1.0)) t.ensures
+    let l = t.new in
+    came-course _ _ t.result.outcome (program_from l.program l.begun) (walked t.result.passed (state_in l.state)) t.ensures
 
 pub walk_texts_spec : {M : Type 1} → statement M
 walk_texts_spec = tie.close (tie.spec

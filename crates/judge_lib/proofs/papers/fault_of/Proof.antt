@@ -26,4 +26,4 @@ fault_of_spec =
     (tie.spec
     (λ c. search rules) (λ c κs. search rules) (λ c. search rules) (λ c κs. search rules)
     (λ c. c.fault_at.ensures ∙ ap (fault_of _ _) (sym c.in-InSheet.is)) (λ c. c.fault_at-in-InStart.ensures ∙ ap (fault_of _ _) (sym c.in-InStart.is))
-    (λ c. let a = c.args in none a.sheet.now a.start.now a.outcome c.in_default.keys3))
+    (λ c. let a = c.args in none a.sheet.now a.start.now a.outcome c.in_default.in_default-own.keys3))

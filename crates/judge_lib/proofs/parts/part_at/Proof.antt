@@ -10,4 +10,4 @@ part_at_spec =
     (tie.spec
     (λ c. search rules) (λ c κs. search rules) (λ c. search rules) (λ c κs. search rules) (λ c κs. search rules)
     (λ c. rw c.in-Sheet.is c.part_of.ensures) (λ c. rw c.in-Start.is c.part_of-in-Start.ensures)
-    (λ c. rw (elsewhere _ c.in_default.keys3 _ _ _) c.part_of-in_default.ensures))
+    (λ c. rw (elsewhere _ c.in_default.in_default-own.keys3 _ _ _) c.part_of-in_default.ensures))
