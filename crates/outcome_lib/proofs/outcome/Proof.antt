@@ -22,7 +22,7 @@ returns c =
     let goes = came-course _ _ came.outcome_of-came.result _ w (outcome-walks _ _ came.outcome_of-came.result _ _ _ _ {w = w} e walks.walk_words-passed.ensures) in
     let p = ap (λ (z : Whole (Tables × Program)). z.value.1) o.0 ∙ program-read _ in (
       c.outcome_after-outcome.ensures
-          ∙ outcome-is _ _ came.outcome_of-came.result w (program_in opened.new.1.1.1.1.0) goes p c.all_done-ended.ensures,
+          ∙ outcome-is _ _ came.outcome_of-came.result w (program_in opened.new.program) goes p c.all_done-ended.ensures,
       c.instructions.ensures ∙ ap (λ (q : Program). q.count) p,
     )
 

@@ -47,7 +47,7 @@ returns-5 : tie.Need-returns-in-Reached
 returns-5 c =
     let t = c.course-ended in
     let x = c.args in
-    let ws = t.new.1.1.1.1.1.0 in
+    let ws = t.new.state in
     let w = t.result.walk in
     let told = fits_told (marked_in w ws) _ x.room c.has_room-fits.ensures refl (marked-short _ _ _ _ _ (came-to c.before.before.before.before.before)).few in
     walk-placed _ _ _ _ (walked w.passed (state_in ws)) w.mark (came-to c.before.before.before.before.before) (fits-place (walked w.passed (state_in ws)) (marked_in w ws) x.answer.now x.room c.walk_place.ensures told)
