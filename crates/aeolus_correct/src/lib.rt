@@ -1,5 +1,7 @@
 // Definition 3 of the Aeolus paper on lent words: what is deployed, active and bound, and what the maps ask of all components.
 // Promised: each function answers the definition of its name in aeolus_rules_spec/specs, for any words.
+#![tactic(auto)]
+
 ghost use Rattle.std.specs.Prelude.{◌≡◌, not, ◌&&◌, ◌||◌, ℕ, ◌<◌, eqb, get_or};
 ghost use Rattle.sets.specs.Test.{all_below, tally};
 ghost use Rattle.sets.specs.Mask.{member, collect};

@@ -1,5 +1,7 @@
 // The judge of the Aeolus paper: two texts and a lent buffer come to a verdict, a report, what the program prints, and the offending line.
 // Promised: on any bytes, every field and byte is what crates/aeolus_judge_spec/specs says, and the offending line is that very part of its text.
+#![tactic(auto)]
+
 ghost use Rattle.std.specs.Prelude.{◌≡◌, List, ℕ, ◌≤◌, ◌<◌, leb, length};
 ghost use Rattle.judge_spec.specs.Judged.{step_place, fault_place, over};
 ghost use Rattle.judge_lib.specs.Came.{came};

@@ -1,5 +1,7 @@
 // What document 003's definitions speak of, as words of lent arrays, one array for each: read and written by the names of their fields.
 // Promised: each reader answers the field of what the words say by specs/Words, 0 past an array's end, and each writer changes that field alone.
+#![tactic(auto)]
+
 ghost use Rattle.std.specs.Prelude.{◌≡◌, get_or};
 ghost use Rattle.aeolus_model.specs.Model.{no_universe, nothing, type_of, name_of, to_of, place_of, lists, lists_among, may_provide, may_require, number_place, number_at, kind_of, state_of, bound_at};
 ghost use Rattle.aeolus_model.specs.Model.{with_count, with_states, with_initial, with_interfaces, with_provides, with_requires, with_name, with_to, with_number};

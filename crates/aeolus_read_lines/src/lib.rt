@@ -1,5 +1,7 @@
 // The kinds of line of a sheet of the Aeolus paper that are held to what was read so far, each read from the part of the text that starts with it.
 // Promised: for every part and every universe, the value and the next place that the line's definition gives, or its refusal.
+#![tactic(auto)]
+
 ghost use Rattle.std.specs.Prelude.{◌≡◌};
 ghost use Rattle.read_items.specs.Reads.{Reads, refusal};
 ghost use Rattle.read_items.specs.Says.{number_says};

@@ -1,6 +1,8 @@
 // A plan read whole into lent words: its two first lines, then its steps, each line from the part of the text that starts with it.
 // Promised: for every text and number of types `fill_plan` answers the one number and place that `whole` gives of the paper's plan, and the
 // words say the plan that it gives, whatever they held before.
+#![tactic(auto)]
+
 ghost use Rattle.std.specs.Prelude.{◌≡◌, drop};
 ghost use Rattle.read_items.specs.Reads.{Reads, refusal};
 ghost use Rattle.read_spec.specs.Lines.{each};

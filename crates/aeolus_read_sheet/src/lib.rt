@@ -2,6 +2,8 @@
 // starts with it.
 // Promised: for every text `fill_universe` answers the one number and place that `whole` gives of the paper's sheet, and the words say the
 // universe that it gives, whatever they held before.
+#![tactic(auto)]
+
 mod types;
 
 ghost use Rattle.std.specs.Prelude.{◌≡◌};

@@ -1,5 +1,7 @@
 // The actions of the Aeolus paper on lent words, and the run of a plan, in place.
 // Promised: an action and a run are those of aeolus_rules_spec/specs, and a refused action changes nothing.
+#![tactic(auto)]
+
 mod changes;
 pub mod checks;
 

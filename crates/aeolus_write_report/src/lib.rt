@@ -1,5 +1,7 @@
 // The report of the Aeolus paper: each line is written into the part of the lent buffer that is still free, and its writer answers the bytes used.
 // Promised: every byte of the lent buffer and the bytes used, cut where there is no room, for every run's answer, reachable or not.
+#![tactic(auto)]
+
 ghost use Rattle.std.specs.Prelude.{◌≡◌, ◌++◌, ◌<◌};
 ghost use Rattle.item_spec.specs.Write.{in_turn, three_text};
 ghost use Rattle.write_items.specs.Written.{Written};

@@ -1,5 +1,7 @@
 // Words of a lent array, in areas one after the other: each reader and writer is total, so that no caller need know where an area ends.
 // Promised: a word past its area's end is 0 and takes nothing, and a writer changes one word.
+#![tactic(auto)]
+
 ghost use Rattle.std.specs.Prelude.{◌≡◌, get_or, set};
 ghost use Rattle.areas.specs.Area.{area, put_in};
 

@@ -1,5 +1,7 @@
 // The fault of each text of a paper, before any answer exists.
 // Promised: on any bytes, the number and the line that crates/faults_spec/specs says of each text, and every byte that the program prints.
+#![tactic(auto)]
+
 ghost use Rattle.std.specs.Prelude.{◌≡◌, ◌++◌, length};
 ghost use Rattle.io.specs.Counts.{IsPrefixLen};
 ghost use Rattle.start_spec.specs.Paper.{paper};

@@ -1,6 +1,8 @@
 // A program gone through on names alone, before any answer exists.
 // Promised: for every paper the number, the instruction and its line that `foretold_on` and `foretold_line` of crates/foretell_spec give of it, and every byte
 // that the program prints.
+#![tactic(auto)]
+
 mod names;
 
 ghost use Rattle.std.specs.Prelude.{◌≡◌, length};

@@ -1,4 +1,5 @@
 // What a program's names foretell, as a struct, and in specs/ what it is and what it tells of every walk and of every judged answer. No code.
+#![tactic(auto)]
 
 // How many instructions the names allow, one after the other, and the number of the one after them, 0 where there is none.
 #[derive(Clone, Copy)]

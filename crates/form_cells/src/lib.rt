@@ -1,5 +1,7 @@
 // Rows of cells, as a spreadsheet saves them, and the lines that they stand for.
 // Promised: every byte of the lent buffer, for all bytes: `lines_of` and `cells_of` of specs/Cells; of `looked_at` the count, by `looked_at`.
+#![tactic(auto)]
+
 ghost use Rattle.std.specs.Prelude.{◌≡◌, cond, ◌||◌, eqb, [], ◌∷◌, ◌++◌, ◌≤◌, ◌<◌, length, take, drop, replicate};
 ghost use Rattle.io.specs.Counts.{IsPrefixLen};
 ghost use Rattle.write_items.specs.Written.{Written};

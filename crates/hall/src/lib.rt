@@ -1,6 +1,8 @@
 // The screen in the hall: one step on lent tables, program and configuration, with number 7 before all of 10 to 38. It has two doors:
 // `hall` is over the step by value, `lent_step` moves the lent words on in place, for terminals with a small stack.
 // Promised of both: the number, the use port concerned and every word of the configuration after it, for all that can be lent; a refusal leaves it untouched.
+#![tactic(auto)]
+
 ghost use Rattle.std.specs.Prelude.{◌≡◌};
 ghost use Rattle.words.specs.Words.{tables_in, program_in, state_in};
 ghost use Rattle.words.specs.Parts.{step_of};

@@ -1,5 +1,7 @@
 // The tests behind number 7 on a lent configuration: every present instance, and every use port, present or not.
 // Promised: each answers its definition (specs/Lawful) for all that can be lent; what is past a count is not looked at.
+#![tactic(auto)]
+
 ghost use Rattle.std.specs.Prelude.{◌≡◌};
 ghost use Rattle.sets.specs.Test.{all_below};
 ghost use Rattle.model.specs.View.{server};

@@ -1,5 +1,7 @@
 // The tests behind number 7: whether lent tables, program and step break a rule of a sheet or an answer.
 // Promised: each answers its definition (read_spec/specs/Lawful) for all that can be lent; what is past a count is not looked at.
+#![tactic(auto)]
+
 mod types;
 
 ghost use Rattle.std.specs.Prelude.{◌≡◌, ◌&&◌, eqb, get_or};

@@ -1,5 +1,7 @@
 // The judge: a sheet, a start, an answer and a lent buffer come to a verdict, a report, what the program prints, and the line at fault.
 // Promised: on any bytes, every field and byte is what crates/judge_spec/specs says, and the line at fault is that very part of its text.
+#![tactic(auto)]
+
 pub mod next;
 pub mod pairs;
 pub mod papers;

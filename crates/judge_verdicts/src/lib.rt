@@ -1,5 +1,7 @@
 // What becomes of a text at fault and of a walk: the verdict, and the place of the line at fault.
 // Promised: for any text, number, place and walk, reachable or not, every field is what crates/judge_spec/specs says.
+#![tactic(auto)]
+
 ghost use Rattle.std.specs.Prelude.{◌≡◌, ◌+◌};
 ghost use Rattle.model.specs.declared.Configuration.{Configuration};
 ghost use Rattle.read_spec.specs.Place.{line_start};

@@ -1,6 +1,8 @@
 // What the two texts say (tables, program, answer), the configuration, and what judging answers: the records that the definitions speak of. Code holds
 // them as words of lent arrays (crates/words).
 // Promised: each reader answers what stands at a place of its table, and 0 past its end.
+#![tactic(auto)]
+
 ghost use Rattle.std.specs.Prelude.{◌≡◌, ◌≤◌, ◌<◌, min, get_or};
 
 // How many places a type has, which are initial, and how many transitions, behaviors and ports it has.

@@ -2,6 +2,8 @@
 // answer.
 // Promised: for every paper and every lent buffer the number, the text and the line at fault, how the walk ends, how many steps it has, and every byte of
 // the buffer.
+#![tactic(auto)]
+
 mod endings;
 mod turns;
 

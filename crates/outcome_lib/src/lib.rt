@@ -1,6 +1,8 @@
 // The outcome of an answer on a paper, and the fault of a paper alone.
 // Promised: on any bytes, `outcome_of` and the length of the sheet's program; the verdict of the judge, or of timing where there are times, beside an answer of
 // no steps.
+#![tactic(auto)]
+
 ghost use Rattle.std.specs.Prelude.{◌≡◌};
 ghost use Rattle.model.specs.View.{steps_of};
 ghost use Rattle.start_spec.specs.Paper.{paper};

@@ -1,5 +1,7 @@
 // What a page says of an answer, by its row of the register.
 // Promised: every field (`found_of`).
+#![tactic(auto)]
+
 ghost use Rattle.std.specs.Prelude.{◌≡◌};
 ghost use Rattle.page_found.specs.Found.{group_of, looked_at, next_of, found_of};
 

@@ -1,5 +1,7 @@
 // The markers' page, written: its top, the counts by outcome, each candidate, its foot.
 // Promised: every byte of the lent buffer, by the pieces of crates/page_spec.
+#![tactic(auto)]
+
 mod lines;
 mod reports;
 mod said;

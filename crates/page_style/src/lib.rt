@@ -1,5 +1,7 @@
 // The constant lines of the page's head, written: how it looks.
 // Promised: every byte of the lent buffer, by the pieces of crates/page_spec.
+#![tactic(auto)]
+
 ghost use Rattle.write_items.specs.Written.{Written};
 ghost use Rattle.page_spec.specs.Piece.{page_text};
 ghost use Rattle.page_spec.specs.Style.{look_in_colour, look_of_text, look_of_candidates, look_of_parts, look_in_print};

@@ -1,6 +1,8 @@
 // The pass list of a register, line by line, and the word PASS.
 // Promised: for any bytes, any pass line and any counts, where a line stands (`line_standing`), how it is counted (`counted`), every byte that the list says
 // of it (`line_text`) and at its end (`counts_text`), and whether there is a list at all (`wrong_in`).
+#![tactic(auto)]
+
 mod cells;
 
 ghost use Rattle.std.specs.Prelude.{◌≡◌, ◌≤◌, ◌<◌, length, take};

@@ -1,6 +1,7 @@
 // The pass line, and where a line of the register stands by it, as enums, and in specs/ what each of their cases means; the list that is made of a register.
 // No code. Proved: of a register's lines exactly the rows that are done with a mark not below the pass line are on the list, in the register's order; a row
 // that the register writes stands so exactly when its answer is done and its mark is not below; what is no register is refused.
+#![tactic(auto)]
 
 // The pass line: a mark, or for a paper without times none.
 #[derive(Clone, Copy)]

@@ -1,6 +1,8 @@
 // An answer read whole into lent words: its two first lines, then its steps, each line from the part of the text that starts with it.
 // Promised: for every text `fill_answer` answers the one number and place that `answer_read` gives of it, and the words say the answer that it
 // gives, whatever they held before.
+#![tactic(auto)]
+
 ghost use Rattle.std.specs.Prelude.{◌≡◌, drop};
 ghost use Rattle.read_items.specs.Reads.{Reads, refusal};
 ghost use Rattle.model.specs.Empty.{no_answer};

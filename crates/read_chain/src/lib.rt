@@ -1,6 +1,8 @@
 // Runs of lines, one after the other: each answers whether it went on, and the next line's place or that of the line at fault.
 // In a chain each takes what was read so far, does nothing where that stopped, and answers for the next part of the definition's lines.
 // Promised: the due line, a line of one number and the end of a text as crate reading defines them, and what a whole text answers.
+#![tactic(auto)]
+
 ghost use Rattle.std.specs.Prelude.{◌≡◌, min, length, drop};
 ghost use Rattle.read_spec.specs.Kinds.{edition_line, due_line, count_line};
 ghost use Rattle.read_spec.specs.Lines.{line, at_end};

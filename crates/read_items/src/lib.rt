@@ -1,5 +1,7 @@
 // Readers of the items of a line (a key, a number, a list) and of the shapes of lines, on every text and from every place of it.
 // Promised: each answers what its definition in crate forms replies to the text from there on: the value and the place past it, or the fault.
+#![tactic(auto)]
+
 pub mod numbers;
 
 ghost use Rattle.std.specs.Prelude.{◌≡◌, min, length, drop};

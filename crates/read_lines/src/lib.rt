@@ -1,5 +1,7 @@
 // Runs of lines: the lines that occur many times, each read from the part of the text that starts with it, and the place of a fault.
 // Promised: each answers what its definition in crate reading says of the text from there on: value, next place and refusal number.
+#![tactic(auto)]
+
 ghost use Rattle.std.specs.Prelude.{◌≡◌, length, drop};
 ghost use Rattle.read_items.specs.Reads.{Reads, refusal};
 ghost use Rattle.read_items.specs.Says.{most, due_says};

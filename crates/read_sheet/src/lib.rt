@@ -1,6 +1,8 @@
 // A sheet read whole into lent words: its types with their rows, then its program, each line from the part of the text that starts with it.
 // Promised: for every text `fill_sheet` answers the one number and place that `sheet_read` gives of it, and the words say the tables and the
 // program that it gives, whatever they held before.
+#![tactic(auto)]
+
 mod filled;
 mod programs;
 mod types;

@@ -1,5 +1,7 @@
 // The kinds of lines that only a sheet has, each read from the part of the text that starts with it, and held to its limits.
 // Promised: each answers what its definition in crate reading replies to that part: the values and the bytes used, or 01's number.
+#![tactic(auto)]
+
 ghost use Rattle.std.specs.Prelude.{◌≡◌, drop};
 ghost use Rattle.read_items.specs.Reads.{Reads, refusal};
 ghost use Rattle.read_lines.specs.Counts.{line_says};

@@ -2,6 +2,8 @@
 // then whether each active use port is served.
 // Promised: for every text and tables `fill_start` answers the one number and place that `start_read` gives, and the words say the configuration that it
 // gives and what had been pushed before it, whatever they held before; beside a refusal they are all 0.
+#![tactic(auto)]
+
 mod items;
 pub mod joins;
 pub mod rows;

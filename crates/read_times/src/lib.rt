@@ -1,5 +1,7 @@
 // A text of times read whole: its three first lines, then its rows, each from the part of the text that starts with it, into two lent arrays.
 // Promised: for every text `read_times` answers the one number, place and times that `times_read` gives of it; `times_number` is that number by its name.
+#![tactic(auto)]
+
 ghost use Rattle.std.specs.Prelude.{◌≡◌, ℕ, replicate, length, drop};
 ghost use Rattle.read_spec.specs.Lines.{each};
 ghost use Rattle.read_lines.specs.Runs.{refusal_of, RunsTo};

@@ -1,5 +1,7 @@
 // The register's rows: what a row says of an answer on a paper, and its bytes.
 // Promised: every field of a row (`row_of`: the judge's numbers, the timing's mark), and every byte of the lent buffer (`row_text`).
+#![tactic(auto)]
+
 ghost use Rattle.std.specs.Prelude.{◌≡◌, cond, ◌++◌};
 ghost use Rattle.item_spec.specs.Reader.{bytes};
 ghost use Rattle.start_spec.specs.Paper.{paper};

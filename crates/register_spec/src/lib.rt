@@ -1,5 +1,7 @@
 // A row of the register, as a struct, and in specs/ what it says of an answer on a paper and how it is written. No code.
 // Proved: a row splits into its nine cells, none of which a spreadsheet works out.
+#![tactic(auto)]
+
 use model::Concerned;
 use outcome_spec::Outcome;
 

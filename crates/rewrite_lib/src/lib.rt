@@ -1,6 +1,8 @@
 // A sheet for the new rule: one that leaves the depth at 0 says 4 instead, which 0 stood for, and nothing else is altered.
 // Promised: for every text the number and the line that `rewrite_spec` of crates/rewrite_spec gives of it, or the bytes of the rewritten sheet; beside a
 // refusal the lent buffer as it was found.
+#![tactic(auto)]
+
 ghost use Rattle.std.specs.Prelude.{◌≡◌, ◌≤◌, length};
 ghost use Rattle.io.specs.Counts.{IsPrefixLen};
 ghost use Rattle.judge_spec.specs.Judged.{over};

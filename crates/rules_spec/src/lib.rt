@@ -1,6 +1,8 @@
 // The step rules of 01, one file of definitions for each rule, with its number and its effect on every slot; step; walk. And how code refuses:
 // the numbers of the refusals by the names that specs/Refusal has for them.
 // Promised: the number that a test gives.
+#![tactic(auto)]
+
 ghost use Rattle.std.specs.Prelude.{◌≡◌};
 ghost use Rattle.rules_spec.specs.Refusal.{◌⇒◌∣◌};
 

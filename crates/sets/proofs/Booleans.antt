@@ -1,7 +1,7 @@
 -- A claim on Booleans that computes to true in every case holds of all of them.
 -- Assumes nothing.
 use mathlib.Core.Path.{◌≡◌, refl, sym}
-use mathlib.Core.Bool.{Bool, true, false, not, ◌&&◌, and-eq-true_iff, false≢true}
+use mathlib.Core.Bool.{Bool, true, false, not, ◌&&◌, and-eq-true_iff}
 
 unfoldable pub both : (Bool → Bool) → Bool
 both p = p true && p false

@@ -11,7 +11,7 @@ use lib.Count.{count_trailing_zeros, under}
 use lib.Dec.{eqb, ltb}
 use borrow.Author.Tests.{eq-eqb, ne_eqb, lt-ltb, ltb-true}
 use Rattle.sets.specs.Test.{any_below, tally}
-use Rattle.sets.specs.Mask.{member, collect, only, with, without, least, later}
+use Rattle.sets.specs.Mask.{member, collect, only, with, least, later}
 use Rattle.sets.proofs.Laws.{any-hit, any_none, none_any, member-zero, member-suc, member-none, member-far, member-collect, member-only, member-without, collect-is, collect-same, collect-lt}
 use Rattle.sets.proofs.Searches.{any-alike}
 use Rattle.sets.proofs.Tally.{tally-one}

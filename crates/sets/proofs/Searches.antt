@@ -1,13 +1,12 @@
 -- Searches that find alike: over another bound, over two parts, row by row, and with one more that passes.
 -- Assumes nothing.
-use mathlib.Core.Path.{◌≡◌, refl, sym, ap, ap₂, ◌∙◌}
-use mathlib.Core.Logic.{◌≢◌, by_cases}
+use mathlib.Core.Path.{◌≡◌, refl, sym, ap, ◌∙◌}
+use mathlib.Core.Logic.{◌≢◌}
 use mathlib.Core.Bool.{Bool, true, false, ◌||◌, or_assoc, or-false, or_comm, true≢false}
 use Prim.Native.Nat.{ℕ, zero, suc, ◌+◌, ◌*◌, ◌<◌}
 use native.Mathlib.Omega.{arith}
-use native.Mathlib.Decide.{ℕ_discrete}
 use Rattle.sets.specs.Test.{any_below}
-use Rattle.sets.proofs.Laws.{any-hit, any_some, any_none, none_any, any_same}
+use Rattle.sets.proofs.Laws.{any-hit, any_some, any_none, none_any}
 
 -- what one search finds the other finds too
 pub any-alike : (m n : ℕ) (p q : ℕ → Bool) → ((i : ℕ) → i < m → p i ≡ true → (i < n) × (q i ≡ true))

@@ -1,5 +1,7 @@
 // What is written of a candidate: the name, what the judge prints, and seven lines for a marker; of an answer, and of a plan on the Aeolus paper.
 // Promised: every byte of the lent buffer, on any bytes (`candidate_text`, `unread_text`).
+#![tactic(auto)]
+
 mod lines;
 pub mod plans;
 

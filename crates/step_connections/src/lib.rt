@@ -1,5 +1,7 @@
 // Connections by use port: which stand, one more and one fewer.
 // Promised: each answers what rules_spec/specs say of the configuration that the words are, and each change is that of the rule, on all inputs.
+#![tactic(auto)]
+
 ghost use Rattle.std.specs.Prelude.{◌≡◌, cond, ◌&&◌, ℕ, ltb};
 ghost use Rattle.model.specs.Empty.{no_server};
 ghost use Rattle.model.specs.View.{port_number, server_number, is_served, connection_at};

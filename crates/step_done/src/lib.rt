@@ -1,5 +1,7 @@
 // Whether all is done, of what the words of a program and of a state say.
 // Promised: `all_done`, on any words.
+#![tactic(auto)]
+
 ghost use Rattle.std.specs.Prelude.{◌≡◌, eqb};
 ghost use Rattle.sets.specs.Test.{all_below};
 ghost use Rattle.model.specs.View.{instance};

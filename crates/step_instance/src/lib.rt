@@ -1,5 +1,7 @@
 // One instance by itself: what is held, which ports are active, what leaves and enters a place, which ports refuse.
 // Promised: each function answers what rules_spec/specs say of the tables and the configuration that the words are.
+#![tactic(auto)]
+
 ghost use Rattle.std.specs.Prelude.{◌≡◌};
 ghost use Rattle.sets.specs.Test.{any_below};
 ghost use Rattle.sets.specs.Mask.{collect};

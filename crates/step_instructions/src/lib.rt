@@ -1,5 +1,7 @@
 // The instructions on words: add, del, pushb, con, dcon and wait, the last also for one push, each a check and a change made in place.
 // Promised: for every tables, state and number, each check answers the number of rules_spec/specs, and each change is that of rules_spec/specs.
+#![tactic(auto)]
+
 pub mod tickets;
 
 ghost use Rattle.std.specs.Prelude.{◌≡◌, cond, ℕ, suc, ◌*◌, ◌<◌, ltb};

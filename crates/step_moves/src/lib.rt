@@ -1,6 +1,8 @@
 // The four moves on words: fire, end, enter and finish, each a check and a change made in place.
 // Promised: for every tables, state and number, each check answers the number of rules_spec/specs and the use port concerned, and each change is
 // that of rules_spec/specs.
+#![tactic(auto)]
+
 ghost use Rattle.std.specs.Prelude.{◌≡◌};
 ghost use Rattle.model.specs.View.{instance, with_queue};
 ghost use Rattle.rules_spec.specs.Closing.{closed};

@@ -1,5 +1,7 @@
 // The port check 38, 34, 35, 36, on words.
 // Promised: each function answers what rules_spec/specs say of the tables and the configuration that the words are.
+#![tactic(auto)]
+
 mod in_use;
 
 ghost use Rattle.std.specs.Prelude.{◌≡◌, ◌<◌};

@@ -1,6 +1,8 @@
 // One step by its verb, and the walk of an answer, in place.
 // Promised, of every program: what each leaves in the state and answers is the step and the walk of rules_spec/specs, but that a use port which is to
 // get a server whose number no word holds is left without one, and that a push which no word holds leaves 0 in its slot (specs/Held).
+#![tactic(auto)]
+
 ghost use Rattle.std.specs.Prelude.{◌≡◌, List, ℕ, ◌<◌, min};
 ghost use Rattle.model.specs.View.{steps_of};
 ghost use Rattle.rules_spec.specs.Tickets.{pushed_to};

@@ -1,5 +1,7 @@
 // The clock of an answer beside its walk, and the mark that it comes to.
 // Promised: the walk is that of rules_spec/specs, and the mark that of timing_spec/specs, for every table, answer and times.
+#![tactic(auto)]
+
 ghost use Rattle.std.specs.Prelude.{◌≡◌, cond, List, ℕ, ◌+◌, max, get_or, set};
 ghost use Rattle.sets.specs.Mask.{member};
 ghost use Rattle.model.specs.declared.Configuration.{Configuration};

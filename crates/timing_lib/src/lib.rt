@@ -1,5 +1,7 @@
 // Timing: a sheet, a start, an answer, a text of times and a lent buffer come to the judge's verdict, a report that ends in its mark, and the mark.
 // Promised: on any bytes, every field and byte is what crates/timing_spec/specs says, and the line at fault is that very part of its text.
+#![tactic(auto)]
+
 ghost use Rattle.std.specs.Prelude.{◌≡◌, List, ℕ, length};
 ghost use Rattle.item_spec.specs.Reader.{bytes};
 ghost use Rattle.model.specs.declared.Text.TheVariants as text;

@@ -1,5 +1,7 @@
 // The later of two times, and the mark that a clock comes to.
 // Promised: each is the definition's, of all numbers.
+#![tactic(auto)]
+
 ghost use Rattle.std.specs.Prelude.{◌≡◌, max};
 ghost use Rattle.timing_spec.specs.Mark.{mark_of};
 

@@ -1,5 +1,7 @@
 // Tables, program, answer and configuration as words of lent arrays, one array for each: read and written by the names of their fields.
 // Promised: each reader answers the field of what the words say by specs/Words, and each writer changes that field alone.
+#![tactic(auto)]
+
 pub mod answer;
 pub mod begun;
 pub mod program;

@@ -1,5 +1,7 @@
 // Item writers: each writes at a position of a lent buffer, cuts at the buffer's end what has no room, and answers the position after.
 // Promised by the one record `Written`: the position after, and every byte of the buffer, for every buffer, position and item.
+#![tactic(auto)]
+
 ghost use Rattle.std.specs.Prelude.{[], ◌∷◌};
 ghost use Rattle.item_spec.specs.Write.{digits_in, number_text, mask_text};
 ghost use Rattle.write_items.specs.Written.{Written};

@@ -1,5 +1,7 @@
 // The lines of the two texts as they are written: each at the start of a lent part, cut at its end, and its writer answers the bytes used.
 // Promised: every byte of the lent part and the bytes used (`Written`), and of each kind of line the number that its reader gives, for all numbers.
+#![tactic(auto)]
+
 pub mod faults;
 
 ghost use Rattle.std.specs.Prelude.{◌++◌};

@@ -1,5 +1,7 @@
 // The report, the start (`start`) and the fault lines: each line is written into the part of the lent buffer that is still free, and its writer answers the bytes used.
 // Promised: every byte of the lent buffer and the bytes used, cut where there is no room, for every state, reachable or not.
+#![tactic(auto)]
+
 pub mod start;
 
 ghost use Rattle.std.specs.Prelude.{◌≡◌};

@@ -1,5 +1,7 @@
 // Whether a text has room in the lent buffer.
 // Promised: 1, 6 or 0, of all numbers.
+#![tactic(auto)]
+
 ghost use Rattle.std.specs.Prelude.{◌≡◌, not, leb};
 ghost use Rattle.read_spec.specs.Limits.{length_ok};
 ghost use Rattle.rules_spec.specs.Refusal.{◌⇒◌∣◌};

@@ -1,5 +1,7 @@
 // Writers of the two texts: tables and a program as a sheet, steps as an answer, from words into a lent buffer.
 // Promised, for all words and buffers: the number is `write_number` of writing/specs/Buffer, and every byte of the buffer is said; beside a refusal none changes.
+#![tactic(auto)]
+
 mod faults;
 mod filled;
 mod lines_of;

@@ -1,5 +1,7 @@
 // The lines of verbs, do= and step=: a row of a table each.
 // Promised: every byte of the lent buffer, and the number of the line, for all numbers, also codes that no line says.
+#![tactic(auto)]
+
 ghost use Rattle.std.specs.Prelude.{◌++◌, ◌≡◌, not, ◌≤◌, length, take};
 ghost use Rattle.read_spec.specs.Kinds.{an_instruction, a_step};
 ghost use Rattle.rules_spec.specs.Refusal.{◌⇒◌∣◌};
