@@ -6,7 +6,7 @@ use Rattle.passlist_spec.specs.Standing.{passed_line}
 use Rattle.passlist_lib.proofs.write_passed.Statement.{statement}
 use Rattle.passlist_lib.proofs.write_passed.Tie as tie
 
-slice-aggregate-write-key-2 : tie.Need-slice-aggregate-write-key-2
+slice-aggregate-write-key-2 : tie.Need-slice_bounds-write_key-end-2
 slice-aggregate-write-key-2 c = simp length-take (omega (arith, c.name_size-n.ensures.0))
 
 same_length : tie.Need-shape_of-t

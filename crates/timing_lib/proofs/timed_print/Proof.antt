@@ -28,35 +28,35 @@ returns-2 c =
     let x = c.args in
     let e = c.timed-ended.ensures in
     lines-print (paper x.sheet.now x.given x.start.now) x.answer.now x.times.now x.out.now (lent-long c.before.before.before.before.before) (ap verdict_of e.verdict-is) e.buffer-is
-    (inl (inl (omega (arith, c.if-refused-lt6.true, c.if-refused-lt1.false)))) c.write_fault-in-1-to-5.ensures
+    (inl (inl (omega arith, omega arith))) c.write_fault-in-1-to-5.ensures
 
 returns-3 : tie.Need-returns-in-40-to-42
 returns-3 c =
     let x = c.args in
     let e = c.timed-ended.ensures in
     lines-print (paper x.sheet.now x.given x.start.now) x.answer.now x.times.now x.out.now (lent-long c.before.before.before.before.before) (ap verdict_of e.verdict-is) e.buffer-is
-    (inr (omega (arith, c.if-refused-lt43.true, c.if-refused-lt40.false))) c.write_fault-in-40-to-42.ensures
+    (inr (omega arith, omega arith)) c.write_fault-in-40-to-42.ensures
 
 returns-4 : tie.Need-returns-in_default
 returns-4 c =
     let x = c.args in
     let e = c.timed-ended.ensures in
     report-prints (paper x.sheet.now x.given x.start.now) x.answer.now x.times.now x.out.now (lent-long c.before.before.before) (ap verdict_of e.verdict-is) e.buffer-is
-    (⊎_elim (⊎_elim (λ l. omega (arith, l, c.if-refused-lt1.true)) c.in_default-1.rest.1) (λ l. omega (arith, l, c.if-refused-lt1.true)))
+    (⊎_elim (⊎_elim (λ l. omega (arith, l, c.in_default.if-refused-lt1-own.true)) c.in_default.in_default-own.rest.1) (λ l. omega (arith, l, c.in_default.if-refused-lt1-own.true)))
 
 returns-5 : tie.Need-returns-in_default-2
 returns-5 c =
     let x = c.args in
     let e = c.timed-ended.ensures in
     report-prints (paper x.sheet.now x.given x.start.now) x.answer.now x.times.now x.out.now (lent-long c.before.before.before) (ap verdict_of e.verdict-is) e.buffer-is
-    (⊎_elim (⊎_elim (λ l. omega (arith, l, c.if-refused-lt6.false)) c.in_default-1.rest.1) (λ l. omega (arith, l, c.if-refused-lt40.true)))
+    (⊎_elim (⊎_elim (λ l. omega (arith, l, c.in_default.if-refused-lt6-own.false)) c.in_default.in_default-own.rest.1) (λ l. omega (arith, l, c.in_default.if-refused-lt40-own.true)))
 
 returns-6 : tie.Need-returns-in_default-3
 returns-6 c =
     let x = c.args in
     let e = c.timed-ended.ensures in
     report-prints (paper x.sheet.now x.given x.start.now) x.answer.now x.times.now x.out.now (lent-long c.before.before.before) (ap verdict_of e.verdict-is) e.buffer-is
-    (⊎_elim (⊎_elim (λ l. omega (arith, l, c.if-refused-lt6.false)) c.in_default-1.rest.1) (λ l. omega (arith, l, c.if-refused-lt43.false)))
+    (⊎_elim (⊎_elim (λ l. omega (arith, l, c.in_default.if-refused-lt6-own.false)) c.in_default.in_default-own.rest.1) (λ l. omega (arith, l, c.in_default.if-refused-lt43-own.false)))
 
 pub timed_print_spec : {M : Type 1} → statement M
 timed_print_spec =
