@@ -50,7 +50,7 @@ def constants(file):
 
 
 page, style = constants("Page.antt"), constants("Style.antt")
-said = constants("Words.antt")["wordsText"][0].split("\n")
+said = constants("Words.antt")["words_text"][0].split("\n")
 
 
 def shown(text):
@@ -65,19 +65,19 @@ def filled(pieces, *values):
 def row(at, number, line, last):
     left = len(line) - 120
     return (
-        page["rowBegin"][0 if at == number else 1]
+        page["row_begin"][0 if at == number else 1]
         + str(number)
-        + page["lineRow"][0]
+        + page["line_row"][0]
         + shown(line[:120])
-        + (filled(page["leftNote"], left) if left > 0 else "")
-        + (page["endNote"][0] if last else "")
-        + page["lineRow"][1]
+        + (filled(page["left_note"], left) if left > 0 else "")
+        + (page["end_note"][0] if last else "")
+        + page["line_row"][1]
     )
 
 
 def cells(report):
-    turned = dict(zip("\n=,", (page["cellPiece"][i] for i in (1, 3, 5))))
-    return "".join((page["reportByte"][0] if i == 0 or report[i - 1] == "\n" else "") + turned.get(byte, byte) for i, byte in enumerate(report))
+    turned = dict(zip("\n=,", (page["cell_piece"][i] for i in (1, 3, 5))))
+    return "".join((page["report_byte"][0] if i == 0 or report[i - 1] == "\n" else "") + turned.get(byte, byte) for i, byte in enumerate(report))
 
 
 def sides(answer, at, report):
@@ -104,12 +104,12 @@ def candidate(k, name):
     elif not judgement.refused:
         queues = [item.split(",")[5] for item in report.split("\n") if item.startswith("instance=")]
         group, at = 0 if done == program and set(queues) <= {"-"} else 39, answers[path].count(b"\n") + 1
-    text = opening(group) + filled(page["markLine"], mark)
+    text = opening(group) + filled(page["mark_line"], mark)
     if group == 0:
         return group, text + page["body"][0]
     if done < program:
         number = len(lines) - (program - done)
-        text += filled(page["instructionLine"], done, program, number, shown(lines[number - 1][:120]))
+        text += filled(page["instruction_line"], done, program, number, shown(lines[number - 1][:120]))
     return group, text + sides(answers[path], at, report) + "".join(page["signs"])
 
 
@@ -117,13 +117,13 @@ def whole():
     found = [candidate(k, name) for k, name in enumerate(names)]
     groups = [group for group, _ in found]
     title, sums = shown(words[4].encode()), words[5:]
-    text = filled(page["headBegin"][:4], "", "", "", title) + page["headBegin"][4]
-    text += "".join(style["lookInColour"] + style["lookOfText"])
-    text += "".join(filled(page["filterRule"], k, k) for k in range(41))
-    text += "".join(style["lookOfCandidates"] + style["lookOfParts"] + style["lookInPrint"])
+    text = filled(page["head_begin"][:4], "", "", "", title) + page["head_begin"][4]
+    text += "".join(style["look_in_colour"] + style["look_of_text"])
+    text += "".join(filled(page["filter_rule"], k, k) for k in range(41))
+    text += "".join(style["look_of_candidates"] + style["look_of_parts"] + style["look_in_print"])
     text += title + filled(page["heading"], *sums)
     text += filled(page["counts"][:3], len(found))
-    text += "".join(filled(page["countRow"], k, groups.count(k), k, said[k]) for k in range(41) if k in groups)
+    text += "".join(filled(page["count_row"], k, groups.count(k), k, said[k]) for k in range(41) if k in groups)
     return text + page["counts"][3] + "".join(one for _, one in found) + filled(page["foot"], len(found))
 
 
