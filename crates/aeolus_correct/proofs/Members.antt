@@ -1,6 +1,6 @@
 -- Loops over the members of a set, the least of the rest at each turn: what is counted or looked at among the rest is what is left of the whole.
 -- Assumes nothing.
-use mathlib.Core.Path.{◌≡◌, refl, sym, ap, ◌∙◌}
+use mathlib.Core.Path.{◌≡◌, refl, sym, ◌∙◌}
 use mathlib.Core.Logic.{◌≢◌, by_cases}
 use mathlib.Core.Bool.{Bool, true, false, not, ◌&&◌, ◌||◌, and-true, and-false}
 use Prim.Native.Nat.{ℕ, suc, ◌^◌, ◌<◌}

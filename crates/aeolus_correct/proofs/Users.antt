@@ -18,7 +18,7 @@ use Rattle.sets.proofs.Laws.{any-hit, all_of, all_same, member-none, member-join
 use Rattle.sets.proofs.Tally.{tally-none, tally-same}
 use Rattle.sets.proofs.Members.{rest-start, later-other}
 use Rattle.item_spec.proofs.Tests.{by-test}
-use Rattle.aeolus_model.specs.Model.{Universe, Configuration, type_of, place_of, kind_of, deployed, is_active, provision, weak, strong, bound_at, bound}
+use Rattle.aeolus_model.specs.Model.{Universe, Configuration, type_of, place_of, kind_of, deployed, is_active, provision, bound_at, bound}
 use Rattle.aeolus_rules_spec.specs.Correct.{provides, serves, employs, provided, asked, port_holds, component_holds, holds}
 use Rattle.aeolus_correct.specs.Users.{targets_of, Targets, Used, Users}
 use Rattle.aeolus_correct.proofs.Members.{all_pass, among-all}

@@ -1,9 +1,8 @@
 -- The report of a sound configuration has at most 1,811 bytes.
 -- Assumes nothing.
-use Prim.Native.Nat.{ℕ, zero, suc, ◌+◌, ◌*◌, ◌/◌, ◌%◌, ◌^◌, ◌<◌, ◌≤◌}
-use mathlib.Core.List.{List}
-use mathlib.Core.Bool.{Bool, true, false, ◌&&◌, and-false, cond}
-use mathlib.Core.Path.{◌≡◌, refl, sym, ap, ◌∙◌}
+use Prim.Native.Nat.{ℕ, zero, suc, ◌+◌, ◌*◌, ◌/◌, ◌%◌, ◌<◌, ◌≤◌}
+use mathlib.Core.Bool.{◌&&◌, and-false, cond}
+use mathlib.Core.Path.{◌≡◌, refl, ap}
 use mathlib.Core.Logic.{⊎_elim}
 use native.Mathlib.Nat.{le_step}
 use native.Mathlib.Omega.{arith}
@@ -15,12 +14,12 @@ use Rattle.sets.specs.Test.{tally}
 use Rattle.sets.specs.Mask.{member}
 use Rattle.sets.proofs.Laws.{below-cases}
 use Rattle.item_spec.specs.Reader.{bytes}
-use Rattle.item_spec.specs.Write.{number_text, in_turn, one_text, two_text, three_text}
+use Rattle.item_spec.specs.Write.{in_turn, one_text, two_text, three_text}
 use Rattle.item_spec.proofs.Tests.{by-test}
-use Rattle.report_spec.proofs.Sums.{sum, sums, turns-le, length-in_turns, sum-le, sums-add, sums_none, sums-spike}
+use Rattle.report_spec.proofs.Sums.{sum, sums, turns-le, length-in_turns, sums-add, sums_none, sums-spike}
 use Rattle.report_spec.proofs.Widths.{number-le}
 use Rattle.report_spec.proofs.Bound.{count-le}
-use Rattle.aeolus_model.specs.Model.{Universe, Configuration, type_of, name_of, place_of, lists, kind_of, state_of, deployed, bound_at}
+use Rattle.aeolus_model.specs.Model.{Universe, Configuration, name_of, place_of, lists, kind_of, state_of, deployed, bound_at}
 use Rattle.aeolus_rules_spec.specs.Definition1.{Lawful}
 use Rattle.aeolus_rules_spec.specs.Bind.{sizes, bindings}
 use Rattle.aeolus_rules_spec.specs.Run.{Ran}

@@ -1,6 +1,6 @@
 -- No other outcome fits: what is promised is an equation with the definition, so two results that meet it are one.
 -- Assumes nothing.
-use mathlib.Core.Path.{◌≡◌, sym, ◌∙◌}
+use mathlib.Core.Path.{sym, ◌∙◌}
 use Rattle.aeolus_judge_spec.specs.Once.{NoOtherFits}
 
 pub no-other-fits : NoOtherFits

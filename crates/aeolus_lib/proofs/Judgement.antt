@@ -11,10 +11,9 @@ use Rattle.judge_spec.specs.Course.{Course, faulty, reached}
 use Rattle.judge_spec.specs.Judged.{text_of, fault_place, over}
 use Rattle.aeolus_model.specs.Model.{Universe}
 use Rattle.aeolus_rules_spec.specs.Run.{Ran}
-use Rattle.aeolus_judge_spec.specs.declared.Verdict.{Verdict}
 use Rattle.aeolus_judge_spec.specs.Report.{report}
 use Rattle.aeolus_judge_spec.specs.Course.{course}
-use Rattle.aeolus_judge_spec.specs.Judged.{Judgement, after_fault, in_room, ending, judged, buffer}
+use Rattle.aeolus_judge_spec.specs.Judged.{Judgement, after_fault, in_room, ending, judged}
 use Rattle.aeolus_judge_spec.specs.Once.{Promised}
 use Rattle.aeolus_judge_spec.proofs.Room.{read_fits}
 use Rattle.judge_lib.proofs.Room.{leb-smaller}

@@ -6,7 +6,7 @@ use mathlib.Core.Path.{◌≡◌, refl}
 use lib.ListN.{length}
 use Rattle.read_chain.specs.declared.Place.{Place}
 use Rattle.read_chain.specs.Whole.{Whole, whole, beside}
-use Rattle.judge_spec.specs.Course.{Course, reached, short_start}
+use Rattle.judge_spec.specs.Course.{reached, short_start}
 use Rattle.judge_lib.specs.declared.pairs.Outcome.{Outcome}
 use Rattle.judge_lib.specs.declared.pairs.Outcome.TheVariants.{InSheet, InStart, InAnswer, Reached}
 use Rattle.judge_lib.specs.Came.{alone_as, outcome_of, came}

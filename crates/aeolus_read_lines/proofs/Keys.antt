@@ -3,20 +3,18 @@
 use Prim.Native.Nat.{ℕ, suc, ◌≤◌}
 use native.Mathlib.Omega.{arith}
 use mathlib.Core.List.{List}
-use mathlib.Core.Bool.{◌&&◌}
 use mathlib.Core.Path.{◌≡◌, refl, ◌∙◌}
 use lib.Dec.{ltb, leb-suc-suc}
-use lib.ListN.{drop}
 use borrow.Author.Tests.{ltb-true}
 use Rattle.item_spec.proofs.Tests.{and_left, and_right}
 use Rattle.item_spec.specs.Reader.{Reply, Reader, got, refused, read_on, give, check, no_line, bytes}
-use Rattle.item_spec.specs.Read.{given, key, upon, one_form, two_form}
+use Rattle.item_spec.specs.Read.{given, key, upon, one_form}
 use Rattle.read_items.specs.Reads.{past, refusal, Reads}
 use Rattle.read_items.specs.declared.numbers.Four.{Four}
 use Rattle.read_items.specs.declared.numbers.Limits.TheVariants as limits
 use Rattle.read_items.specs.declared.numbers.Numbers.{Numbers}
 use Rattle.read_items.specs.declared.numbers.Numbers.TheVariants as numbers
-use Rattle.read_items.specs.Within.{four, numbers_says, numbers_within}
+use Rattle.read_items.specs.Within.{numbers_says, numbers_within}
 use Rattle.read_items.proofs.Limits.{form-fault, limit-kept, verb-here}
 use Rattle.read_items.proofs.Shapes.{bind-same}
 use Rattle.read_items.proofs.Within.{one-within, two-within, got-within}

@@ -1,9 +1,9 @@
 -- What an allowed action tells, and what allows it: each row of checks taken apart, both ways. An action's number is 0 or from 60 to 69.
 -- Assumes nothing.
 use mathlib.Core.Path.{◌≡◌, refl}
-use mathlib.Core.Logic.{◌↔◌, ◌≢◌, by_cases}
+use mathlib.Core.Logic.{◌↔◌, by_cases}
 use mathlib.Core.Bool.{Bool, true, false, not}
-use Prim.Native.Nat.{ℕ, suc, ◌≤◌, ◌<◌}
+use Prim.Native.Nat.{ℕ, suc}
 use native.Mathlib.Omega.{arith}
 use native.Mathlib.Decide.{ℕ_discrete}
 use lib.Dec.{eqb, ltb}
@@ -22,7 +22,7 @@ use Rattle.aeolus_rules_spec.specs.Unbind.{unbind_check}
 use Rattle.aeolus_model.specs.Action.{Action, new, del, change, bind, unbind}
 use Rattle.aeolus_rules_spec.specs.Action.{check, effect, reached_check, number}
 use Rattle.aeolus_rules_spec.specs.Run.{last_check}
-use Rattle.aeolus_rules_spec.specs.Definition3.{StrongCorrect, StrongExactly}
+use Rattle.aeolus_rules_spec.specs.Definition3.{StrongExactly}
 use Rattle.aeolus_rules_spec.specs.Definition7.{Own, AllowedExactly}
 use Rattle.aeolus_rules_spec.proofs.Exactly.{strong-exactly}
 

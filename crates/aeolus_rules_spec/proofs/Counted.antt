@@ -17,7 +17,7 @@ use Rattle.item_spec.proofs.Tests.{by-test}
 use Rattle.aeolus_model.specs.Model.{Universe, Configuration, NamesDiffer, nothing, type_of, name_of, place_of, lists, kind_of, deployed, bound}
 use Rattle.aeolus_rules_spec.specs.Definition1.{Lawful}
 use Rattle.aeolus_rules_spec.specs.Definition5.{total, triples_of, BindingsAreCounted}
-use Rattle.aeolus_rules_spec.specs.Bind.{sizes, bindings}
+use Rattle.aeolus_rules_spec.specs.Bind.{sizes}
 use Rattle.aeolus_rules_spec.specs.Run.{run}
 use Rattle.aeolus_rules_spec.proofs.Sizes.{none-tally}
 use Rattle.aeolus_rules_spec.proofs.Bindings.{size, sizes-one}

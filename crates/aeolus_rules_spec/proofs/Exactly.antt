@@ -1,22 +1,20 @@
 -- The test of a configuration is Definition 3.
 -- Assumes nothing.
-use mathlib.Core.Bool.{Bool, true, false, not, cond, ◌&&◌, ◌||◌, and-eq-true_iff, or-true, or-false}
-use mathlib.Core.List.{List, [], ◌∷◌}
-use mathlib.Core.Path.{◌≡◌, refl, sym, ap, ap₂, ◌∙◌, subst}
-use mathlib.Core.Logic.{◌≢◌, ◌⊎◌, ⊎_elim, inl, inr, ◌↔◌}
-use Prim.Native.Nat.{ℕ, zero, suc, ◌+◌, ◌*◌, ◌≤◌, ◌<◌}
+use mathlib.Core.Bool.{Bool, true, false, not, ◌&&◌, ◌||◌, and-eq-true_iff, or-true}
+use mathlib.Core.Path.{◌≡◌, refl, sym, ◌∙◌, subst}
+use mathlib.Core.Logic.{◌≢◌, ◌⊎◌, inl, inr, ◌↔◌}
+use Prim.Native.Nat.{ℕ, zero, suc, ◌<◌}
 use native.Mathlib.Omega.{arith}
 use native.Mathlib.Nat.{le_step}
-use lib.Dec.{eqb, leb}
-use lib.ListN.{length, get_or}
-use borrow.Author.Tests.{eq-eqb, ne_eqb, eqb-true, eqb-false, not-true, not-false, leb-true, le-leb}
-use Rattle.sets.proofs.Laws.{any-hit, any_some, any_none, all-at, all_of, below-cases}
-use Rattle.sets.specs.Test.{any_below, all_below, tally}
-use Rattle.aeolus_model.specs.Model.{Universe, Configuration, provision, weak, strong, kind_of, state_of, deployed, number_in, number_of, number_at, is_active, bound, type_of, name_of, find, place_of, lists, NamesDiffer}
+use lib.Dec.{eqb}
+use borrow.Author.Tests.{eq-eqb, ne_eqb, eqb-true, eqb-false, not-true, leb-true, le-leb}
+use Rattle.sets.proofs.Laws.{any-hit, all-at, all_of}
+use Rattle.sets.specs.Test.{any_below, tally}
+use Rattle.aeolus_model.specs.Model.{Universe, Configuration, provision, weak, strong, kind_of, state_of, deployed, number_in, number_of, number_at, is_active, type_of, name_of, find, NamesDiffer}
 use Rattle.aeolus_rules_spec.specs.Correct.{provides, serves, employs, required, provided, asked, port_holds, component_holds, holds}
-use Rattle.aeolus_rules_spec.specs.Definition3.{Each, Distinct, Other, Serves, Employs, Required, Provided, Provisions, Demands, StrongCorrect, Correct, StrongExactly, WeakExactly, SixtyFourIsUnbounded}
+use Rattle.aeolus_rules_spec.specs.Definition3.{Serves, Employs, Required, Provided, StrongExactly, WeakExactly, SixtyFourIsUnbounded}
 use Rattle.item_spec.proofs.Tests.{by-test}
-use Rattle.aeolus_rules_spec.proofs.Sizes.{each_map, Passes, distinct-few, Some, some_of, tally-none, none-tally, tally-le}
+use Rattle.aeolus_rules_spec.proofs.Sizes.{each_map, Passes, distinct-few, some_of, tally-none, none-tally, tally-le}
 
 pub both : (a : Bool) {b : Bool} → (a && b) ≡ true → (a ≡ true) × (b ≡ true)
 both a {b} = (and-eq-true_iff a b).0

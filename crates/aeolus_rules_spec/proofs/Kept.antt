@@ -2,30 +2,29 @@
 -- Assumes nothing.
 use mathlib.Core.Path.{◌≡◌, refl, sym, ap, ◌∙◌, subst}
 use mathlib.Core.Logic.{◌≢◌, by_cases}
-use mathlib.Core.Bool.{Bool, true, false, not, ◌&&◌, ◌||◌, and-false, and-true, or-false, or-true, true≢false}
+use mathlib.Core.Bool.{Bool, true, false, not, ◌&&◌, ◌||◌, and-false, and-true, or-false, true≢false}
 use mathlib.Core.List.{List, [], ◌∷◌}
-use Prim.Native.Nat.{ℕ, zero, suc, ◌+◌, ◌*◌, ◌/◌, ◌≤◌, ◌<◌}
+use Prim.Native.Nat.{ℕ, ◌+◌, ◌*◌, ◌/◌, ◌≤◌, ◌<◌}
 use native.Mathlib.Omega.{arith}
 use native.Mathlib.Decide.{ℕ_discrete}
 use lib.Dec.{eqb}
-use lib.ListN.{length, get_or, set, replicate, length-set, length-replicate}
+use lib.ListN.{length, get_or, set, length-set, length-replicate}
 use lib.Seq.{get_or-set_same, get_or-set_other}
 use borrow.Author.Tests.{eq-eqb, ne_eqb, eqb-true, eqb-false, not-true}
-use Rattle.sets.specs.Test.{any_below}
 use Rattle.sets.specs.Mask.{member, with, without, only}
 use Rattle.sets.proofs.Laws.{member-past, member-with, member-without, member-only}
 use Rattle.item_spec.proofs.Tests.{by-test}
-use Rattle.aeolus_model.specs.Model.{Universe, Configuration, nothing, type_of, name_of, place_of, lists, find, kind_of, state_of, deployed, bound, to_of}
+use Rattle.aeolus_model.specs.Model.{Universe, Configuration, nothing, type_of, name_of, place_of, lists, kind_of, state_of, deployed, bound}
 use Rattle.aeolus_rules_spec.specs.Definition1.{Lawful}
 use Rattle.aeolus_rules_spec.specs.New.{added}
-use Rattle.aeolus_rules_spec.specs.Del.{freed, deleted}
+use Rattle.aeolus_rules_spec.specs.Del.{deleted}
 use Rattle.aeolus_rules_spec.specs.Change.{changed}
-use Rattle.aeolus_rules_spec.specs.Bind.{requires, offers, sizes, bindings, rebound, joined}
+use Rattle.aeolus_rules_spec.specs.Bind.{requires, sizes, bindings, rebound, joined}
 use Rattle.aeolus_rules_spec.specs.Unbind.{parted}
 use Rattle.aeolus_model.specs.Action.{Action, new, del, change, bind, unbind}
-use Rattle.aeolus_rules_spec.specs.Action.{effect, number}
+use Rattle.aeolus_rules_spec.specs.Action.{effect}
 use Rattle.aeolus_rules_spec.specs.Run.{one_more, run}
-use Rattle.aeolus_rules_spec.specs.Definition2.{Joins, Configured, Known, AllKnown, PointsAreConfigurations, DeletedBindingsGo}
+use Rattle.aeolus_rules_spec.specs.Definition2.{Configured, Known, AllKnown, PointsAreConfigurations, DeletedBindingsGo}
 use Rattle.aeolus_rules_spec.specs.Definition7.{Own}
 use Rattle.aeolus_rules_spec.proofs.Exactly.{both, find-is}
 use Rattle.aeolus_rules_spec.proofs.Allowed.{number-exactly}

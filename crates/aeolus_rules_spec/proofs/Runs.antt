@@ -2,27 +2,26 @@
 -- Assumes nothing.
 use mathlib.Core.Path.{◌≡◌, refl, sym, ap, ◌∙◌, subst⁻¹}
 use mathlib.Core.Logic.{◌⊎◌, ⊎_elim, inl, inr, ◌↔◌, ◌≢◌, by_cases}
-use mathlib.Core.Bool.{Bool, true, false, cond}
+use mathlib.Core.Bool.{true, false}
 use mathlib.Core.List.{List, [], ◌∷◌}
-use Prim.Native.Nat.{ℕ, zero, suc, ◌≤◌, ◌<◌}
+use Prim.Native.Nat.{ℕ, suc, ◌≤◌}
 use native.Mathlib.Omega.{arith}
 use native.Mathlib.Decide.{ℕ_discrete}
 use lib.Dec.{eqb}
 use lib.ListN.{length, take}
 use borrow.Author.Tests.{eq-eqb, ne_eqb}
-use Rattle.sets.specs.Mask.{member}
 use Rattle.sets.proofs.Laws.{all_of, member-past}
 use Rattle.item_spec.proofs.Tests.{by-test}
-use Rattle.aeolus_model.specs.Model.{Universe, Configuration, nothing, provision, weak, strong, deployed, NamesDiffer}
+use Rattle.aeolus_model.specs.Model.{Universe, Configuration, nothing, provision, weak, strong, NamesDiffer}
 use Rattle.aeolus_rules_spec.specs.Correct.{component_holds, holds}
 use Rattle.aeolus_model.specs.Action.{Action}
 use Rattle.aeolus_rules_spec.specs.Action.{effect, number, Acted, act}
 use Rattle.aeolus_rules_spec.specs.Run.{Ran, one_more, last_check, run}
 use Rattle.aeolus_rules_spec.specs.Definition3.{StrongCorrect, Correct, StrongExactly, WeakExactly}
-use Rattle.aeolus_rules_spec.specs.Definition7.{Own, AllowedExactly, Reaches, DeploymentRun, PointsAreCorrect, ZeroIsADeploymentRun, SeventyExactly}
+use Rattle.aeolus_rules_spec.specs.Definition7.{AllowedExactly, Reaches, PointsAreCorrect, ZeroIsADeploymentRun, SeventyExactly}
 use Rattle.aeolus_rules_spec.specs.Refused.{RefusedChangesNothing, RunIsItsAcceptedPart}
 use Rattle.aeolus_rules_spec.proofs.Exactly.{strong-exactly, weak-exactly}
-use Rattle.aeolus_rules_spec.proofs.Allowed.{Holds, number-exactly, allowed-exactly, last-exactly, Numbered, number-numbered}
+use Rattle.aeolus_rules_spec.proofs.Allowed.{Holds, number-exactly, allowed-exactly, last-exactly, number-numbered}
 
 module _ (u : Universe) where
   act-on : (c : Configuration) (a : Action) → number u c a ≡ 0 → act u c a ≡ record { refused = 0; configuration = effect u c a }

@@ -1,24 +1,23 @@
 -- Names for which there are no bindings have no line, so that the next one for which there are is the next to be written.
 -- Assumes nothing.
-use mathlib.Core.Path.{◌≡◌, refl, sym, ap, ◌∙◌}
-use mathlib.Core.Logic.{◌≢◌, ◌⊎◌, ⊎_elim, by_cases}
-use mathlib.Core.Bool.{Bool, true, false, ◌&&◌}
-use mathlib.Core.List.{List, [], ◌++◌}
-use Prim.Native.Nat.{ℕ, zero, suc, ◌+◌, ◌≤◌, ◌<◌}
+use mathlib.Core.Path.{◌≡◌, refl}
+use mathlib.Core.Logic.{◌⊎◌, ⊎_elim, by_cases}
+use mathlib.Core.Bool.{true}
+use mathlib.Core.List.{List, []}
+use Prim.Native.Nat.{ℕ, zero, suc, ◌≤◌, ◌<◌}
 use native.Mathlib.Nat.{le_step}
 use native.Mathlib.Omega.{arith}
 use native.Mathlib.Numerals.{add-one}
-use native.Mathlib.Decide.{ℕ_discrete, dec_lt}
+use native.Mathlib.Decide.{ℕ_discrete}
 use lib.Dec.{eqb}
 use borrow.Author.Tests.{eqb-true}
-use Rattle.sets.specs.Mask.{member}
 use Rattle.sets.proofs.Laws.{member-none}
 use Rattle.item_spec.proofs.Tests.{by-test}
-use Rattle.item_spec.specs.Write.{only_if, in_turn}
+use Rattle.item_spec.specs.Write.{in_turn}
 use Rattle.write_items.proofs.Turns.{Turns, turns-empty}
 use Rattle.aeolus_model.specs.Model.{Universe, Configuration, type_of, name_of, place_of, lists, kind_of, deployed, bound_at}
 use Rattle.aeolus_rules_spec.proofs.Exactly.{find-is}
-use Rattle.aeolus_judge_spec.specs.Report.{binding_text, providers_text, bindings_at}
+use Rattle.aeolus_judge_spec.specs.Report.{providers_text, bindings_at}
 use Rattle.aeolus_write_report.specs.Names.{InUse, Next}
 
 -- ---- looked at one after the other

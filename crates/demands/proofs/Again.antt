@@ -1,38 +1,33 @@
 -- At each accepted point the state shown is a start: it is read back, no use port is unserved, and it has room.
 -- Assumes nothing.
-use Prim.Native.Nat.{ℕ, ◌≤◌, ◌<◌}
-use mathlib.Core.List.{List, [], ◌++◌}
-use mathlib.Core.Bool.{true, false}
-use mathlib.Core.Path.{◌≡◌, refl, sym, ap, ◌∙◌}
+use Prim.Native.Nat.{◌≤◌, ◌<◌}
+use mathlib.Core.List.{List}
+use mathlib.Core.Bool.{false}
+use mathlib.Core.Path.{◌≡◌, refl, ap}
 use mathlib.Core.Logic.{⊎_elim}
 use native.Mathlib.Omega.{arith}
-use lib.Dec.{eqb}
-use lib.ListN.{length, take, length-append, length-take}
+use lib.ListN.{length, length-append, length-take}
 use borrow.Author.Tests.{le-leb, eq-eqb}
 use Rattle.item_spec.specs.Reader.{bytes}
 use Rattle.model.specs.declared.Tables.{Tables}
 use Rattle.model.specs.declared.Program.{Program}
 use Rattle.model.specs.declared.Step.{Step}
-use Rattle.model.specs.declared.Connection.{Connection}
 use Rattle.model.specs.declared.Configuration.{Configuration}
 use Rattle.model.specs.declared.Walked.{Walked}
-use Rattle.model.specs.View.{instance, connection, begun_with, with_done}
+use Rattle.model.specs.View.{connection, begun_with, with_done}
 use Rattle.model.specs.Empty.{none_begun}
 use Rattle.read_spec.specs.Limits.{has_tickets}
 use Rattle.read_spec.specs.Lawful.{Lawful}
 use Rattle.rules_spec.specs.Ports.{serves, blocks, employs, fails_unconnected, fails_unserved, fails_refusing, fails_in_use, port_check}
-use Rattle.rules_spec.specs.Proper.{Proper}
-use Rattle.rules_spec.specs.PushB.{depth_of}
 use Rattle.rules_spec.specs.Walk.{walk}
 use Rattle.rules_spec.proofs.Connections.{joined-some}
 use Rattle.rules_spec.proofs.Named.{walk-port-small}
-use Rattle.rules_spec.proofs.Numbers.{Numbered, walk-numbers}
+use Rattle.rules_spec.proofs.Numbers.{walk-numbers}
 use Rattle.rules_spec.proofs.Proper.{proper-from}
 use Rattle.rules_spec.proofs.Tables.{facts}
-use Rattle.report_spec.specs.Report.{report, count_text, port_text}
+use Rattle.report_spec.specs.Report.{count_text}
 use Rattle.report_spec.proofs.Bound.{report-le}
-use Rattle.start_spec.specs.Paper.{Paper, given}
-use Rattle.start_spec.specs.Text.{start_lines}
+use Rattle.start_spec.specs.Paper.{given}
 use Rattle.start_spec.specs.Served.{fails_still, some_unserved, AllServed, FiftyExactly}
 use Rattle.start_spec.specs.Permitted.{MayBegin}
 use Rattle.start_spec.specs.Round.{state_text, head_text, plain_start, ReportsEndInTheState, ReportsAreStarts}
@@ -40,10 +35,10 @@ use Rattle.start_spec.proofs.Fifty.{fifty-exactly}
 use Rattle.start_spec.proofs.Round.{reports-end-in-the-state, reports-are-starts}
 use Rattle.judge_spec.specs.Course.{reached, read, served, short_start, outset, default_depth}
 use Rattle.demands.specs.Safe.{Safe, WalksAreSafe}
-use Rattle.demands.specs.OnTexts.{sheet_tables, sheet_program, begin_of, answer_steps, AllRead, walk_on, up_to}
+use Rattle.demands.specs.OnTexts.{sheet_tables, sheet_program, begin_of, answer_steps, walk_on, up_to}
 use Rattle.demands.specs.Again.{ReportsAreStartsOnTexts}
 use Rattle.demands.proofs.Safe.{walks-are-safe}
-use Rattle.demands.proofs.OnTexts.{Goes, read_goes}
+use Rattle.demands.proofs.OnTexts.{read_goes}
 
 -- a safe configuration has no unserved use port
 pub served-is : (t : Tables) (c : Configuration) → Safe t c → some_unserved t c ≡ false

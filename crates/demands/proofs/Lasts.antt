@@ -2,13 +2,12 @@
 -- Assumes nothing.
 use Prim.Native.Nat.{ℕ, zero, suc, ◌≤◌, ◌<◌}
 use mathlib.Core.List.{List, [], ◌∷◌, ◌++◌}
-use mathlib.Core.Bool.{true, false, and-false}
+use mathlib.Core.Bool.{true, and-false}
 use mathlib.Core.Path.{◌≡◌, refl, sym, ap, ◌∙◌}
 use mathlib.Core.Logic.{◌≢◌, by_cases}
 use native.Mathlib.Omega.{arith}
 use native.Mathlib.Decide.{dec_lt}
-use lib.Dec.{eqb, ltb}
-use lib.ListN.{length, get_or, length-take}
+use lib.ListN.{length, length-take}
 use borrow.Author.Tests.{eq-eqb, lt-ltb, le-leb}
 use Rattle.model.specs.declared.Tables.{Tables}
 use Rattle.model.specs.declared.Program.{Program}
@@ -43,7 +42,7 @@ use Rattle.demands.proofs.Safe.{walks-are-safe}
 use Rattle.demands.proofs.Queues.{queues-are-kept}
 use Rattle.demands.proofs.Tickets.{done-tells, tickets-rise, ticketed-rest}
 use Rattle.demands.proofs.Again.{served-is, unserved-done}
-use Rattle.demands.proofs.OnTexts.{Goes, read_goes, allowed-goes, program-is}
+use Rattle.demands.proofs.OnTexts.{read_goes, allowed-goes, program-is}
 
 -- ---- the last of a list
 last_rest : (k l : List ℕ) → l ≢ [] → last_stamp (k ++ l) ≡ last_stamp l

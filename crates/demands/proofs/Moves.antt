@@ -3,15 +3,13 @@
 use mathlib.Core.Path.{◌≡◌, refl}
 use mathlib.Core.Bool.{Bool, true, false}
 use lib.Dec.{leb}
-use lib.ListN.{get_or}
 use Prim.Native.Nat.{ℕ}
 use borrow.Author.Tests.{eq-eqb}
 use Rattle.model.specs.declared.Tables.{Tables}
 use Rattle.model.specs.declared.Program.{Program}
 use Rattle.model.specs.declared.Step.{Step}
 use Rattle.model.specs.declared.Configuration.{Configuration}
-use Rattle.model.specs.Empty.{no_instruction}
-use Rattle.rules_spec.specs.Action.{Action, add, del, pushb, con, dcon, wait, fire, end, enter, finish, move_action, effect}
+use Rattle.rules_spec.specs.Action.{Action, move_action, effect}
 use Rattle.rules_spec.specs.Step.{is_next, action_at, action, step_check_with, step_check, step_to, check_at}
 use Rattle.rules_spec.proofs.Actions.{instruction-cases, move-cases, kind_of}
 use Rattle.rules_spec.proofs.Local.{change, touches, changes}

@@ -1,13 +1,13 @@
 -- Demands 2 and 3 on the texts: what is read is the walk of lawful tables, so each follows from its theorem about walks.
 -- Assumes nothing.
-use Prim.Native.Nat.{ℕ, ◌<◌}
+use Prim.Native.Nat.{ℕ}
 use mathlib.Core.List.{List, []}
 use mathlib.Core.Bool.{true}
 use mathlib.Core.Path.{◌≡◌, refl, sym, ap, ◌∙◌}
 use mathlib.Core.Logic.{⊎_elim}
 use native.Mathlib.Omega.{arith}
 use lib.Dec.{leb}
-use lib.ListN.{length, length-append}
+use lib.ListN.{length}
 use borrow.Author.Tests.{le-leb, eq-eqb}
 use Rattle.item_spec.proofs.Tests.{by-test}
 use Rattle.model.specs.declared.Tables.{Tables}
@@ -20,7 +20,7 @@ use Rattle.model.specs.declared.Answer.{Answer}
 use Rattle.model.specs.declared.Program.{Program}
 use Rattle.model.specs.View.{steps_of}
 use Rattle.read_spec.specs.Limits.{length_ok, has_tickets}
-use Rattle.read_spec.specs.Lines.{Run, on, stop}
+use Rattle.read_spec.specs.Lines.{on}
 use Rattle.read_spec.specs.Texts.{sheet, answer}
 use Rattle.read_spec.specs.Lawful.{Lawful, SheetsAreLawful}
 use Rattle.read_spec.proofs.Lawful.{sheets-are-lawful, sheet-begun}

@@ -24,7 +24,7 @@ use Rattle.rules_spec.proofs.Local.{shifted, appended, change, touches, changes,
 use Rattle.rules_spec.proofs.Allowed.{del-facts}
 use Rattle.rules_spec.proofs.Walks.{step-on, step-stop, walk-cases, number-facts, after-cases}
 use Rattle.rules_spec.proofs.Proper.{Lawfully, room, step-lawfully, step-proper}
-use Rattle.demands.specs.Queues.{Story, nothing, begun, more_pushed, more_finished, tell, story, QueuesAreKept}
+use Rattle.demands.specs.Queues.{Story, begun, more_pushed, more_finished, tell, story, QueuesAreKept}
 
 -- ---- a queue of any elements: n of them queued, in the slots s
 

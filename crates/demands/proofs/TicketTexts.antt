@@ -6,7 +6,7 @@ use Rattle.demands.specs.Tickets.{TicketsRise, WaitsExactly, PushesExactly}
 use Rattle.demands.specs.OnTexts.{sheet_tables, sheet_program, begin_of, up_to}
 use Rattle.demands.specs.TicketTexts.{TicketsRiseOnTexts, WaitsOnTexts, PushesOnTexts}
 use Rattle.demands.proofs.Tickets.{tickets-rise, waits-exactly, pushes-exactly}
-use Rattle.demands.proofs.OnTexts.{Goes, read_goes}
+use Rattle.demands.proofs.OnTexts.{read_goes}
 
 pub tickets-rise-on-texts : TicketsRiseOnTexts
 unfolding TicketsRiseOnTexts TicketsRise

@@ -5,10 +5,10 @@ use mathlib.Core.Bool.{Bool, true, false, not, ◌||◌, or-true, or-false, fals
 use mathlib.Core.List.{List, [], ◌∷◌, ◌++◌, append-nil}
 use mathlib.Core.Logic.{◌≢◌}
 use lib.ListN.{length}
-use Prim.Native.Nat.{ℕ, zero, suc, ◌≤◌, ◌<◌}
+use Prim.Native.Nat.{ℕ, zero, suc, ◌≤◌}
 use native.Mathlib.Omega.{arith}
 use lib.Dec.{leb, eqb, eqb-suc-zero}
-use borrow.Author.Tests.{eqb-true, eq-eqb, ne_eqb, leb-true, leb-false, lt-leb, not-true}
+use borrow.Author.Tests.{eqb-true, ne_eqb, leb-true, leb-false, lt-leb, not-true}
 use Rattle.sets.specs.Test.{any_below}
 use Rattle.item_spec.proofs.Tests.{by-test, and_left, and_right}
 use Rattle.model.specs.declared.Tables.{Tables}
@@ -17,16 +17,16 @@ use Rattle.model.specs.declared.Program.{Program}
 use Rattle.model.specs.declared.Step.{Step}
 use Rattle.model.specs.declared.Configuration.{Configuration}
 use Rattle.model.specs.Empty.{no_step}
-use Rattle.model.specs.Verb.{add_verb, del_verb, pushb_verb, con_verb, dcon_verb, wait_verb, push_ticket_verb, wait_ticket_verb}
+use Rattle.model.specs.Verb.{add_verb, del_verb, pushb_verb, con_verb, dcon_verb, push_ticket_verb, wait_ticket_verb}
 use Rattle.model.specs.View.{instance, slot, behavior_in, pair_of, stamp_in, list_of, queue_of}
 use Rattle.model.proofs.View.{list-snoc}
 use Rattle.read_spec.specs.Limits.{has_tickets}
 use Rattle.read_spec.specs.Lawful.{verb_lawful, Lawful}
 use Rattle.rules_spec.specs.Refusal.{◌⇒◌∣◌}
-use Rattle.rules_spec.specs.Tickets.{instruction_of, plain_push, ticket_push, goes_on, begun_to, pushed_to, not_above, has_stamp, Rises, Ticketed}
+use Rattle.rules_spec.specs.Tickets.{instruction_of, ticket_push, goes_on, begun_to, pushed_to, not_above, has_stamp, Rises, Ticketed}
 use Rattle.rules_spec.specs.PushB.{pushb_check}
 use Rattle.rules_spec.specs.Wait.{is_queued, wait_check}
-use Rattle.rules_spec.specs.Action.{Action, ticketed, instruction_action, move_action, action_check}
+use Rattle.rules_spec.specs.Action.{ticketed, instruction_action, move_action, action_check}
 use Rattle.rules_spec.specs.Step.{is_next, action_at, action, step_check_with, check_at, step_check, step_to}
 use Rattle.rules_spec.specs.Walk.{one_more, beside_by, walk}
 use Rattle.rules_spec.proofs.Actions.{move-cases}

@@ -29,7 +29,6 @@ use Rattle.judge_spec.proofs.Read.{begun-permitted}
 use Rattle.judge_spec.proofs.Alone.{paper-read}
 use Rattle.judge_lib.specs.declared.papers.PaperFault.{PaperFault}
 use Rattle.judge_lib.specs.Alone.{fault_in, paper_fault}
-use Rattle.demands.specs.OnTexts.{sheet_program}
 use Rattle.demands.proofs.OnTexts.{program-is}
 use Rattle.foretell_spec.specs.declared.Foretelling.{Foretelling}
 use Rattle.foretell_spec.specs.Names.{foretold}

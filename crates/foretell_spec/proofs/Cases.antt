@@ -1,6 +1,6 @@
 -- What is foretold of the cases, computed from their texts.
 -- Assumes nothing.
-use mathlib.Core.Path.{◌≡◌, refl}
+use mathlib.Core.Path.{refl}
 use Rattle.sets.specs.Mask.{member, collect}
 use Rattle.sets.specs.Test.{all_below, any_below, lowest}
 use Rattle.model.specs.Empty.{no_tables, none_begun, no_program, no_answer, start}

@@ -2,12 +2,12 @@
 -- Assumes nothing.
 use mathlib.Core.Path.{◌≡◌, refl, sym, ap, ◌∙◌}
 use mathlib.Core.Logic.{◌⊎◌, inl, inr, ⊎_elim, ◌≢◌, by_cases}
-use mathlib.Core.Bool.{Bool, true, false, ◌&&◌}
+use mathlib.Core.Bool.{true, false}
 use mathlib.Core.List.{List}
 use Prim.Native.Nat.{ℕ, zero, suc, ◌+◌, ◌≤◌, ◌<◌}
 use native.Mathlib.Omega.{arith}
 use native.Mathlib.Decide.{ℕ_discrete, dec_lt}
-use lib.Dec.{eqb, leb}
+use lib.Dec.{eqb}
 use borrow.Author.Tests.{eqb-true, eq-eqb, ne_eqb, lt-leb, le-leb}
 use Rattle.item_spec.proofs.Tests.{and_left}
 use Rattle.model.specs.declared.Tables.{Tables}
@@ -23,7 +23,7 @@ use Rattle.read_spec.specs.Lawful.{verb_lawful, Lawful}
 use Rattle.rules_spec.specs.Refusal.{no_instruction_left}
 use Rattle.rules_spec.specs.Tickets.{instruction_of, pushed_to, has_stamp}
 use Rattle.rules_spec.specs.Wait.{is_queued}
-use Rattle.rules_spec.specs.Action.{Action, move_action, effect}
+use Rattle.rules_spec.specs.Action.{move_action, effect}
 use Rattle.rules_spec.specs.Step.{is_next, action_at, action, step_check_with, check_at, step_check, step_to, step}
 use Rattle.rules_spec.specs.Walk.{walk}
 use Rattle.rules_spec.proofs.Local.{rest-after}
@@ -32,7 +32,7 @@ use Rattle.rules_spec.proofs.Walks.{step-on, step-stop, walk-keeps, number-facts
 use Rattle.foretell_spec.specs.Names.{names_of, next_step, room_for_one, foretold_from, foretold}
 use Rattle.foretell_spec.specs.declared.Foretelling.{Foretelling}
 use Rattle.demands.proofs.Tickets.{queued-was-pushed}
-use Rattle.foretell_spec.specs.Foretold.{Tickets, ByName, Later, Begins, reached_by, Foretells, NoneForetold, OneForetold, NextsAreForetold, NumbersForetold, NeverPast}
+use Rattle.foretell_spec.specs.Foretold.{Tickets, ByName, Later, reached_by, Foretells, NoneForetold, OneForetold, NextsAreForetold, NumbersForetold, NeverPast}
 use Rattle.foretell_spec.proofs.Names.{Tells, HasTicket, tells, move-names, names-after, names-idem}
 
 -- ---- which instructions have tickets

@@ -4,29 +4,25 @@ use mathlib.Core.Path.{◌≡◌, refl, sym, ap, ◌∙◌}
 use mathlib.Core.Logic.{by_cases}
 use mathlib.Core.Bool.{true, false}
 use mathlib.Core.List.{List, [], ◌∷◌, ◌++◌, append_assoc, append-nil}
-use Prim.Native.Nat.{ℕ, zero, suc, ◌+◌, ◌-◌, ◌/◌, ◌%◌, ◌<◌, ◌≤◌}
+use Prim.Native.Nat.{ℕ, zero, suc, ◌+◌, ◌-◌, ◌/◌, ◌%◌, ◌<◌}
 use native.Mathlib.Omega.{arith}
 use native.Mathlib.Decide.{ℕ_discrete}
 use lib.Dec.{eqb, ltb}
-use lib.ListN.{length, take, drop, length-append}
+use lib.ListN.{length, drop, length-append}
 use lib.Seq.{take_all, drop_at}
 use borrow.Author.Tests.{ne_eqb}
 use Rattle.item_spec.specs.Reader.{bytes}
 use Rattle.item_spec.specs.Write.{digits_in, number_text, in_turn, one_text, two_text, three_text, four_text}
 use Rattle.item_spec.proofs.Tests.{by-test}
-use Rattle.model.specs.declared.Tables.{Tables}
 use Rattle.model.specs.declared.Instruction.{Instruction}
-use Rattle.model.specs.declared.Program.{Program}
 use Rattle.model.specs.Verb.{add_verb, del_verb, pushb_verb, con_verb, dcon_verb, wait_verb, push_ticket_verb, wait_ticket_verb}
-use Rattle.read_spec.specs.Lines.{on}
 use Rattle.read_spec.specs.Place.{up_to_lf, lfs, line_number, line_start}
-use Rattle.read_spec.specs.Texts.{sheet}
 use Rattle.report_spec.specs.Report.{count_text}
 use Rattle.write_spec.specs.Kinds.{do_text}
 use Rattle.write_spec.specs.Texts.{type_text, instruction_row, sheet_text}
 use Rattle.write_spec.specs.Round.{SheetsRoundTrip}
 use Rattle.write_spec.proofs.Trips.{sheets-round-trip}
-use Rattle.foretell_spec.specs.Lines.{instruction_line, line_text, LinesSayInstructions}
+use Rattle.foretell_spec.specs.Lines.{instruction_line, LinesSayInstructions}
 
 -- ---- lines
 pub lfs-append : (s t : List ℕ) → lfs (s ++ t) ≡ lfs s + lfs t

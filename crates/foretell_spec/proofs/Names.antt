@@ -1,13 +1,13 @@
 -- The names after an action are told by the names before it, a move leaves them, and an action's number by its names is its number, or one that names leave open.
 -- Assumes nothing.
-use mathlib.Core.Path.{◌≡◌, refl, sym, ap, ap₂, ◌∙◌}
+use mathlib.Core.Path.{◌≡◌, refl, sym, ap, ◌∙◌}
 use mathlib.Core.Logic.{inl, inr, ◌≢◌}
 use mathlib.Core.Bool.{Bool, true, false, not, cond, false≢true}
 use mathlib.Core.List.{List, [], ◌∷◌, map}
 use Prim.Native.Nat.{ℕ, zero, suc, ◌≤◌}
 use native.Mathlib.Omega.{arith}
 use lib.Dec.{eqb, ltb, eqb-suc-zero}
-use lib.ListN.{get_or, set, get_or-map}
+use lib.ListN.{set, get_or-map}
 use lib.Seq.{map-set_same}
 use borrow.Author.Tests.{eqb-true, lt-ltb}
 use Rattle.item_spec.proofs.Tests.{by-test}
@@ -24,7 +24,7 @@ use Rattle.model.specs.Verb.{add_verb, del_verb, pushb_verb, con_verb, dcon_verb
 use Rattle.model.specs.View.{type_of, instance, behavior_in, put, with_queue, with_servers, with_done}
 use Rattle.rules_spec.specs.Refusal.{◌⇒◌∣◌, id_absent, id_present, no_such, one_instance, already_connected, no_more_connections, no_such_connection, still_connected, ticket_not_above, still_queued, never_pushed}
 use Rattle.rules_spec.specs.Instance.{active, fired, ended_by, entered, with_queued}
-use Rattle.rules_spec.specs.Standing.{Standing, standing, some_connection}
+use Rattle.rules_spec.specs.Standing.{standing, some_connection}
 use Rattle.rules_spec.specs.Ports.{is_of}
 use Rattle.rules_spec.specs.Closing.{renewed}
 use Rattle.rules_spec.specs.Add.{add_check, added}

@@ -32,7 +32,7 @@ use Rattle.demands.specs.OnTexts.{sheet_tables, sheet_program, begin_of, answer_
 use Rattle.demands.proofs.OnTexts.{tables-are, program-is, begin-is, opens, reached-is-the-walk, verdict-is, not-reached}
 use Rattle.foretell_spec.specs.Foretold.{Tickets, Begins, AsForetold, NextsAreForetold, NumbersForetold}
 use Rattle.foretell_spec.specs.Lines.{instruction_line, LinesSayInstructions}
-use Rattle.foretell_spec.specs.OnTexts.{foretold_on, foretold_line, LineSaysIt, NextRefused, NeverCarriedOut, NumbersOnTexts, RefusedAsForetold}
+use Rattle.foretell_spec.specs.OnTexts.{foretold_on, foretold_line, LineSaysIt, NeverCarriedOut, NumbersOnTexts, RefusedAsForetold}
 use Rattle.foretell_spec.proofs.Foretold.{nexts-are-foretold, never-past, numbers-foretold-holds}
 use Rattle.foretell_spec.proofs.Lines.{lines-say-instructions}
 

@@ -17,7 +17,7 @@ use Rattle.item_spec.proofs.Tests.{by-test}
 use Rattle.read_items.proofs.Laws.{from}
 use Rattle.write_items.specs.Written.{Written}
 use Rattle.write_items.proofs.Laws.{none, then}
-use Rattle.form_cells.specs.Cells.{gap, stands, first_after, commas_after, lines_from, unmarked, letter, separator_of, note_after, comma_for, plain_from, lines_by, lines_of, cell_byte, cells_of}
+use Rattle.form_cells.specs.Cells.{gap, stands, first_after, commas_after, lines_from, unmarked, letter, separator_of, note_after, comma_for, plain_from, lines_of, cell_byte, cells_of}
 
 pub one-comma : (n c : ℕ) → replicate (n + 1) c ≡ replicate n c ++ (c ∷ [])
 one-comma n c = rw (add-one n) (go n)

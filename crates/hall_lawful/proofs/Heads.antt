@@ -1,10 +1,9 @@
 -- The tables by their head, depth and types, and then by each type; a type by its head, and then by each of its rows.
 -- Assumes nothing.
 use mathlib.Core.Path.{◌≡◌, refl, ap, ap₂, ◌∙◌}
-use mathlib.Core.Bool.{Bool, true, false, not, ◌&&◌, and_assoc, false≢true}
+use mathlib.Core.Bool.{Bool, true, false, ◌&&◌, and_assoc, false≢true}
 use Prim.Native.Nat.{ℕ}
 use lib.Dec.{leb}
-use borrow.Author.Tests.{not-true, not-false}
 use Rattle.sets.specs.Test.{all_below}
 use Rattle.model.specs.declared.Tables.{Tables}
 use Rattle.read_spec.specs.Lawful.{type_lawful, tables_lawful}

@@ -1,11 +1,11 @@
 -- A loop that looks for a number below n that fails the test: what it knows at i, and the four turns of it. Each loop here cites these.
 -- Assumes nothing.
 use mathlib.Core.Path.{◌≡◌, sym, ◌∙◌}
-use mathlib.Core.Bool.{Bool, true, false, not, ◌&&◌}
+use mathlib.Core.Bool.{Bool, true, false, ◌&&◌}
 use Prim.Native.Nat.{ℕ, ◌+◌, ◌≤◌, ◌<◌}
 use native.Mathlib.Omega.{arith}
 use lib.Dec.{leb}
-use borrow.Author.Tests.{not-true, not-false, lt-leb, le-leb}
+use borrow.Author.Tests.{lt-leb, le-leb}
 use Rattle.sets.specs.Test.{all_below}
 use Rattle.sets.proofs.Laws.{all_start, all_more, all-miss, all_end}
 

@@ -1,19 +1,17 @@
 -- A queue that was written, with anything after it, is read as what it was: items of one digit.
 -- Assumes nothing.
-use Prim.Native.Nat.{ℕ, zero, suc, ◌+◌, ◌<◌, ◌≤◌, ◌^◌}
+use Prim.Native.Nat.{ℕ, zero, suc, ◌+◌, ◌<◌, ◌≤◌}
 use mathlib.Core.List.{List, [], ◌∷◌, ◌++◌, append_assoc}
-use mathlib.Core.Bool.{true, false}
-use mathlib.Core.Path.{◌≡◌, refl, sym, ap, ◌∙◌}
+use mathlib.Core.Path.{◌≡◌, refl, ap, ◌∙◌}
 use native.Mathlib.Omega.{arith}
-use lib.Dec.{eqb}
 use lib.ListN.{length, length-append}
-use borrow.Author.Tests.{eq-eqb, ne_eqb}
-use Rattle.item_spec.specs.Reader.{Reply, got, refused, byte}
+use borrow.Author.Tests.{ne_eqb}
+use Rattle.item_spec.specs.Reader.{got, refused, byte}
 use Rattle.item_spec.specs.Read.{key, given, upon, number}
 use Rattle.item_spec.specs.Items.{item_then, items_in, items}
 use Rattle.item_spec.specs.Write.{number_text, more_text, list_text}
 use Rattle.item_spec.proofs.Laws.{text-digit}
-use Rattle.item_spec.proofs.Round.{number-ended, number-unended, lf}
+use Rattle.item_spec.proofs.Round.{number-ended, number-unended}
 
 -- every item has one digit
 abbrev pub OneDigit : List ℕ → Type 0

@@ -1,6 +1,6 @@
 -- Two that are equal to one are equal.
 -- Assumes nothing.
-use mathlib.Core.Path.{◌≡◌, sym, ◌∙◌}
+use mathlib.Core.Path.{sym, ◌∙◌}
 use Rattle.item_spec.specs.Once.{NoOtherEquals}
 
 pub no-other-equals : NoOtherEquals

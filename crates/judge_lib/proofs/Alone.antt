@@ -22,7 +22,7 @@ use Rattle.read_spec.specs.Lawful.{Lawful}
 use Rattle.read_spec.proofs.Lawful.{sheet-stops}
 use Rattle.read_spec.proofs.Rests.{StopsAt}
 use Rattle.rules_spec.specs.PushB.{depth_of}
-use Rattle.read_chain.specs.Whole.{Whole, outcome, whole, beside}
+use Rattle.read_chain.specs.Whole.{Whole, whole, beside}
 use Rattle.read_sheet.specs.Sheet.{sheet_read}
 use Rattle.start_spec.specs.Paper.{Paper, paper}
 use Rattle.judge_spec.specs.Course.{Course, faulty, reached, short, read, outset, default_depth, paper_course}

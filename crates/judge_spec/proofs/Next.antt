@@ -1,8 +1,7 @@
 -- The start where an answer ends has room, and without tickets it is the report's lines; the course is what is left of it beside the program.
 -- Assumes nothing.
 use Prim.Native.Nat.{ℕ, ◌≤◌, zero-le}
-use mathlib.Core.List.{List, []}
-use mathlib.Core.Bool.{true, false}
+use mathlib.Core.List.{List}
 use mathlib.Core.Path.{◌≡◌, refl, sym, ap, ◌∙◌}
 use native.Mathlib.Omega.{arith}
 use lib.Dec.{eqb}

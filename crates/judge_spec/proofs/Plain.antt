@@ -7,18 +7,16 @@ use native.Mathlib.Omega.{arith}
 use Rattle.model.specs.declared.Tables.{Tables}
 use Rattle.model.specs.declared.Program.{Program}
 use Rattle.model.specs.declared.Answer.{Answer}
-use Rattle.model.specs.declared.Walked.{Walked}
 use Rattle.model.specs.declared.Configuration.{Configuration}
 use Rattle.model.specs.View.{steps_of}
-use Rattle.read_spec.specs.Lines.{Run, on}
+use Rattle.read_spec.specs.Lines.{on}
 use Rattle.read_spec.specs.Lawful.{Lawful, SheetsAreLawful}
 use Rattle.read_spec.proofs.Lawful.{sheets-are-lawful}
 use Rattle.rules_spec.specs.Walk.{walk_from}
 use Rattle.rules_spec.specs.Proper.{slot_limit, Proper}
 use Rattle.rules_spec.proofs.Proper.{proper-from}
 use Rattle.rules_spec.proofs.Tables.{facts}
-use Rattle.report_spec.specs.Report.{report}
-use Rattle.report_spec.specs.Plain.{plain_report, NoTickets, PlainAsBefore}
+use Rattle.report_spec.specs.Plain.{NoTickets, PlainAsBefore}
 use Rattle.report_spec.proofs.Plain.{plain-as-before}
 use Rattle.judge_spec.specs.Course.{default_depth}
 use Rattle.judge_spec.specs.Plain.{PlainReportsAsBefore}

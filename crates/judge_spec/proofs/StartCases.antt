@@ -1,9 +1,6 @@
 -- What is computed from starts, all of it under one line: the cases of C-20.
 -- Assumes nothing.
-use Prim.Native.Nat.{ℕ}
-use mathlib.Core.List.{List}
-use mathlib.Core.Path.{◌≡◌, refl}
-use lib.ListN.{get_or}
+use mathlib.Core.Path.{refl}
 use Rattle.sets.specs.Mask.{member, collect}
 use Rattle.sets.specs.Test.{all_below, any_below, lowest, tally}
 use Rattle.model.specs.Empty.{no_tables, none_begun, no_program, no_answer, start}
@@ -35,7 +32,6 @@ use Rattle.rules_spec.specs.Wait.{wait_check}
 use Rattle.rules_spec.specs.Walk.{one_more, walk, walk_from}
 use Rattle.report_spec.specs.Faults.{text_text, fault_text}
 use Rattle.report_spec.specs.Report.{slot_text, more_slots, queue_text, count_text, port_text, instance_text, connection_text, instance_at, connection_line, lines_from, instances_text, connections_text, report_with, report}
-use Rattle.start_spec.specs.Paper.{Paper, nothing_up}
 use Rattle.judge_spec.specs.Course.{short, short_start, served, outset, read, all_under, course}
 use Rattle.judge_spec.specs.Judged.{fault_line, fault_place, after_fault, no_room, step_place, after_walk, in_room, ending, judged, over, printing, printed}
 use Rattle.judge_spec.specs.Cases.{nexts}

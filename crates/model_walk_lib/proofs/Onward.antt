@@ -5,7 +5,6 @@ use mathlib.Core.List.{List, [], ◌∷◌, ◌++◌, append_assoc, append-nil}
 use Prim.Native.Nat.{ℕ, zero, suc, ◌+◌, ◌-◌, ◌≤◌, ◌<◌}
 use native.Mathlib.Omega.{arith}
 use native.Mathlib.Numerals.{add-one}
-use lib.Dec.{eqb}
 use lib.ListN.{length, take, set}
 use borrow.Author.Tests.{lt-ltb, le-ltb}
 use Rattle.model.specs.declared.Tables.{Tables}
@@ -14,7 +13,6 @@ use Rattle.model.specs.declared.Step.{Step}
 use Rattle.model.specs.declared.Answer.{Answer}
 use Rattle.model.specs.declared.Configuration.{Configuration}
 use Rattle.model.specs.declared.Walked.{Walked}
-use Rattle.model.specs.Empty.{no_step}
 use Rattle.model.proofs.View.{length-list}
 use Rattle.read_spec.specs.Fill.{with_step}
 use Rattle.rules_spec.specs.Step.{step_check, step_to}
@@ -23,7 +21,7 @@ use Rattle.rules_spec.proofs.Walks.{walk-on}
 use Rattle.words.specs.Rows.{row}
 use Rattle.words.specs.Words.{step_in, answer_in}
 use Rattle.model_walk_spec.specs.Order.{in_order}
-use Rattle.model_walk_spec.specs.Walk.{Turn, takes, rests, first_of, model_from, model_steps, model_reached}
+use Rattle.model_walk_spec.specs.Walk.{takes, rests, first_of, model_from, model_steps, model_reached}
 use Rattle.model_walk_spec.proofs.Claims.{first-allowed}
 use Rattle.model_walk_lib.specs.Turns.{ordered_at, turn_at, after_turn}
 

@@ -1,9 +1,8 @@
 -- The steps by number are the steps in order.
 -- Assumes nothing.
-use mathlib.Core.Path.{◌≡◌, refl}
-use mathlib.Core.List.{List, [], ◌∷◌, ◌++◌}
+use mathlib.Core.Path.{refl}
 use Rattle.model.specs.View.{list_of}
-use Rattle.model_walk_spec.specs.Order.{run, steps_on, steps_below, in_order}
+use Rattle.model_walk_spec.specs.Order.{steps_on, steps_below, in_order}
 use Rattle.model_walk_lib.specs.Turns.{on_instance, ordered_at, ordered_from, NumberedSo}
 
 pub numbered-so : NumberedSo

@@ -6,7 +6,7 @@ use mathlib.Core.Bool.{true, false}
 use mathlib.Core.List.{List, []}
 use Prim.Native.Nat.{ℕ, ◌≤◌, ◌<◌}
 use native.Mathlib.Omega.{arith}
-use lib.Dec.{eqb, leb}
+use lib.Dec.{leb}
 use lib.ListN.{length, take, get_or}
 use lib.Seq.{length-take-le, get_or-take}
 use borrow.Author.Tests.{le-leb}
@@ -27,12 +27,11 @@ use Rattle.write_spec.specs.Buffer.{write_number, penned, Penned}
 use Rattle.write_spec.specs.Steps.{SaidStep, SaidSteps}
 use Rattle.write_spec.proofs.Turns.{first-none}
 use Rattle.write_spec.proofs.Steps.{every-at, listed}
-use Rattle.write_spec.proofs.Trips.{penned-within}
 use Rattle.words.specs.Parts.{with_steps}
 use Rattle.model_walk_spec.specs.declared.Ending.{Ending}
 use Rattle.model_walk_spec.specs.Walk.{model_reached, ending, model_ending}
 use Rattle.model_walk_spec.specs.Claims.{StepsAreSaid}
-use Rattle.model_walk_spec.specs.OnTexts.{Said, model_of, model_text, ending_of, ModelsAreShort}
+use Rattle.model_walk_spec.specs.OnTexts.{Said, model_of, model_text, ModelsAreShort}
 use Rattle.model_walk_spec.proofs.Claims.{steps-are-said}
 use Rattle.model_walk_spec.proofs.OnTexts.{models-are-short}
 use Rattle.model_walk_lib.specs.declared.Modelled.{Modelled}

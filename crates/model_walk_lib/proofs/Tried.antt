@@ -1,9 +1,9 @@
 -- A trial is the step itself, and a turn goes on while steps are refused.
 -- Assumes nothing.
-use mathlib.Core.Path.{◌≡◌, refl, sym, ap, ◌∙◌}
+use mathlib.Core.Path.{◌≡◌, sym, ap, ◌∙◌}
 use mathlib.Core.Logic.{◌≢◌, by_cases}
-use mathlib.Core.List.{List, [], ◌∷◌}
-use Prim.Native.Nat.{ℕ, zero, suc, ◌+◌, ◌-◌, ◌≤◌, ◌<◌}
+use mathlib.Core.List.{◌∷◌}
+use Prim.Native.Nat.{ℕ, suc, ◌+◌, ◌-◌, ◌≤◌, ◌<◌}
 use native.Mathlib.Omega.{arith}
 use native.Mathlib.Decide.{ℕ_discrete}
 use native.Mathlib.Numerals.{add-one}
@@ -16,7 +16,7 @@ use Rattle.model.specs.declared.Stepped.{Stepped}
 use Rattle.rules_spec.specs.Step.{step_check, step_to, step}
 use Rattle.rules_spec.proofs.Walks.{step-on, step-stop}
 use Rattle.model_walk_spec.specs.Order.{in_order}
-use Rattle.model_walk_spec.specs.Walk.{Turn, takes, rests, first_of}
+use Rattle.model_walk_spec.specs.Walk.{Turn, first_of}
 use Rattle.model_walk_lib.specs.Turns.{ordered_at, ordered_from, NumberedSo, turn_at, after_turn}
 use Rattle.model_walk_lib.proofs.Ordered.{numbered-so}
 

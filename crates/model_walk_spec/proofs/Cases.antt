@@ -1,7 +1,6 @@
 -- The model walks of the cases, computed from their texts.
 -- Assumes nothing.
-use mathlib.Core.Path.{◌≡◌, refl}
-use lib.ListN.{length}
+use mathlib.Core.Path.{refl}
 use Rattle.sets.specs.Mask.{member, collect}
 use Rattle.sets.specs.Test.{all_below, any_below, lowest}
 use Rattle.model.specs.Empty.{no_tables, none_begun, no_program, no_answer, start}
@@ -40,7 +39,7 @@ use Rattle.report_spec.specs.Report.{count_text}
 use Rattle.write_spec.specs.Kinds.{step_text}
 use Rattle.write_spec.specs.Texts.{answer_text}
 use Rattle.done_spec.specs.Done.{all_done}
-use Rattle.model_walk_spec.specs.Order.{run, steps_on, steps_below, in_order}
+use Rattle.model_walk_spec.specs.Order.{steps_on, steps_below, in_order}
 use Rattle.model_walk_spec.specs.Walk.{first_of, model_from, model_ending}
 use Rattle.model_walk_spec.specs.OnTexts.{model_text}
 use Rattle.model_walk_spec.specs.Cases.{CasesModelled}

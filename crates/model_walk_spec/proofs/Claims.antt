@@ -2,7 +2,6 @@
 -- Assumes nothing.
 use mathlib.Core.Path.{◌≡◌, refl, sym, ap, subst, ◌∙◌}
 use mathlib.Core.Logic.{◌≢◌}
-use mathlib.Core.Bool.{true, false}
 use mathlib.Core.List.{List, [], ◌∷◌, ◌++◌}
 use Prim.Native.Nat.{ℕ, zero, suc, ◌≤◌, ◌<◌}
 use native.Mathlib.Omega.{arith}
@@ -20,9 +19,9 @@ use Rattle.rules_spec.specs.Walk.{one_more, walk}
 use Rattle.rules_spec.proofs.Walks.{walk-on}
 use Rattle.write_spec.specs.Kinds.{step_fault}
 use Rattle.write_spec.specs.Cleared.{spoken_step}
-use Rattle.write_spec.specs.Steps.{SaidStep, Every, SaidSteps}
+use Rattle.write_spec.specs.Steps.{SaidStep, Every}
 use Rattle.model_walk_spec.specs.Order.{in_order}
-use Rattle.model_walk_spec.specs.Walk.{Turn, takes, rests, first_of, model_from, most_steps, model_steps}
+use Rattle.model_walk_spec.specs.Walk.{Turn, takes, rests, first_of, model_from, most_steps}
 use Rattle.model_walk_spec.specs.Claims.{AllAreAllowed, EndsWhereNoneIsAllowed, StepsAreSaid, EachIsTheFirstAllowed}
 use Rattle.model_walk_spec.proofs.Order.{All, Refuses, refuses-all, every-in-order}
 

@@ -2,13 +2,11 @@
 -- Assumes nothing.
 use mathlib.Core.Path.{◌≡◌, refl, sym, ap, ◌∙◌}
 use mathlib.Core.Bool.{Bool, true, false, cond, true≢false}
-use Prim.Native.Nat.{ℕ}
 use native.Mathlib.Omega.{arith}
 use lib.Dec.{leb}
 use lib.ListN.{length}
 use borrow.Author.Tests.{lt-leb}
 use Rattle.done_spec.specs.Done.{all_done}
-use Rattle.foretell_spec.specs.Names.{foretold}
 use Rattle.foretell_spec.specs.Foretold.{NumbersForetold}
 use Rattle.foretell_spec.proofs.Foretold.{numbers-foretold-holds, never-past}
 use Rattle.model_walk_spec.specs.declared.Ending.{Ending}

@@ -1,18 +1,17 @@
 -- The model's text beside its paper: it is read as the model's steps, and the judge's walk is the model walk.
 -- Assumes nothing.
-use mathlib.Core.Path.{◌≡◌, refl, sym, ap, ◌∙◌}
+use mathlib.Core.Path.{◌≡◌, refl, ap, ◌∙◌}
 use mathlib.Core.Logic.{◌≢◌}
 use mathlib.Core.Bool.{true}
 use mathlib.Core.List.{List, [], ◌∷◌, ◌++◌}
-use Prim.Native.Nat.{ℕ, suc, ◌≤◌, ◌<◌}
+use Prim.Native.Nat.{ℕ, suc}
 use native.Mathlib.Omega.{arith}
-use lib.ListN.{length, get_or}
+use lib.ListN.{length}
 use borrow.Author.Tests.{le-leb}
 use Rattle.model.specs.declared.Tables.{Tables}
 use Rattle.model.specs.declared.Program.{Program}
 use Rattle.model.specs.declared.Step.{Step}
 use Rattle.model.specs.declared.Configuration.{Configuration}
-use Rattle.model.specs.declared.Walked.{Walked}
 use Rattle.start_spec.specs.Paper.{Paper}
 use Rattle.read_spec.specs.Limits.{length_ok}
 use Rattle.read_spec.specs.Lawful.{step_lawful, answer_lawful}
@@ -25,19 +24,18 @@ use Rattle.judge_spec.specs.Course.{reached, read, default_depth, paper_course, 
 use Rattle.judge_spec.specs.Judged.{walk_verdict}
 use Rattle.judge_spec.specs.declared.Verdict.{Verdict}
 use Rattle.judge_spec.proofs.Alone.{paper-read, beside-answer}
-use Rattle.write_spec.specs.Texts.{answer_text, answer_fault, of_steps}
+use Rattle.write_spec.specs.Texts.{answer_fault, of_steps}
 use Rattle.write_spec.specs.Kinds.{step_fault}
 use Rattle.write_spec.specs.Round.{AnswersAreShort}
 use Rattle.write_spec.specs.Steps.{SaidStep, Every, SaidSteps, StepsHaveTheirText, AnswersAreTheirTexts}
 use Rattle.write_spec.specs.Texts.{step_row}
 use Rattle.write_spec.proofs.Turns.{first-none}
 use Rattle.write_spec.proofs.Answer.{answers-are-short, answer-lawful}
-use Rattle.write_spec.proofs.Steps.{every-at, steps-have-their-text, answers-are-their-texts}
+use Rattle.write_spec.proofs.Steps.{every-at, steps-have-their-text}
 use Rattle.demands.specs.OnTexts.{answer_steps, verdict_on, walk_on, ReachedIsTheWalk}
 use Rattle.demands.proofs.OnTexts.{tables-are, program-is, begin-is, reached-is-the-walk, read_goes, verdict-is}
-use Rattle.model_walk_spec.specs.Walk.{most_steps, model_steps}
 use Rattle.model_walk_spec.specs.Claims.{AllAreAllowed, EndsWhereNoneIsAllowed, StepsAreSaid}
-use Rattle.model_walk_spec.specs.OnTexts.{Said, model_of, model_text, Allows, JudgeAllowsIt, NoAnswerGoesOn, ModelsAreShort}
+use Rattle.model_walk_spec.specs.OnTexts.{Said, model_of, model_text, JudgeAllowsIt, NoAnswerGoesOn, ModelsAreShort}
 use Rattle.model_walk_spec.proofs.Order.{every-right}
 use Rattle.model_walk_spec.proofs.Claims.{all-are-allowed, ends-where-none-is-allowed, steps-are-said}
 

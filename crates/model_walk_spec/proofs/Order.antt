@@ -19,7 +19,7 @@ use Rattle.model.specs.View.{list_of}
 use Rattle.read_spec.specs.Limits.{id_ok, place_ok, transition_ok}
 use Rattle.read_spec.specs.Lawful.{step_lawful}
 use Rattle.rules_spec.specs.Action.{move_action}
-use Rattle.rules_spec.specs.Step.{is_next, action, step_check_with, step_check}
+use Rattle.rules_spec.specs.Step.{action, step_check_with, step_check}
 use Rattle.write_spec.specs.Steps.{Every}
 use Rattle.model_walk_spec.specs.Order.{run, steps_on, steps_below, in_order}
 

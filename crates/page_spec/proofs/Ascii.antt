@@ -1,12 +1,12 @@
 -- A page is ASCII: its constants by looking at each, and what else it has by what is known of it.
 -- Assumes nothing.
-use Prim.Native.Nat.{ℕ, zero, suc, ◌-◌, ◌<◌}
+use Prim.Native.Nat.{ℕ, zero, suc, ◌-◌}
 use mathlib.Core.Bool.{Bool, true, false, ◌&&◌, cond}
 use mathlib.Core.List.{List, [], ◌∷◌, ◌++◌}
 use mathlib.Core.Path.{◌≡◌, refl}
 use native.Mathlib.Omega.{arith}
 use lib.Dec.{eqb, ltb}
-use lib.ListN.{length, take, drop, get_or}
+use lib.ListN.{length, drop, get_or}
 use borrow.Author.Tests.{ltb-true}
 use Rattle.item_spec.proofs.Tests.{by-test, and_left, and_right}
 use Rattle.item_spec.specs.Reader.{bytes}

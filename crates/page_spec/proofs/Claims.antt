@@ -1,6 +1,6 @@
 -- All markup of a page is that of its constant pieces.
 -- Assumes nothing.
-use Prim.Native.Nat.{ℕ, zero, suc, ◌+◌, ◌/◌, ◌%◌, ◌≤◌}
+use Prim.Native.Nat.{ℕ, zero, suc, ◌+◌, ◌/◌, ◌≤◌}
 use mathlib.Core.Bool.{Bool, true, false, ◌&&◌, not}
 use mathlib.Core.List.{List, [], ◌∷◌, ◌++◌}
 use mathlib.Core.Path.{◌≡◌, refl, sym, ap, ◌∙◌}
@@ -18,7 +18,7 @@ use Rattle.sitting_shown.specs.Readable.{Each, NothingMore}
 use Rattle.sitting_shown.proofs.Readable.{each_append, each_map, nothing-more}
 use Rattle.page_spec.specs.Line.{line_of, widest, first_bytes}
 use Rattle.page_spec.specs.Words.{words_text}
-use Rattle.page_spec.specs.Piece.{Piece, fixed, number, seen, words, piece_text, page_text}
+use Rattle.page_spec.specs.Piece.{fixed, number, seen, words, piece_text, page_text}
 use Rattle.page_spec.specs.Claims.{only_markup, constants, NoOtherIsMarkup, MarkupIsConstant}
 
 abbrev Plain : ℕ → Type 0

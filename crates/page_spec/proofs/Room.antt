@@ -3,10 +3,10 @@
 use Prim.Native.Nat.{ℕ, zero, suc, ◌+◌, ◌*◌, ◌-◌, ◌/◌, ◌≤◌}
 use mathlib.Core.Bool.{Bool, true, false, cond}
 use mathlib.Core.List.{List, [], ◌∷◌, ◌++◌}
-use mathlib.Core.Path.{◌≡◌, refl}
+use mathlib.Core.Path.{◌≡◌}
 use native.Mathlib.Omega.{arith}
 use lib.Dec.{eqb, ltb}
-use lib.ListN.{length, take, get_or, length-append, length-take}
+use lib.ListN.{length, get_or, length-append, length-take}
 use Rattle.item_spec.proofs.Tests.{by-test}
 use Rattle.item_spec.specs.Reader.{bytes}
 use Rattle.item_spec.specs.Write.{digits_in, number_text}

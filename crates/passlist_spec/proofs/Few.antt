@@ -1,7 +1,6 @@
 -- No mark is above 1,000.
 -- Assumes nothing.
 use Prim.Native.Nat.{ℕ, ◌≤◌, zero-le}
-use mathlib.Core.Bool.{true, false}
 use mathlib.Core.List.{List}
 use native.Mathlib.Omega.{arith}
 use lib.Dec.{leb}

@@ -1,6 +1,6 @@
 -- A register's text: its lines are the head and the rows that were written, the list is theirs, and it is taken.
 -- Assumes nothing.
-use Prim.Native.Nat.{ℕ, ◌≤◌, ◌<◌}
+use Prim.Native.Nat.{ℕ, ◌<◌}
 use mathlib.Core.Bool.{Bool, true, false, ◌&&◌, ◌||◌, not}
 use mathlib.Core.List.{List, [], ◌∷◌, ◌++◌, append_assoc, append-nil}
 use mathlib.Core.Path.{◌≡◌, refl, sym, ap, ◌∙◌, subst}
@@ -25,7 +25,7 @@ use Rattle.register_spec.specs.Claims.{EachCell}
 use Rattle.register_spec.proofs.Cells.{Within, cells-within, name-within}
 use Rattle.passlist_spec.specs.declared.Pass.{Pass}
 use Rattle.passlist_spec.specs.declared.Standing.TheVariants as stands
-use Rattle.passlist_spec.specs.Row.{name_cell, past_cell, said_cell, three_cells, mark_or, over, last_mark, number_cells, row_says}
+use Rattle.passlist_spec.specs.Row.{past_cell, said_cell, three_cells, mark_or, over, last_mark, number_cells, row_says}
 use Rattle.passlist_spec.specs.Standing.{standing, passed_line}
 use Rattle.passlist_spec.specs.Listed.{place_of, none_counted, counts_text, lines_from, counted_all}
 use Rattle.passlist_spec.specs.Whole.{stands_as, passed_lines, AllRows, IsRegister, ListsExactly, TakenExactly}

@@ -1,15 +1,15 @@
 -- The list of a whole register: its lines one after the other.
 -- Assumes nothing.
-use Prim.Native.Nat.{ℕ, zero, suc, ◌+◌, ◌≤◌, ◌<◌, zero-le, min}
-use mathlib.Core.Bool.{Bool, true, false}
+use Prim.Native.Nat.{ℕ, zero, suc, ◌+◌, ◌≤◌, ◌<◌}
+use mathlib.Core.Bool.{Bool}
 use mathlib.Core.List.{List, [], ◌∷◌, ◌++◌, append-nil}
 use mathlib.Core.Path.{◌≡◌, refl, sym, ap, ◌∙◌, subst}
 use native.Mathlib.Omega.{arith}
 use borrow.Author.Tests.{eqb-true, eqb-false, eq-eqb, ne_eqb, ltb-true, ltb-false}
 use lib.Dec.{eqb, leb, ltb, lit<}
-use lib.ListN.{length, get_or, set, length-set}
+use lib.ListN.{length, get_or, length-set}
 use lib.Seq.{get_or-set_same, get_or-set_other}
-use Rattle.item_spec.specs.Reader.{Reply, Reader, got, refused}
+use Rattle.item_spec.specs.Reader.{Reply, got, refused}
 use Rattle.item_spec.specs.Read.{key}
 use Rattle.item_spec.specs.Write.{only_if}
 use Rattle.item_spec.proofs.Tests.{by-test}
@@ -24,11 +24,10 @@ use Rattle.passlist_spec.specs.declared.Mark.{Mark}
 use Rattle.passlist_spec.specs.declared.Mark.TheVariants as mark
 use Rattle.passlist_spec.specs.declared.Standing.{Standing}
 use Rattle.passlist_spec.specs.declared.Standing.TheVariants as stands
-use Rattle.passlist_spec.specs.declared.Wrong.{Wrong}
 use Rattle.passlist_spec.specs.declared.Wrong.TheVariants as wrong
 use Rattle.passlist_spec.specs.Row.{over, row_says}
 use Rattle.passlist_spec.specs.Standing.{standing_by, standing, passed_line}
-use Rattle.passlist_spec.specs.Listed.{head_line, head_standing, place_of, sum, none_counted, line_standing, counted, line_text, counts_text, wrong_in, lines_from, counted_all, lines_text, list_text, wrong_with}
+use Rattle.passlist_spec.specs.Listed.{head_line, place_of, sum, none_counted, line_standing, counted, line_text, counts_text, wrong_in, lines_from, counted_all, lines_text, list_text, wrong_with}
 use Rattle.passlist_spec.specs.Whole.{stands_as, passed_lines, how_many, AllRows, IsRegister, ListsExactly, CountsExactly, TakenExactly}
 
 -- ---- a row is no head

@@ -1,11 +1,10 @@
 -- That no other answer fits the promise of a run of lines whose value is not looked at, nor that of a line of one number.
 -- Assumes nothing.
-use Prim.Native.Nat.{ℕ, ◌≤◌}
+use Prim.Native.Nat.{ℕ}
 use mathlib.Core.List.{List}
 use mathlib.Core.Logic.{◌⊎◌, inl, inr}
 use mathlib.Core.Path.{◌≡◌, refl, sym, ap, ◌∙◌}
 use native.Mathlib.Omega.{arith}
-use lib.ListN.{length, drop}
 use Rattle.read_items.proofs.Once.{place-once}
 use Rattle.read_spec.specs.Lines.{Run, Lines, on, stop}
 use Rattle.read_lines.specs.declared.Went.{Went}

@@ -1,7 +1,7 @@
 -- Lines that are counted, and the limits of their counts.
 -- Assumes nothing.
 use Prim.Native.Nat.{ℕ, suc, ◌+◌, ◌*◌, ◌≤◌, ◌<◌, min}
-use mathlib.Core.List.{List, [], ◌∷◌}
+use mathlib.Core.List.{List}
 use mathlib.Core.Bool.{Bool, true, false, not, ◌&&◌, ◌||◌, cond, true≢false}
 use mathlib.Core.Path.{◌≡◌, refl, sym, ap, ap₂, ◌∙◌}
 use native.Mathlib.Omega.{arith}
@@ -27,7 +27,6 @@ use Rattle.read_lines.specs.Runs.{RunsTo, run}
 use Rattle.read_lines.proofs.Runs.{stopped, went_on, next-same}
 use Rattle.read_lines.proofs.Lines.{same_rest}
 use Rattle.read_chain.specs.declared.LinesRead.{LinesRead}
-use Rattle.read_chain.specs.declared.NumberRead.{NumberRead}
 use Rattle.read_chain.specs.Chain.{After, nothing, short, shortly}
 use Rattle.words.specs.Parts.{with_kind, type_of_words}
 use Rattle.read_sheet_lines.specs.declared.Rows.TheVariants as rows

@@ -14,7 +14,7 @@ use Rattle.item_spec.specs.Read.{Set, one_form, two_form}
 use Rattle.item_spec.proofs.Tests.{and_left, and_right}
 use Rattle.model.specs.declared.Instruction.{Instruction}
 use Rattle.model.specs.declared.Step.{Step}
-use Rattle.model.specs.Verb.{add_verb, del_verb, pushb_verb, con_verb, dcon_verb, wait_verb, push_ticket_verb, wait_ticket_verb, fire_verb, end_verb, enter_verb, finish_verb}
+use Rattle.model.specs.Verb.{add_verb, del_verb, pushb_verb, con_verb, dcon_verb, wait_verb, wait_ticket_verb, fire_verb, end_verb, enter_verb, finish_verb}
 use Rattle.read_spec.specs.Limits.{five_digits, list_ok, mask_ok, end_ok, id_ok, place_ok, port_ok, transition_ok, behavior_ok, ticket_ok, has_tickets, edition_ok, kind_ok, type_ok, initial_ok, ends_ok, use_ok}
 use Rattle.read_spec.specs.Kinds.{edition_line, due_line, count_line_in, count_line, initial_line, tran_line, behavior_line, group, port_line, an_instruction, do_id, do_number, do_ends, do_ticketed, do_wait, do_push_in, do_wait_in, do_line, a_step, step_id, step_number, step_line}
 use Rattle.read_spec.specs.Lawful.{instruction_lawful, step_lawful}

@@ -1,17 +1,17 @@
 -- The line of a connection: its key and its numbers, then 3 and 4.
 -- Assumes nothing.
-use Prim.Native.Nat.{ℕ, suc, ◌+◌, ◌*◌, ◌≤◌, ◌<◌, min, zero-le}
+use Prim.Native.Nat.{ℕ, suc, ◌+◌, ◌<◌, min, zero-le}
 use mathlib.Core.List.{List}
-use mathlib.Core.Bool.{Bool, true, false, cond, ◌&&◌, true≢false}
-use mathlib.Core.Path.{◌≡◌, refl, sym, ap, ◌∙◌}
+use mathlib.Core.Bool.{Bool, true, false, cond, ◌&&◌}
+use mathlib.Core.Path.{◌≡◌, refl, sym, ◌∙◌}
 use native.Mathlib.Omega.{arith}
-use lib.Dec.{leb, ltb, leb-suc-suc}
+use lib.Dec.{ltb, leb-suc-suc}
 use lib.ListN.{length, drop}
 use borrow.Author.Tests.{ltb-true, lt-ltb}
 use Rattle.item_spec.specs.Refusal.{beyond_limit, bad_clause}
-use Rattle.item_spec.specs.Reader.{Reply, Reader, got, refused, read_on, bytes, byte, ◌>>=◌, ◌>>◌, give, check}
+use Rattle.item_spec.specs.Reader.{Reader, got, refused, read_on, bytes, ◌>>=◌, ◌>>◌, give, check}
 use Rattle.item_spec.specs.Read.{key, four_form}
-use Rattle.item_spec.proofs.Tests.{by-test, and_left, and_right}
+use Rattle.item_spec.proofs.Tests.{and_left, and_right}
 use Rattle.model.specs.declared.Tables.{Tables}
 use Rattle.model.specs.declared.Connection.{Connection}
 use Rattle.model.specs.declared.Configuration.{Configuration}
@@ -20,8 +20,8 @@ use Rattle.read_items.specs.declared.numbers.Four.{Four}
 use Rattle.read_items.specs.declared.numbers.Limits.TheVariants as limits
 use Rattle.read_items.specs.declared.numbers.Numbers.{Numbers}
 use Rattle.read_items.specs.declared.numbers.Numbers.TheVariants as numbers
-use Rattle.read_items.specs.Reads.{Outcome, past, fault, Reads}
-use Rattle.read_items.specs.Within.{four, numbers_says, numbers_within}
+use Rattle.read_items.specs.Reads.{past, fault, Reads}
+use Rattle.read_items.specs.Within.{numbers_says, numbers_within}
 use Rattle.read_items.specs.Keyed.{keyed}
 use Rattle.read_items.proofs.Limits.{form-fault, form-then}
 use Rattle.read_items.proofs.Shapes.{bind-same, bind-bind}

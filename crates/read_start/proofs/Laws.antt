@@ -1,16 +1,14 @@
 -- What the proofs of a start's readers cite.
 -- Assumes nothing.
-use Prim.Native.Nat.{ℕ, zero, suc, zero-le, ◌+◌, ◌-◌, ◌≤◌, ◌<◌}
+use Prim.Native.Nat.{ℕ, zero, suc, zero-le, ◌-◌, ◌≤◌, ◌<◌}
 use mathlib.Core.List.{List, [], ◌∷◌}
 use mathlib.Core.Bool.{Bool, true, false, ◌&&◌, true≢false}
 use mathlib.Core.Path.{◌≡◌, refl, sym, ap, fun_ext, ◌∙◌}
-use mathlib.Core.Logic.{◌≢◌, by_cases}
+use mathlib.Core.Logic.{◌≢◌}
 use native.Mathlib.Omega.{arith}
 use lib.Dec.{leb, ltb, leb-zero}
-use native.Mathlib.Numerals.{add-one}
-use native.Mathlib.Decide.{dec_lt}
-use lib.ListN.{length, get_or, take, drop, length-take, drop_of_length-le}
-use borrow.Author.Tests.{le-leb, lt-leb, lt-ltb, ltb-true}
+use lib.ListN.{length, get_or, take, drop}
+use borrow.Author.Tests.{le-leb, lt-leb, ltb-true}
 use Rattle.item_spec.proofs.Tests.{and_left, and_right}
 use Rattle.model.specs.declared.Tables.{Tables}
 use Rattle.model.specs.View.{behavior_in, behavior_of}

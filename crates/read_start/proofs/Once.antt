@@ -2,12 +2,11 @@
 -- Assumes nothing.
 use Prim.Native.Nat.{ℕ, ◌+◌, ◌-◌, ◌*◌, ◌≤◌, ◌<◌}
 use mathlib.Core.List.{List}
-use mathlib.Core.Bool.{true, false}
 use mathlib.Core.Path.{◌≡◌, refl, sym, ap, ◌∙◌}
 use mathlib.Core.Logic.{by_cases}
 use native.Mathlib.Omega.{arith}
 use native.Mathlib.Decide.{dec_lt}
-use lib.ListN.{length, get_or, replicate, length-replicate}
+use lib.ListN.{length, get_or, length-replicate}
 use lib.Seq.{ext_get_or}
 use borrow.Author.Tests.{lt-ltb}
 use Rattle.item_spec.proofs.Tests.{by-test}
@@ -18,7 +17,7 @@ use Rattle.model.specs.Empty.{start, none_begun}
 use Rattle.model.specs.View.{list_of}
 use Rattle.read_spec.specs.Lines.{Run, on, stop}
 use Rattle.read_chain.specs.Whole.{Whole}
-use Rattle.words.specs.Rows.{word, row_at}
+use Rattle.words.specs.Rows.{word}
 use Rattle.words.specs.Words.{begun_in}
 use Rattle.words.proofs.InState.{start-in}
 use Rattle.words.proofs.InTexts.{begun-slot-at, begun-last-at, none-begun}

@@ -13,7 +13,7 @@ use lib.ListN.{length, get_or, take, drop, set, length-take, length-drop, length
 use lib.Seq.{ext_get_or, get_or-set_same}
 use borrow.Author.Tests.{lt-ltb, leb-true}
 use Rattle.item_spec.specs.Refusal.{beyond_limit, bad_clause}
-use Rattle.item_spec.specs.Reader.{Reply, Reader, got, refused, read_on, bytes, byte, ◌>>=◌, ◌>>◌, give, check}
+use Rattle.item_spec.specs.Reader.{Reply, Reader, got, read_on, bytes, byte, ◌>>=◌, ◌>>◌, give, check}
 use Rattle.item_spec.specs.Read.{key, number, list}
 use Rattle.item_spec.proofs.Tests.{and_left, and_right}
 use Rattle.model.specs.declared.Tables.{Tables}

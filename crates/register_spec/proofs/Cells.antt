@@ -1,18 +1,18 @@
 -- What a row's cells are made of: no comma and no line's end, and no first byte that a spreadsheet would work out.
 -- Assumes nothing.
-use Prim.Native.Nat.{ℕ, zero, suc, ◌+◌, ◌/◌, ◌%◌, ◌≤◌, ◌<◌}
+use Prim.Native.Nat.{ℕ, zero, suc, ◌/◌, ◌≤◌}
 use mathlib.Core.Bool.{Bool, true, false, true≢false}
-use mathlib.Core.List.{List, [], ◌∷◌, ◌++◌}
-use mathlib.Core.Path.{◌≡◌, refl, sym}
+use mathlib.Core.List.{List, [], ◌∷◌}
+use mathlib.Core.Path.{◌≡◌, refl}
 use native.Mathlib.Omega.{arith}
 use lib.Dec.{ltb, eqb}
-use borrow.Author.Tests.{ne_eqb, eq-eqb, ltb-true}
+use borrow.Author.Tests.{ne_eqb, ltb-true}
 use Rattle.item_spec.proofs.Tests.{by-test}
-use Rattle.item_spec.specs.Write.{digits_in, number_text, only_if}
+use Rattle.item_spec.specs.Write.{digits_in, number_text}
 use Rattle.model.specs.declared.Concerned.{Concerned}
 use Rattle.model.specs.declared.Concerned.TheVariants.{NoPort, UsePort}
 use Rattle.sitting_shown.specs.declared.Among.TheVariants as among
-use Rattle.sitting_shown.specs.Shown.{separator, markup, quote, formula, shown_byte, shown, cell}
+use Rattle.sitting_shown.specs.Shown.{separator, markup, quote, formula, cell}
 use Rattle.sitting_shown.specs.Readable.{Each, Printable, First, CellsArePrintable, CellsAreWhole, NoFormula}
 use Rattle.sitting_shown.proofs.Readable.{each_append, each_map, cells-are-whole, cells-are-printable, no-formula}
 use Rattle.outcome_spec.specs.declared.Outcome.{Outcome}

@@ -1,14 +1,10 @@
 -- A row splits into its nine cells.
 -- Assumes nothing.
 use Prim.Native.Nat.{ℕ}
-use mathlib.Core.Bool.{true, false}
 use mathlib.Core.List.{List, [], ◌∷◌, ◌++◌, append_assoc, append-nil}
 use mathlib.Core.Path.{◌≡◌, refl, sym, ap, ◌∙◌}
-use lib.Dec.{eqb}
-use Rattle.item_spec.specs.Reader.{bytes}
 use Rattle.sitting_shown.specs.Shown.{cell}
 use Rattle.sitting_shown.specs.Readable.{Each}
-use Rattle.register_spec.specs.declared.Row.{Row}
 use Rattle.register_spec.specs.Text.{cells_after, further_cells, row_text, unreadable_cells, unreadable_text, split_from, split}
 use Rattle.register_spec.specs.Claims.{RowsReadBack, UnreadableReadsBack, EachCell}
 use Rattle.register_spec.proofs.Cells.{Within, cells-within, unreadable-within, name-within}

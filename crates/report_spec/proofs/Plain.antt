@@ -1,12 +1,11 @@
 -- Where no push had a ticket, the report is what it was before there were tickets.
 -- Assumes nothing.
-use Prim.Native.Nat.{ℕ, zero, suc, ◌%◌, ◌/◌, ◌<◌}
-use mathlib.Core.List.{List, [], ◌∷◌, ◌++◌, append-nil}
-use mathlib.Core.Path.{◌≡◌, refl, sym, ap, ap₂, ◌∙◌}
+use Prim.Native.Nat.{ℕ, zero, suc, ◌%◌, ◌<◌}
+use mathlib.Core.List.{List, ◌∷◌, ◌++◌, append-nil}
+use mathlib.Core.Path.{◌≡◌, refl, ap, ap₂, ◌∙◌}
 use native.Mathlib.Omega.{arith}
 use borrow.Author.Tests.{eq-eqb}
-use Rattle.item_spec.specs.Reader.{bytes}
-use Rattle.item_spec.specs.Write.{number_text, more_text, list_text, mask_text, in_turn}
+use Rattle.item_spec.specs.Write.{number_text, more_text, list_text}
 use Rattle.item_spec.proofs.Tests.{by-test}
 use Rattle.model.specs.declared.Instance.{Instance}
 use Rattle.model.specs.declared.Configuration.{Configuration}

@@ -1,11 +1,10 @@
 -- What one more instruction does to the pushes, and the last of them.
 -- Assumes nothing.
-use mathlib.Core.Path.{◌≡◌, refl, ◌∙◌}
+use mathlib.Core.Path.{◌≡◌, refl}
 use mathlib.Core.Bool.{true, false, ◌||◌}
 use mathlib.Core.List.{List, [], ◌∷◌, ◌++◌}
 use Prim.Native.Nat.{ℕ, suc}
 use lib.Dec.{eqb, leb}
-use Rattle.model.specs.declared.Instruction.{Instruction}
 use Rattle.model.specs.declared.Program.{Program}
 use Rattle.model.specs.View.{stamp_in}
 use Rattle.rules_spec.specs.Tickets.{instruction_of, push_of, is_add_of, is_push_to, goes_on, pushed_to, not_above, has_stamp}

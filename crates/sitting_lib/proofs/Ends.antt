@@ -6,12 +6,11 @@ use mathlib.Core.List.{List, ◌++◌}
 use mathlib.Core.Path.{◌≡◌, ap, ◌∙◌}
 use lib.ListN.{length}
 use Rattle.item_spec.specs.Reader.{bytes}
-use Rattle.model.specs.declared.Program.{Program}
 use Rattle.read_spec.specs.Place.{line_number}
 use Rattle.start_spec.specs.Paper.{Paper}
 use Rattle.judge_spec.specs.declared.Verdict.{Verdict}
 use Rattle.judge_spec.specs.declared.Place.{Place}
-use Rattle.judge_spec.specs.Judged.{judged, lent_bytes}
+use Rattle.judge_spec.specs.Judged.{lent_bytes}
 use Rattle.judge_spec.specs.Once.{Promised}
 use Rattle.foretell_spec.specs.Lines.{instruction_line}
 use Rattle.aeolus_judge_spec.specs.declared.Verdict.{Verdict as PlanVerdict}

@@ -1,6 +1,6 @@
 -- What is written of a candidate has at most 26,400 bytes: the name's four times, the print's 8,192, and seven short lines.
 -- Assumes nothing.
-use Prim.Native.Nat.{ℕ, ◌+◌, ◌-◌, ◌≤◌, zero-le}
+use Prim.Native.Nat.{ℕ, ◌+◌, ◌-◌, ◌≤◌}
 use mathlib.Core.Bool.{Bool, true, false}
 use mathlib.Core.List.{List, []}
 use mathlib.Core.Path.{◌≡◌, refl, ap, ◌∙◌}
@@ -31,16 +31,15 @@ use Rattle.outcome_spec.specs.declared.Outcome.{Outcome}
 use Rattle.outcome_spec.specs.declared.Outcome.TheVariants.{Done, Unfinished, Refused, Fault, OfPaper}
 use Rattle.outcome_spec.specs.Outcome.{said_program, outcome_of, outcome_text}
 use Rattle.sitting_shown.specs.declared.Among.TheVariants as among
-use Rattle.sitting_shown.specs.Shown.{cell}
 use Rattle.sitting_shown.specs.Place.{place_text}
 use Rattle.sitting_shown.specs.Readable.{FourTimes, CellsFourTimes}
 use Rattle.sitting_shown.proofs.Readable.{four-times, cells-four-times}
 use Rattle.sitting_shown.proofs.Places.{which-short}
 use Rattle.sitting_spec.specs.End.{widest, first_shown, offending_line, at_text, line_end, ended_text, where_text, offending_text, told_text, instruction_text, asked_text}
-use Rattle.sitting_spec.specs.Block.{begins, at_fault, asks_more, end_with, end_text, block_text}
+use Rattle.sitting_spec.specs.Block.{at_fault, asks_more, end_with, end_text, block_text}
 use Rattle.sitting_spec.specs.Plan.{plan_text, plan_at_fault, plan_end_with, plan_end, plan_block}
 use Rattle.sitting_spec.specs.Candidate.{is_aeolus, either_block, name_text, candidate_text, unread_text}
-use Rattle.sitting_lib.specs.Room.{longest, longest_name, CandidatesFit, UnreadFit}
+use Rattle.sitting_lib.specs.Room.{longest_name, CandidatesFit, UnreadFit}
 
 -- ---- items
 

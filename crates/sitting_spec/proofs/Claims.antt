@@ -1,6 +1,6 @@
 -- Each of the seven lines has one LF, its last byte: numbers have none, nor has what is shown.
 -- Assumes nothing.
-use Prim.Native.Nat.{ℕ, ◌+◌, ◌-◌}
+use Prim.Native.Nat.{ℕ, ◌-◌}
 use mathlib.Core.Bool.{Bool, true, false}
 use mathlib.Core.List.{List, [], ◌∷◌}
 use mathlib.Core.Path.{◌≡◌, refl}
@@ -13,7 +13,6 @@ use Rattle.model.specs.declared.Program.{Program}
 use Rattle.model.specs.declared.Text.{Text}
 use Rattle.model.specs.declared.Text.TheVariants as text
 use Rattle.read_spec.specs.Place.{up_to_lf, lfs, line_number, line_start}
-use Rattle.start_spec.specs.Paper.{Paper}
 use Rattle.judge_spec.specs.declared.Place.{Place}
 use Rattle.judge_spec.specs.Judged.{Judgement, judged, lent_bytes}
 use Rattle.aeolus_judge_spec.specs.Judged.{Judgement as PlanJudgement, judged as plan_judged}

@@ -2,16 +2,13 @@
 -- Assumes nothing.
 use Prim.Native.Nat.{ℕ, ◌<◌}
 use mathlib.Core.Path.{◌≡◌, refl}
-use mathlib.Core.Logic.{◌↔◌}
 use mathlib.Core.Bool.{Bool, true, false, not, ◌&&◌, and-eq-true_iff}
 use lib.Dec.{eqb}
 use borrow.Author.Tests.{eq-eqb, eqb-true, not-false}
-use Rattle.sets.specs.Test.{any_below}
 use Rattle.sets.proofs.Laws.{any_some, any-hit, any_none, none_any}
 use Rattle.item_spec.proofs.Tests.{by-test}
 use Rattle.model.specs.declared.Tables.{Tables}
 use Rattle.model.specs.declared.Configuration.{Configuration}
-use Rattle.model.specs.declared.Connection.{Connection}
 use Rattle.model.specs.View.{is_use, instance, is_served, connection_at}
 use Rattle.rules_spec.specs.Standing.{in_table, standing, some_connection}
 use Rattle.rules_spec.specs.Instance.{active, ports_of}

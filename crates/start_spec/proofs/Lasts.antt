@@ -2,7 +2,7 @@
 -- Assumes nothing.
 use Prim.Native.Nat.{ℕ, zero, suc, ◌+◌, ◌*◌, ◌≤◌, ◌<◌}
 use mathlib.Core.List.{List, [], ◌∷◌, ◌++◌}
-use mathlib.Core.Bool.{Bool, true, false, ◌&&◌, and-false, false≢true}
+use mathlib.Core.Bool.{Bool, true, false, and-false, false≢true}
 use mathlib.Core.Path.{◌≡◌, sym, ap, ◌∙◌, subst⁻¹}
 use mathlib.Core.Logic.{◌≢◌, ⊎_elim, by_cases}
 use native.Mathlib.Omega.{arith}
@@ -21,7 +21,7 @@ use Rattle.model.specs.declared.Step.{Step}
 use Rattle.model.specs.declared.Instance.{Instance}
 use Rattle.model.specs.declared.Configuration.{Configuration}
 use Rattle.model.specs.Verb.{add_verb, pushb_verb, push_ticket_verb}
-use Rattle.model.specs.View.{instance, stamp_in, list_of, queue_of}
+use Rattle.model.specs.View.{instance, stamp_in, queue_of}
 use Rattle.model.proofs.View.{list_at, length-list}
 use Rattle.read_spec.specs.Limits.{has_tickets}
 use Rattle.read_spec.specs.Lawful.{verb_lawful, Lawful}
@@ -32,14 +32,14 @@ use Rattle.rules_spec.specs.Walk.{walk}
 use Rattle.rules_spec.proofs.Walks.{walk-keeps, number-facts, after-done}
 use Rattle.rules_spec.proofs.Tables.{facts, program-verbs}
 use Rattle.rules_spec.proofs.Named.{walk-port-small}
-use Rattle.rules_spec.proofs.Numbers.{Numbered, walk-numbers}
+use Rattle.rules_spec.proofs.Numbers.{walk-numbers}
 use Rattle.rules_spec.proofs.Proper.{proper-from}
 use Rattle.report_spec.specs.Report as report
 use Rattle.report_spec.specs.Report.{queue_text, instance_text}
 use Rattle.report_spec.proofs.Bound.{report-tight}
 use Rattle.report_spec.proofs.Widths.{number-le}
 use Rattle.start_spec.specs.Permitted.{MayBegin, TicketsFit}
-use Rattle.start_spec.specs.Round.{state_text, head_text, last_text, row_text, row_at, start_text, last_of, lasts_of, start_of, ReportsEndInTheState, StartsHaveRoom}
+use Rattle.start_spec.specs.Round.{state_text, head_text, last_text, row_text, row_at, start_text, last_of, lasts_of, ReportsEndInTheState, StartsHaveRoom}
 use Rattle.start_spec.proofs.Round.{reports-end-in-the-state}
 
 -- ---- every push has a ticket

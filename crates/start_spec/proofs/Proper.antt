@@ -14,7 +14,7 @@ use borrow.Author.Tests.{eq-eqb, ne_eqb, eqb-true, leb-true, ltb-true, not-true}
 use Rattle.sets.specs.Mask.{overlaps, within, joined}
 use Rattle.sets.proofs.Laws.{overlaps-none}
 use Rattle.item_spec.specs.Reader.{Reply, Reader, got, refused, bytes, byte, read_on, give}
-use Rattle.item_spec.specs.Read.{number, list, Set}
+use Rattle.item_spec.specs.Read.{Set}
 use Rattle.item_spec.specs.Items.{item_then, items_in, items}
 use Rattle.item_spec.proofs.Tests.{by-test, and_left, and_right}
 use Rattle.model.specs.declared.Tables.{Tables}

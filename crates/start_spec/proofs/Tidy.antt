@@ -1,15 +1,15 @@
 -- Each allowed step of a tidy configuration leads to a tidy one, and so does a walk.
 -- Assumes nothing.
-use mathlib.Core.Path.{◌≡◌, refl, sym, ap, ◌∙◌, subst, subst⁻¹}
+use mathlib.Core.Path.{◌≡◌, refl, sym, ◌∙◌}
 use mathlib.Core.Logic.{◌⊎◌, ◌≢◌, ⊎_elim, by_cases}
 use mathlib.Core.List.{List}
-use mathlib.Core.Bool.{Bool, true, false, not, ◌||◌, cond, and-eq-true_iff, false≢true}
+use mathlib.Core.Bool.{Bool, true, false, not, ◌||◌, and-eq-true_iff, false≢true}
 use Prim.Native.Nat.{ℕ, suc, ◌-◌, ◌≤◌, ◌<◌}
 use native.Mathlib.Omega.{arith}
 use native.Mathlib.Decide.{ℕ_discrete}
-use lib.Dec.{eqb, ltb}
+use lib.Dec.{eqb}
 use borrow.Author.Tests.{eqb-true, eq-eqb, ne_eqb, le-ltb, not-false}
-use Rattle.sets.specs.Mask.{member, collect, only, within, joined}
+use Rattle.sets.specs.Mask.{member, collect, within, joined}
 use Rattle.sets.specs.Test.{any_below}
 use Rattle.sets.proofs.Laws.{member-joined, within-at, within_of}
 use Rattle.item_spec.proofs.Tests.{by-test}
@@ -19,10 +19,9 @@ use Rattle.model.specs.declared.Step.{Step}
 use Rattle.model.specs.declared.Instance.{Instance}
 use Rattle.model.specs.declared.Configuration.{Configuration}
 use Rattle.model.specs.Empty.{absent}
-use Rattle.model.specs.View.{behavior_of, instance, slot, queue_head, with_done}
+use Rattle.model.specs.View.{instance, slot, queue_head, with_done}
 use Rattle.rules_spec.specs.Instance.{held, current, ends_at, leaving, entering, fired, ended_by, entered, with_queued}
 use Rattle.rules_spec.specs.Ports.{behavior}
-use Rattle.rules_spec.specs.Add.{fresh}
 use Rattle.rules_spec.specs.Finish.{may_leave, finish_row, finish_check}
 use Rattle.rules_spec.specs.Action.{Action, add, del, pushb, con, dcon, wait, fire, end, enter, finish, action_check, effect}
 use Rattle.rules_spec.specs.Step.{action, check_at, step_check, step_to}
@@ -30,11 +29,11 @@ use Rattle.rules_spec.specs.Walk.{walk}
 use Rattle.rules_spec.specs.Proper.{Proper}
 use Rattle.rules_spec.proofs.Masks.{in-collect, none-in-zero, neither, in_without, in-joined, in-with}
 use Rattle.rules_spec.proofs.Tables.{Facts, facts}
-use Rattle.rules_spec.proofs.Local.{shifted, appended, change, touches, changes, owner, owner_of, at-owner, self, own_instance, turn, turned_slot, own_slot, Fits, Room, room-own, instance-own, instance-other, slot-own, slot-other, rest-after}
-use Rattle.rules_spec.proofs.Allowed.{passes, meets, pushb-facts, fire-facts, enter-facts, end-facts, finish-facts, present-in}
+use Rattle.rules_spec.proofs.Local.{change, touches, changes, owner, owner_of, at-owner, self, own_instance, turn, turned_slot, own_slot, Fits, Room, room-own, instance-own, instance-other, slot-own, slot-other}
+use Rattle.rules_spec.proofs.Allowed.{passes, meets, pushb-facts, fire-facts, enter-facts, end-facts, finish-facts}
 use Rattle.rules_spec.proofs.Walks.{walk-keeps, number-facts, after-cases}
 use Rattle.rules_spec.proofs.Proper.{Lawfully, room, step-lawfully, step-proper}
-use Rattle.start_spec.specs.Permitted.{Tidy, MayBegin}
+use Rattle.start_spec.specs.Permitted.{Tidy}
 use Rattle.start_spec.specs.Round.{WalksAreTidy}
 
 -- one instance: the record v with the slots s

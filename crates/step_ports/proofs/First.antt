@@ -1,6 +1,6 @@
 -- The pass up to the first port that is unconnected or unserved: what it tells is the answer, but where that port is unserved and another is unconnected.
 -- Assumes nothing.
-use Rattle.std.proofs.Common.{◌≡◌, ℕ, ◌<◌, Bool, true, false, ◌||◌, eqb, sym, refl, ap, ◌∙◌, eqb-true}
+use Rattle.std.proofs.Common.{◌≡◌, ℕ, ◌<◌, Bool, true, false, ◌||◌, eqb, sym, refl, eqb-true}
 use mathlib.Core.Bool.{false≢true}
 use Rattle.item_spec.proofs.Tests.{by-test}
 use Rattle.sets.specs.Test.{any_below, lowest}

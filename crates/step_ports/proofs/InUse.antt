@@ -1,6 +1,6 @@
 -- The provide ports in use, gathered row by row: a row adds what its use ports that are left behind employ.
 -- Assumes nothing.
-use Rattle.std.proofs.Common.{◌≡◌, ℕ, zero, suc, ◌+◌, ◌-◌, ◌/◌, ◌%◌, ◌^◌, ◌<◌, ◌≤◌, Bool, true, false, cond, not, ◌&&◌, ◌||◌, eqb, ◌≢◌, List, sym, refl, ap, ◌∙◌, true≢false, add-one, arith, lt-ltb, eq-eqb, ne_eqb, eqb-true}
+use Rattle.std.proofs.Common.{◌≡◌, ℕ, suc, ◌+◌, ◌-◌, ◌/◌, ◌%◌, ◌^◌, ◌<◌, Bool, true, false, cond, not, ◌&&◌, ◌||◌, eqb, ◌≢◌, List, sym, refl, ap, ◌∙◌, true≢false, add-one, arith, lt-ltb, eq-eqb, ne_eqb}
 use mathlib.Core.Logic.{by_cases}
 use mathlib.Core.Bool.{and-true, and-false, or-false, or_assoc, and-eq-true_iff}
 use native.Mathlib.Decide.{ℕ_discrete, dec_lt}
@@ -8,10 +8,9 @@ use Rattle.sets.specs.Test.{any_below}
 use Rattle.sets.specs.Mask.{member, collect, with, least, later}
 use Rattle.sets.proofs.Laws.{none_any, any_same, member-none, member-past, member-collect, collect-lt, collect-is, collect-same}
 use Rattle.sets.proofs.Searches.{any-rows, any-one-more}
-use Rattle.sets.proofs.Members.{Rest, least-of, least_lt, least-member, later-own, later-other}
+use Rattle.sets.proofs.Members.{Rest, least-of, least-member, later-own, later-other}
 use Rattle.item_spec.proofs.Tests.{by-test}
 use Rattle.model.specs.declared.Tables.{Tables}
-use Rattle.model.specs.declared.Connection.{Connection}
 use Rattle.model.specs.declared.Configuration.{Configuration}
 use Rattle.model.specs.View.{instance, port_number, server, is_served, connection_at}
 use Rattle.rules_spec.specs.Instance.{active}

@@ -1,6 +1,6 @@
 -- The lowest number that passes: whether there is one, and that tests that agree have the same.
 -- Assumes nothing.
-use Rattle.std.proofs.Common.{◌≡◌, ℕ, zero, suc, ◌<◌, Bool, true, false, ltb, refl, arith, le-ltb, lt-ltb}
+use Rattle.std.proofs.Common.{◌≡◌, ℕ, zero, suc, ◌<◌, Bool, ltb, refl, arith, le-ltb, lt-ltb}
 use native.Mathlib.Nat.{le_step}
 use Rattle.item_spec.proofs.Tests.{by-test}
 use Rattle.sets.specs.Test.{any_below, lowest}

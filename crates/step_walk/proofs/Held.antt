@@ -1,23 +1,20 @@
 -- Where the numbers are words, what words hold is what the rules say.
 -- Assumes nothing.
 use mathlib.Core.Path.{◌≡◌, refl}
-use mathlib.Core.List.{List}
 use mathlib.Core.Logic.{by_cases}
-use Prim.Native.Nat.{ℕ}
 use native.Mathlib.Omega.{arith}
 use native.Mathlib.Decide.{dec_lt}
 use lib.Dec.{eqb}
-use borrow.Author.Tests.{lt-ltb, le-leb, lt-leb}
+use borrow.Author.Tests.{lt-ltb, le-leb}
 use Rattle.item_spec.proofs.Tests.{by-test}
 use Rattle.model.specs.declared.Tables.{Tables}
-use Rattle.model.specs.declared.Program.{Program}
 use Rattle.model.specs.declared.Step.{Step}
 use Rattle.model.specs.declared.Configuration.{Configuration}
 use Rattle.model.specs.Verb.{fire_verb, end_verb, enter_verb}
 use Rattle.rules_spec.specs.Action.{Action, move_action, effect}
 use Rattle.rules_spec.specs.Step.{is_next, action, step_check_with, step_to, step}
 use Rattle.rules_spec.specs.Walk.{walk_by, walk}
-use Rattle.step_walk.specs.Fits.{PortFits, PortsFit}
+use Rattle.step_walk.specs.Fits.{PortFits}
 use Rattle.step_walk.specs.Held.{held, held_to, held_step, held_walk, HeldStepIsTheStep, HeldWalkIsTheWalk}
 
 pub held_fits : (t : Tables) (c : Configuration) (a : Action) → PortFits a → held t c a ≡ effect t c a

@@ -1,6 +1,6 @@
 -- No other outcome fits: both fields are equations with the definitions, and words that say the same are the same.
 -- Assumes nothing.
-use mathlib.Core.Path.{◌≡◌, sym, ap, ap₂, ◌∙◌}
+use mathlib.Core.Path.{sym, ap, ap₂, ◌∙◌}
 use Prim.Native.Nat.{ℕ}
 use Rattle.model.specs.declared.Walked.{Walked}
 use Rattle.words.proofs.Whole.{state-words}
@@ -9,9 +9,9 @@ use Rattle.model.specs.declared.Configuration.{Configuration}
 use Rattle.model.specs.declared.Step.{Step}
 use Rattle.model.specs.View.{steps_of}
 use Rattle.rules_spec.specs.Walk.{beside_by, walk_from}
-use Rattle.timing_spec.specs.Clock.{Clock, at_start, tick, clock_from, clock_of}
+use Rattle.timing_spec.specs.Clock.{at_start, tick, clock_from, clock_of}
 use Rattle.timing_spec.specs.Mark.{mark_after}
-use Rattle.step_walk.specs.Held.{held_walk, HeldStepIsTheStep, HeldWalkIsTheWalk}
+use Rattle.step_walk.specs.Held.{HeldStepIsTheStep, HeldWalkIsTheWalk}
 use Rattle.step_walk.proofs.Held.{held-step-is-the-step, held-walk-is-the-walk}
 use Rattle.timing_clock.specs.Once.{held_clock, TimedAsRuled, NoOtherTimedWalk}
 

@@ -1,6 +1,6 @@
 -- What is printed: after 1 to 5 and 40 to 42 the three lines, which have room, and else the bytes of the report with its mark.
 -- Assumes nothing.
-use Prim.Native.Nat.{ℕ, ◌≤◌, zero-le}
+use Prim.Native.Nat.{ℕ, ◌≤◌}
 use mathlib.Core.List.{List}
 use mathlib.Core.Path.{◌≡◌, refl}
 use mathlib.Core.Logic.{◌⊎◌, ⊎_elim, inl, inr}
@@ -9,19 +9,18 @@ use lib.Dec.{eqb}
 use lib.ListN.{length}
 use Rattle.item_spec.proofs.Tests.{by-test}
 use Rattle.model.specs.declared.Walked.{Walked}
-use Rattle.model.specs.declared.Text.{Text}
 use Rattle.model.specs.declared.Text.TheVariants as text
 use Rattle.report_spec.specs.Faults.{fault_text}
 use Rattle.start_spec.specs.Paper.{Paper}
 use Rattle.judge_spec.specs.declared.Verdict.{Verdict}
 use Rattle.judge_spec.specs.Course.{Course}
-use Rattle.judge_spec.specs.Judged.{fault_line, after_fault}
+use Rattle.judge_spec.specs.Judged.{after_fault}
 use Rattle.write_items.specs.Written.{Written}
 use Rattle.judge_lib.specs.Counts.{Counts}
 use Rattle.judge_lib.proofs.Order.{walked-numbers}
 use Rattle.judge_lib.proofs.Printed.{ChosenOf, walk-chosen, lines-chosen, Prints, report-printed, lines-printed}
 use Rattle.times_spec.specs.Refusal.{times_number}
-use Rattle.timing_spec.specs.Timed.{timed_course, marked_report, numbered, timed_ending, timed, timed_verdict, timed_buffer, timed_printing, timed_printed}
+use Rattle.timing_spec.specs.Timed.{timed_course, marked_report, timed_ending, timed, timed_verdict, timed_buffer, timed_printing, timed_printed}
 use Rattle.timing_spec.proofs.Same.{Alike, in-sheet, in_start, in-answer, in-times, marked, courses-alike, all_read}
 use Rattle.timing_lib.specs.Once.{PromisedPrint}
 use Rattle.timing_lib.proofs.Order.{TimedTold, sheet-fault, start-fault, answer-fault, times-fault, clocked-walk, timed-told}

@@ -16,7 +16,6 @@ use Rattle.model.specs.declared.Text.{Text}
 use Rattle.model.specs.declared.Text.TheVariants as text
 use Rattle.model.specs.declared.Tables.{Tables}
 use Rattle.model.specs.declared.Program.{Program}
-use Rattle.model.specs.declared.Configuration.{Configuration}
 use Rattle.model.specs.declared.Walked.{Walked}
 use Rattle.read_spec.specs.Limits.{length_ok}
 use Rattle.read_spec.specs.Lines.{Run, Lines, on, stop}

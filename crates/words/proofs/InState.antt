@@ -1,17 +1,16 @@
 -- A row of the state put is one instance, one queue slot or one server, and words that are all 0 are the start.
 -- Assumes nothing.
 use mathlib.Core.Path.{◌≡◌, refl, sym, ap, ◌∙◌}
-use mathlib.Core.Logic.{◌⊎◌, inl, inr, ◌≢◌, by_cases}
-use mathlib.Core.Bool.{Bool, true, false, not, ◌&&◌, ◌||◌, cond, or-false, or-true, and-true, and-false}
+use mathlib.Core.Logic.{inl, inr, ◌≢◌, by_cases}
+use mathlib.Core.Bool.{Bool, true, false, or-false, or-true, and-true, and-false}
 use mathlib.Core.List.{List, [], ◌∷◌}
-use Prim.Native.Nat.{ℕ, zero, suc, ◌+◌, ◌*◌, ◌≤◌, ◌<◌}
+use Prim.Native.Nat.{ℕ, ◌+◌, ◌≤◌, ◌<◌}
 use native.Mathlib.Omega.{arith}
 use native.Mathlib.Decide.{dec_lt}
-use lib.Dec.{eqb}
 use lib.ListN.{length, set, get_or, replicate, length-set}
 use lib.Seq.{get_or-set_same, get_or-set_other}
 use borrow.Author.Tests.{eq-eqb, ne_eqb}
-use Rattle.sets.specs.Mask.{member, with, without, only}
+use Rattle.sets.specs.Mask.{member, only}
 use Rattle.sets.proofs.Laws.{member-past, member-with, member-without, member-only}
 use Rattle.model.specs.declared.Instance.{Instance}
 use Rattle.model.specs.declared.Configuration.{Configuration}
@@ -23,7 +22,7 @@ use Rattle.words.specs.Rows.{word, row, row_at, rows, puts, puts_in}
 use Rattle.words.specs.Words.{instance_in, state_in}
 use Rattle.words.specs.Parts.{with_sets, bare, with_slot, with_server, changed}
 use Rattle.areas.proofs.Areas.{list_put, no_word}
-use Rattle.words.proofs.Rows.{Apart, in-far, rows-put, rows-far, rows_same, rows_at, rows_none}
+use Rattle.words.proofs.Rows.{in-far, rows-put, rows-far, rows_same, rows_at, rows_none}
 
 -- ---- fields
 

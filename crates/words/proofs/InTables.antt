@@ -1,14 +1,13 @@
 -- A row of the tables put is one type, one transition, one behavior or one port, and words that are all 0 say no table.
 -- Assumes nothing.
-use mathlib.Core.Path.{◌≡◌, refl, sym, ap, ◌∙◌}
-use mathlib.Core.Logic.{inl, inr, ◌≢◌}
+use mathlib.Core.Path.{◌≡◌, refl, ◌∙◌}
+use mathlib.Core.Logic.{inl, inr}
 use mathlib.Core.List.{List, [], ◌∷◌}
 use Prim.Native.Nat.{ℕ, ◌+◌, ◌*◌, ◌≤◌, ◌<◌}
 use native.Mathlib.Omega.{arith}
 use lib.ListN.{length, set, get_or, replicate, length-set}
 use lib.Seq.{get_or-set_same, get_or-set_other}
 use Rattle.model.specs.declared.ComponentType.{ComponentType}
-use Rattle.model.specs.declared.Tables.{Tables}
 use Rattle.model.specs.Empty.{no_type, no_tables}
 use Rattle.model.specs.View.{type_of, list_of}
 use Rattle.read_spec.specs.Fill.{with_transition, with_port}

@@ -1,21 +1,18 @@
 -- A row of the program or of the answer put is one instruction or step, and words that are all 0 say none.
 -- Assumes nothing.
-use mathlib.Core.Path.{◌≡◌, refl, sym, ap, ◌∙◌}
+use mathlib.Core.Path.{◌≡◌, refl}
 use mathlib.Core.Logic.{inl, inr}
 use mathlib.Core.List.{List, [], ◌∷◌}
-use Prim.Native.Nat.{ℕ, ◌≤◌, ◌<◌}
+use Prim.Native.Nat.{ℕ}
 use native.Mathlib.Omega.{arith}
 use lib.ListN.{length, set, get_or, replicate}
 use lib.Seq.{get_or-set_same, get_or-set_other}
 use Rattle.model.specs.declared.Instruction.{Instruction}
-use Rattle.model.specs.declared.Begun.{Begun}
-use Rattle.model.specs.declared.Program.{Program}
 use Rattle.model.specs.declared.Step.{Step}
-use Rattle.model.specs.declared.Answer.{Answer}
 use Rattle.model.specs.Empty.{none_begun, no_instruction, no_step, no_program, no_answer}
 use Rattle.model.specs.View.{list_of}
 use Rattle.read_spec.specs.Fill.{with_instruction, with_step}
-use Rattle.words.specs.Rows.{word, row_at, rows, puts, puts_in}
+use Rattle.words.specs.Rows.{word, row_at, puts, puts_in}
 use Rattle.words.specs.Words.{instruction_in, program_in, begun_in, program_from, step_in, answer_in}
 use Rattle.words.specs.Parts.{instruction_of, step_of, with_instructions, with_edition, with_begun_slot, with_last, with_steps}
 use Rattle.areas.proofs.Areas.{no_word}

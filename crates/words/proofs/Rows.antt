@@ -1,17 +1,15 @@
 -- Words put into a row stand where they were put, and no other word changes: so what the rows say changes in one record.
 -- Assumes nothing.
-use mathlib.Core.Path.{◌≡◌, refl, sym, ap, ap₂, ◌∙◌, subst}
+use mathlib.Core.Path.{◌≡◌, refl, sym, ap, ◌∙◌}
 use mathlib.Core.Logic.{◌⊎◌, inl, inr, ◌≢◌, by_cases}
-use mathlib.Core.Bool.{Bool, true, false, cond}
 use mathlib.Core.List.{List, [], ◌∷◌, ◌++◌}
-use Prim.Native.Nat.{ℕ, zero, suc, ◌+◌, ◌*◌, ◌≤◌, ◌<◌}
+use Prim.Native.Nat.{ℕ, suc, ◌+◌, ◌*◌, ◌≤◌, ◌<◌}
 use native.Mathlib.Omega.{arith}
 use native.Mathlib.Numerals.{add-one}
 use native.Mathlib.Nat.{mul-le-mul_right}
-use native.Mathlib.Decide.{ℕ_discrete, dec_lt}
-use lib.Dec.{ltb}
-use lib.ListN.{length, get_or, set, take, replicate, length-set, length-replicate}
-use lib.Seq.{get_or-set_same, get_or-set_other, set_out, ext_get_or, take-suc, take_all, length-take-le}
+use native.Mathlib.Decide.{dec_lt}
+use lib.ListN.{length, get_or, set, take, replicate, length-set}
+use lib.Seq.{get_or-set_same, get_or-set_other, set_out, take-suc, take_all, length-take-le}
 use borrow.Author.Tests.{lt-ltb, le-ltb}
 use Rattle.model.specs.View.{list_of}
 use Rattle.model.proofs.View.{past_end, list_at, list_same, length-list}

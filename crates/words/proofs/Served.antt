@@ -1,9 +1,9 @@
 -- What is asked of the connection of use port q of instance i is told by its server alone, for every i and q.
 -- Assumes nothing.
-use mathlib.Core.Path.{◌≡◌, refl, sym, ap, ◌∙◌}
+use mathlib.Core.Path.{◌≡◌, ap, ◌∙◌}
 use mathlib.Core.Logic.{by_cases}
-use mathlib.Core.Bool.{Bool, true, false, not, ◌&&◌, and-eq-true_iff, false≢true}
-use Prim.Native.Nat.{ℕ, ◌+◌, ◌*◌, ◌/◌, ◌%◌, ◌≤◌, ◌<◌}
+use mathlib.Core.Bool.{Bool, true, false, not, ◌&&◌, and-eq-true_iff}
+use Prim.Native.Nat.{ℕ, ◌/◌, ◌%◌, ◌≤◌, ◌<◌}
 use native.Mathlib.Omega.{arith}
 use native.Mathlib.Decide.{dec_lt}
 use lib.Dec.{eqb}
@@ -13,9 +13,9 @@ use Rattle.item_spec.proofs.Tests.{by-test}
 use Rattle.model.specs.declared.Connection.{Connection}
 use Rattle.model.specs.declared.Configuration.{Configuration}
 use Rattle.model.specs.Empty.{no_server}
-use Rattle.model.specs.View.{port_number, server, is_served, connection_of, connection_at}
-use Rattle.model.proofs.View.{past_end, slot_is}
-use Rattle.rules_spec.specs.Standing.{in_table, some_connection}
+use Rattle.model.specs.View.{port_number, is_served, connection_of}
+use Rattle.model.proofs.View.{past_end}
+use Rattle.rules_spec.specs.Standing.{some_connection}
 use Rattle.rules_spec.proofs.Connections.{Stands, some-stands, one-look}
 use Rattle.words.specs.Parts.{server_of}
 

@@ -2,7 +2,7 @@
 -- Assumes nothing.
 use Prim.Native.Nat.{ℕ, ◌-◌}
 use mathlib.Core.Path.{◌≡◌, sym, ap, ◌∙◌}
-use mathlib.Core.List.{List, ◌++◌}
+use mathlib.Core.List.{◌++◌}
 use lib.ListN.{length, take, drop}
 use Rattle.item_spec.specs.Once.{NoOtherEquals}
 use Rattle.item_spec.proofs.Once.{no-other-equals}

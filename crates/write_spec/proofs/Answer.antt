@@ -1,9 +1,9 @@
 -- The answer's text: read as what it says or refused with its number, what was read is written as it was, and lawful is just what has no fault.
 -- Assumes nothing.
-use Prim.Native.Nat.{ℕ, zero, suc, ◌+◌, ◌*◌, ◌^◌, ◌≤◌, ◌<◌}
+use Prim.Native.Nat.{ℕ, zero, suc, ◌+◌, ◌^◌, ◌≤◌, ◌<◌}
 use mathlib.Core.Bool.{Bool, true, false, not, ◌&&◌, ◌||◌, cond}
 use mathlib.Core.Logic.{◌≢◌, by_cases}
-use mathlib.Core.List.{List, [], ◌++◌, append-nil}
+use mathlib.Core.List.{List, ◌++◌, append-nil}
 use mathlib.Core.Path.{◌≡◌, refl, sym, ap, ◌∙◌}
 use native.Mathlib.Omega.{arith}
 use native.Mathlib.Decide.{ℕ_discrete}
@@ -13,7 +13,7 @@ use borrow.Author.Tests.{leb-true, eqb-true, le-leb, eq-eqb, ne_eqb}
 use Rattle.sets.specs.Test.{all_below}
 use Rattle.sets.proofs.Laws.{all-at, all_of}
 use Rattle.item_spec.specs.Reader.{bytes}
-use Rattle.item_spec.specs.Write.{in_turn, one_text, two_text, number_text, digits_in}
+use Rattle.item_spec.specs.Write.{in_turn, one_text, two_text}
 use Rattle.item_spec.proofs.Tests.{by-test, and_left, and_right, or-not}
 use Rattle.model.specs.declared.Step.{Step}
 use Rattle.model.specs.declared.Answer.{Answer}

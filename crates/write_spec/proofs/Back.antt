@@ -1,13 +1,12 @@
 -- A sheet that is read is the text of what it gives.
 -- Assumes nothing.
 use Prim.Native.Nat.{ℕ, zero, suc, ◌+◌, ◌*◌, ◌≤◌, ◌<◌}
-use mathlib.Core.Bool.{true, ◌&&◌}
-use mathlib.Core.List.{List, [], ◌∷◌, ◌++◌, append_assoc, append-nil}
+use mathlib.Core.List.{List, ◌++◌, append_assoc, append-nil}
 use mathlib.Core.Path.{◌≡◌, refl, sym, ap, ap₂, ◌∙◌}
 use native.Mathlib.Omega.{arith}
 use native.Mathlib.Nat.{zero-add}
 use lib.Dec.{leb}
-use lib.ListN.{length, get_or, set, length-set}
+use lib.ListN.{set}
 use borrow.Author.Tests.{leb-true}
 use Rattle.item_spec.specs.Reader.{bytes}
 use Rattle.item_spec.specs.Write.{in_turn}
@@ -18,18 +17,18 @@ use Rattle.model.specs.declared.Ports.{Ports}
 use Rattle.model.specs.declared.Tables.{Tables}
 use Rattle.model.specs.declared.Program.{Program}
 use Rattle.model.specs.View.{type_of}
-use Rattle.model.specs.Empty.{no_type, no_tables, no_program}
+use Rattle.model.specs.Empty.{no_tables, no_program}
 use Rattle.read_spec.specs.Limits.{depth_ok, types_ok, places_ok, transitions_ok, behaviors_ok, ports_ok, program_ok}
-use Rattle.read_spec.specs.Lines.{Run, on, stop, Lines, run_on, line, each, at_end}
+use Rattle.read_spec.specs.Lines.{on, each, at_end}
 use Rattle.read_spec.specs.Kinds.{edition_line, due_line, count_line, initial_line, tran_line, behavior_line, port_line, do_line}
-use Rattle.read_spec.specs.Fill.{headed, with_type, with_transition, with_port, program_of, with_instruction}
+use Rattle.read_spec.specs.Fill.{headed, with_type, program_of}
 use Rattle.read_spec.specs.Texts.{tran_at, behavior_at, port_at, type_lines, instruction_at, sheet}
 use Rattle.read_spec.proofs.Slots.{type_slots, types-sound, transition_slots, transitions-sound, behavior_slots, behaviors-sound, port_slots, ports-sound, instruction_slots, instructions-sound}
 use Rattle.report_spec.specs.Report.{count_text}
 use Rattle.write_spec.specs.Kinds.{initial_text, tran_text, behavior_text, port_line_text, do_text}
 use Rattle.write_spec.specs.Texts.{transition_row, behavior_row, port_row, instruction_row, type_text, sheet_text}
 use Rattle.write_spec.proofs.Turns.{in_turn_from, turn-from, turn-same}
-use Rattle.write_spec.proofs.Took.{takes-edition, takes-due, takes_count, takes-initial, takes-tran, takes-behavior, takes-port, takes-do, takes-rows, takes_all, end_back, on_value, on-rest, not_on, run-then, line-then}
+use Rattle.write_spec.proofs.Took.{takes-edition, takes-due, takes_count, takes-initial, takes-tran, takes-behavior, takes-port, takes-do, takes-rows, takes_all, end_back, on_value, on-rest, run-then, line-then}
 
 -- the arrays have their lengths
 record Whole (t : Tables) : Type 0 where

@@ -1,14 +1,14 @@
 -- The columns of the tables as the lines fill them, slot by slot.
 -- Assumes nothing.
-use Prim.Native.Nat.{ℕ, zero, suc, ◌+◌, ◌*◌, ◌≤◌, ◌<◌}
-use mathlib.Core.List.{List, [], ◌∷◌}
-use mathlib.Core.Bool.{Bool, true, false, ◌&&◌, ◌||◌, cond, or-false, or-true}
+use Prim.Native.Nat.{ℕ, zero, suc, ◌≤◌}
+use mathlib.Core.List.{◌∷◌}
+use mathlib.Core.Bool.{Bool, false, ◌&&◌, ◌||◌, cond, or-false, or-true}
 use mathlib.Core.Path.{◌≡◌, refl, sym, ap, ap₂, ◌∙◌}
-use mathlib.Core.Logic.{◌≢◌, by_cases}
+use mathlib.Core.Logic.{by_cases}
 use native.Mathlib.Omega.{arith}
 use native.Mathlib.Decide.{ℕ_discrete, dec_lt}
 use lib.Dec.{eqb, leb, ltb, eqb-suc-suc, eqb-zero-suc, eqb-suc-zero}
-use lib.ListN.{get_or, set, replicate}
+use lib.ListN.{set, replicate}
 use borrow.Author.Tests.{eq-eqb, ne_eqb, eqb-true, lt-ltb, le-ltb, le-leb, lt-leb}
 use Rattle.item_spec.proofs.Tests.{by-test}
 use Rattle.model.specs.View.{list_of}

@@ -1,7 +1,7 @@
 -- Tables and a program of which no line is refused are lawful.
 -- Assumes nothing.
-use Prim.Native.Nat.{ℕ, ◌+◌, ◌*◌, ◌<◌}
-use mathlib.Core.Bool.{Bool, true, false, not, ◌&&◌, ◌||◌, cond}
+use Prim.Native.Nat.{ℕ, ◌+◌, ◌*◌}
+use mathlib.Core.Bool.{Bool, true, false, not, ◌&&◌, ◌||◌}
 use mathlib.Core.Path.{◌≡◌, refl}
 use native.Mathlib.Omega.{arith}
 use lib.Dec.{eqb}
@@ -15,7 +15,7 @@ use Rattle.model.specs.View.{type_of}
 use Rattle.model.specs.Verb.{add_verb, del_verb, pushb_verb, con_verb, dcon_verb, wait_verb, push_ticket_verb, wait_ticket_verb}
 use Rattle.read_spec.specs.Limits.{depth_ok, types_ok, places_ok, transitions_ok, behaviors_ok, ports_ok, program_ok, mask_ok, end_ok, ends_ok, initial_ok, use_ok, kind_ok, id_ok, port_ok, type_ok, behavior_ok, ticket_ok, has_tickets, edition_ok}
 use Rattle.read_spec.specs.Lawful.{transition_lawful, behavior_lawful, port_lawful, type_lawful, tables_lawful, instruction_lawful, program_lawful, Lawful}
-use Rattle.rules_spec.specs.Refusal.{◌⇒◌∣◌, or_number}
+use Rattle.rules_spec.specs.Refusal.{◌⇒◌∣◌}
 use Rattle.write_spec.specs.Kinds.{limit_fault, edition_fault, initial_fault, tran_fault, behavior_fault, port_fault, do_fault}
 use Rattle.write_spec.specs.Texts.{first_of, transition_row, behavior_row, port_row, instruction_row, type_fault, sheet_fault}
 use Rattle.write_spec.proofs.Turns.{or-both, first-zero, limit-met, clauses-met}

@@ -1,31 +1,27 @@
 -- Lawful tables and a lawful program have a sheet: none of their lines is refused, and their numbers have few digits.
 -- Assumes nothing.
-use Prim.Native.Nat.{ℕ, zero, suc, ◌+◌, ◌-◌, ◌*◌, ◌^◌, ◌≤◌, ◌<◌}
-use mathlib.Core.List.{List, []}
-use mathlib.Core.Bool.{Bool, true, false, not, ◌&&◌, ◌||◌, cond, and-eq-true_iff, false≢true}
-use mathlib.Core.Path.{◌≡◌, refl, sym, ap, subst, ◌∙◌}
+use Prim.Native.Nat.{ℕ, ◌+◌, ◌-◌, ◌*◌, ◌^◌, ◌≤◌, ◌<◌}
+use mathlib.Core.Bool.{Bool, true, false, not, ◌&&◌, ◌||◌, and-eq-true_iff, false≢true}
+use mathlib.Core.Path.{◌≡◌, refl}
 use native.Mathlib.Omega.{arith}
-use native.Mathlib.Nat.{lt_of_lt_of_le, zero-add}
+use native.Mathlib.Nat.{lt_of_lt_of_le}
 use lib.Pow.{pow_mono}
 use lib.Dec.{eqb, leb}
-use lib.ListN.{get_or}
 use borrow.Author.Tests.{leb-true, ltb-true, eqb-true, not-true}
-use Rattle.sets.specs.Test.{all_below}
 use Rattle.sets.proofs.Laws.{all-at}
 use Rattle.item_spec.proofs.Tests.{by-test, or-not}
 use Rattle.model.specs.declared.Tables.{Tables}
 use Rattle.model.specs.declared.Instruction.{Instruction}
 use Rattle.model.specs.declared.Program.{Program}
-use Rattle.model.specs.Empty.{no_instruction}
 use Rattle.model.specs.View.{type_of}
 use Rattle.model.specs.Verb.{add_verb, del_verb, pushb_verb, con_verb, dcon_verb, wait_verb, push_ticket_verb, wait_ticket_verb}
-use Rattle.read_spec.specs.Limits.{depth_ok, types_ok, places_ok, transitions_ok, behaviors_ok, ports_ok, program_ok, mask_ok, end_ok, ends_ok, initial_ok, use_ok, kind_ok, id_ok, port_ok, type_ok, behavior_ok, has_tickets, edition_ok}
+use Rattle.read_spec.specs.Limits.{depth_ok, types_ok, program_ok, mask_ok, end_ok, use_ok, kind_ok, id_ok, port_ok, behavior_ok, has_tickets, edition_ok}
 use Rattle.read_spec.specs.Lawful.{transition_lawful, behavior_lawful, port_lawful, type_lawful, tables_lawful, verb_lawful, instruction_lawful, program_lawful, Lawful}
-use Rattle.rules_spec.specs.Refusal.{◌⇒◌∣◌, or_number}
+use Rattle.rules_spec.specs.Refusal.{◌⇒◌∣◌}
 use Rattle.rules_spec.proofs.Tables.{Kept, kept}
 use Rattle.write_spec.specs.Kinds.{limit_fault, edition_fault, initial_fault, tran_fault, behavior_fault, port_fault, do_fault}
-use Rattle.write_spec.specs.Texts.{transition_row, behavior_row, port_row, instruction_row, type_fault, sheet_text, sheet_fault}
-use Rattle.write_spec.specs.Cleared.{cleared, spoken, cleared_program}
+use Rattle.write_spec.specs.Texts.{transition_row, behavior_row, port_row, instruction_row, type_fault, sheet_fault}
+use Rattle.write_spec.specs.Cleared.{spoken}
 use Rattle.write_spec.specs.Round.{Digits, Mask, DigitsOf, Held}
 use Rattle.write_spec.proofs.Turns.{first-none}
 

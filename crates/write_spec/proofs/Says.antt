@@ -2,16 +2,15 @@
 -- as a where n is 0, and else refuses it with n. `Says`: the same of a run of lines.
 -- Assumes nothing.
 use Prim.Native.Nat.{ℕ, zero, suc, ◌+◌, ◌<◌, ◌≤◌}
-use mathlib.Core.List.{List, [], ◌∷◌, ◌++◌, append_assoc, append-nil}
-use mathlib.Core.Bool.{Bool, true, false, cond}
+use mathlib.Core.List.{List, [], ◌++◌, append_assoc, append-nil}
 use mathlib.Core.Path.{◌≡◌, refl, sym, ap, ◌∙◌}
 use mathlib.Core.Logic.{◌≢◌, by_cases}
 use native.Mathlib.Omega.{arith}
 use native.Mathlib.Decide.{ℕ_discrete}
 use native.Mathlib.Nat.{add-zero, zero-add}
 use Rattle.item_spec.specs.Write.{in_turn}
-use Rattle.item_spec.specs.Reader.{Reply, got, refused, Reader, read_on}
-use Rattle.read_spec.specs.Lines.{Run, on, stop, Lines, run_on, line, line_of, each, at_end}
+use Rattle.item_spec.specs.Reader.{got, refused, Reader}
+use Rattle.read_spec.specs.Lines.{on, stop, Lines, run_on, line, line_of, each, at_end}
 use Rattle.read_spec.specs.Lines.{hand_on}
 use Rattle.rules_spec.specs.Refusal.{or_number}
 use Rattle.write_spec.specs.Texts.{first_of}

@@ -1,13 +1,11 @@
 -- A list of steps and its text.
 -- Assumes nothing.
 use Prim.Native.Nat.{ℕ, zero, suc, ◌+◌, ◌≤◌, ◌<◌}
-use mathlib.Core.Bool.{true, cond}
 use mathlib.Core.List.{List, [], ◌∷◌, ◌++◌, append_assoc}
-use mathlib.Core.Path.{◌≡◌, refl, sym, ap, ap₂, subst, ◌∙◌}
+use mathlib.Core.Path.{◌≡◌, refl, sym, ap, ap₂, ◌∙◌}
 use native.Mathlib.Omega.{arith}
 use native.Mathlib.Nat.{zero-add}
-use lib.Dec.{ltb}
-use lib.ListN.{length, take, get_or, length-append, length-take}
+use lib.ListN.{length, take, get_or, length-append}
 use lib.Seq.{get_or-take, ext_get_or, length-take-le}
 use borrow.Author.Tests.{lt-ltb, le-leb}
 use Rattle.item_spec.specs.Reader.{bytes}
@@ -15,10 +13,8 @@ use Rattle.item_spec.specs.Write.{in_turn}
 use Rattle.model.specs.declared.Step.{Step}
 use Rattle.model.specs.declared.Answer.{Answer}
 use Rattle.model.specs.Empty.{no_step}
-use Rattle.model.specs.View.{list_of, steps_of}
+use Rattle.model.specs.View.{steps_of}
 use Rattle.model.proofs.View.{list_at, length-list}
-use Rattle.read_spec.specs.Lines.{on}
-use Rattle.read_spec.specs.Texts.{answer}
 use Rattle.report_spec.specs.Report.{count_text}
 use Rattle.write_spec.specs.Kinds.{step_text, step_fault}
 use Rattle.write_spec.specs.Texts.{step_row, answer_text, answer_fault, of_steps}

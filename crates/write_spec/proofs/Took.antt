@@ -9,7 +9,7 @@ use native.Mathlib.Nat.{zero-add}
 use lib.Dec.{eqb}
 use borrow.Author.Tests.{leb-true, eqb-true}
 use Rattle.item_spec.specs.Reader.{Reply, Reader, got, refused, read_on, bytes, give, check}
-use Rattle.item_spec.specs.Read.{key, given, upon, one_form, two_form, three_form, four_form, Set, list_form, lists_form}
+use Rattle.item_spec.specs.Read.{key, upon, one_form, two_form, three_form, four_form, list_form, lists_form}
 use Rattle.item_spec.specs.Write.{in_turn, one_text, two_text, three_text, four_text}
 use Rattle.item_spec.proofs.Tests.{and_left, and_right}
 use Rattle.item_spec.proofs.Laws.{not-got, got-value, got-rest, bound-to}
@@ -23,7 +23,7 @@ use Rattle.read_spec.specs.Lines.{hand_on}
 use Rattle.read_spec.specs.Kinds.{edition_line, due_line, count_line_in, count_line, initial_line, tran_line, behavior_line, group, port_line, an_instruction, do_id, do_number, do_ends, do_ticketed, do_wait, do_push_in, do_wait_in, do_line, a_step, step_id, step_number, step_line}
 use Rattle.read_spec.proofs.Slots.{Slots, Sound}
 use Rattle.report_spec.specs.Report.{count_text}
-use Rattle.write_spec.specs.Kinds.{initial_text, tran_text, behavior_text, port_line_text, do_text, step_text, set_text, sets_text}
+use Rattle.write_spec.specs.Kinds.{initial_text, tran_text, behavior_text, port_line_text, do_text, step_text, sets_text}
 use Rattle.write_spec.proofs.Turns.{in_turn_from, turn-from}
 
 -- ---- lines

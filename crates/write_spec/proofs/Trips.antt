@@ -1,15 +1,10 @@
 -- The round trips of both texts, and what a writer promises of a lent buffer holds of one answer only.
 -- Assumes nothing.
 use Prim.Native.Nat.{ℕ, ◌+◌, ◌≤◌}
-use mathlib.Core.Bool.{true}
 use mathlib.Core.List.{List, [], ◌++◌}
-use mathlib.Core.Path.{◌≡◌, sym, ap, ap₂, ◌∙◌}
-use mathlib.Core.Logic.{◌≢◌}
+use mathlib.Core.Path.{◌≡◌, sym, ap, ◌∙◌}
 use native.Mathlib.Omega.{arith}
 use lib.ListN.{length, drop, length-append}
-use Rattle.model.specs.declared.Tables.{Tables}
-use Rattle.model.specs.declared.Program.{Program}
-use Rattle.model.specs.declared.Answer.{Answer}
 use Rattle.read_spec.specs.Lines.{on}
 use Rattle.read_spec.specs.Lawful.{SheetsAreLawful, AnswersAreLawful}
 use Rattle.read_spec.proofs.Lawful.{sheets-are-lawful, answers-are-lawful}

@@ -1,6 +1,4 @@
-use mathlib.Core.Path.{◌≡◌, ap, ◌∙◌}
-use Rattle.sets.specs.Mask.{member}
-use Rattle.aeolus_model.specs.Words.{configuration_in}
+use mathlib.Core.Path.{◌∙◌}
 use Rattle.aeolus_correct.proofs.Members.{asked-all, asked-used}
 use borrow.Author.Rules.{rules}
 use Rattle.aeolus_correct.proofs.asked_of.Statement.{statement}

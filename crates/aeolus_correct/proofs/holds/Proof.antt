@@ -1,8 +1,6 @@
 -- What is asked of those that are left is what is asked of all.
-use Prim.Native.Nat.{ℕ}
 use mathlib.Core.Path.{◌≡◌, refl, sym, ◌∙◌}
 use mathlib.Core.Bool.{Bool, true, false}
-use borrow.Author.Tests.{not-true, not-false}
 use Rattle.sets.specs.Mask.{least}
 use Rattle.sets.proofs.Members.{Rest, rest-start, rest-later, left, left_less, least_lt}
 use Rattle.aeolus_model.specs.Words.{universe_in, configuration_in}

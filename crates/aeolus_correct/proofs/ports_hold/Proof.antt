@@ -3,7 +3,6 @@ use mathlib.Core.Path.{◌≡◌, sym, ap, ◌∙◌}
 use mathlib.Core.Bool.{true}
 use Rattle.sets.specs.Test.{all_below}
 use Rattle.sets.proofs.Laws.{all_start, all_more, all-miss, all_end}
-use borrow.Author.Tests.{not-true, not-false}
 use Rattle.aeolus_model.specs.Words.{universe_in, configuration_in}
 use Rattle.aeolus_rules_spec.specs.Correct.{port_holds}
 use borrow.Author.Rules.{rules}

@@ -1,5 +1,4 @@
 use mathlib.Core.Path.{sym, ◌∙◌}
-use borrow.Author.Tests.{not-true, not-false}
 use Rattle.aeolus_correct.proofs.Places.{bound-there, bound-nowhere, bound-absent}
 use Rattle.aeolus_model.specs.Words.{universe_in, configuration_in}
 use borrow.Author.Rules.{rules}

@@ -1,12 +1,9 @@
 -- The targets of those that are behind stand in the table.
-use Prim.Native.Nat.{ℕ, ◌<◌}
-use mathlib.Core.Path.{◌≡◌, refl}
+use mathlib.Core.Path.{refl}
 use mathlib.Core.Bool.{true, false}
 use native.Mathlib.Omega.{arith}
-use lib.ListN.{length, get_or}
 use Rattle.sets.proofs.Members.{Rest, rest-start, rest-later, left, left_less, least_lt}
 use Rattle.aeolus_model.specs.Words.{universe_in, configuration_in}
-use Rattle.aeolus_correct.specs.Users.{targets_of, Targets}
 use Rattle.aeolus_correct.proofs.Users.{Filled, filled_none, filled_more, filled-all}
 use borrow.Author.Rules.{rules}
 use Rattle.aeolus_correct.proofs.reach_of.Statement.{statement}

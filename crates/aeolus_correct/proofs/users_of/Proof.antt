@@ -6,7 +6,6 @@ use native.Mathlib.Omega.{arith}
 use lib.ListN.{get_or}
 use Rattle.sets.specs.Mask.{member, collect, with, least}
 use Rattle.sets.proofs.Members.{Rest, rest-start, rest-later, left, left_less, least_lt, behind, members-start, members-in, members-out, members-end}
-use Rattle.aeolus_model.specs.Words.{configuration_in}
 use borrow.Author.Rules.{rules}
 use Rattle.aeolus_correct.proofs.users_of.Statement.{statement}
 use Rattle.aeolus_correct.proofs.users_of.Tie as tie

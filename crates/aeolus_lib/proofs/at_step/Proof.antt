@@ -1,7 +1,6 @@
 use native.Mathlib.Omega.{arith}
 use borrow.Author.Tests.{eq-eqb, ne_eqb}
 use Rattle.aeolus_judge_spec.specs.Judged.{at_step}
-use borrow.Author.Rules.{rules}
 use Rattle.aeolus_lib.proofs.at_step.Statement.{statement}
 use Rattle.aeolus_lib.proofs.at_step.Tie as tie
 

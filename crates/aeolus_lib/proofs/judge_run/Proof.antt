@@ -1,6 +1,6 @@
 use mathlib.Core.Path.{sym, ◌∙◌}
 use Rattle.write_items.proofs.Laws.{fits_all}
-use borrow.Author.Tests.{not-true, not-false, leb-true}
+use borrow.Author.Tests.{leb-true}
 use Rattle.judge_spec.specs.Judged.{over}
 use Rattle.aeolus_model.specs.Words.{universe_in, configuration_in}
 use Rattle.aeolus_write_report.specs.Ran.{ran}

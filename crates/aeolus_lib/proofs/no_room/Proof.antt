@@ -1,6 +1,5 @@
 use mathlib.Core.Path.{refl}
 use Rattle.aeolus_judge_spec.specs.Judged.{no_room}
-use borrow.Author.Rules.{rules}
 use Rattle.aeolus_lib.proofs.no_room.Statement.{statement}
 use Rattle.aeolus_lib.proofs.no_room.Tie as tie
 

@@ -1,7 +1,4 @@
 use mathlib.Core.Path.{sym, ◌∙◌}
-use native.Mathlib.Omega.{arith}
-use borrow.Author.Tests.{not-true, not-false}
-use mathlib.Core.Path.{refl}
 use Rattle.aeolus_judge_spec.specs.Judged.{no_room, after_run, in_room}
 use borrow.Author.Rules.{rules}
 use Rattle.aeolus_lib.proofs.run_place.Statement.{statement}

@@ -1,11 +1,10 @@
-use Prim.Native.Nat.{ℕ, ◌≤◌, ◌<◌, ◌-◌}
-use mathlib.Core.Path.{◌≡◌, refl, sym, ap, ◌∙◌}
+use Prim.Native.Nat.{◌≤◌, ◌<◌, ◌-◌}
+use mathlib.Core.Path.{◌≡◌, sym, ◌∙◌}
 use mathlib.Core.Bool.{true≢false}
 use mathlib.Core.Logic.{inl, inr, by_cases}
 use native.Mathlib.Omega.{arith}
 use native.Mathlib.Decide.{dec_lt}
-use borrow.Author.Tests.{not-true}
-use Rattle.aeolus_model.specs.Model.{type_of, kind_of}
+use Rattle.aeolus_model.specs.Model.{kind_of}
 use Rattle.aeolus_model.specs.Words.{universe_in, configuration_in}
 use Rattle.aeolus_write_report.specs.Names.{Next}
 use Rattle.aeolus_write_report.proofs.Names.{next-none, next_more, next-less}

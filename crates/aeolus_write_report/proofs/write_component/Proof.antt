@@ -1,5 +1,4 @@
 use mathlib.Core.Path.{sym, ◌∙◌}
-use borrow.Author.Tests.{not-true, not-false}
 use Rattle.aeolus_judge_spec.specs.Report.{component_text, component_at}
 use Rattle.write_report.proofs.Parts.{line-there, line-absent}
 use borrow.Author.Rules.{rules}

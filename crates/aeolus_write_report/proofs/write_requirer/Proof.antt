@@ -1,5 +1,4 @@
 use mathlib.Core.Path.{sym, ◌∙◌}
-use borrow.Author.Tests.{not-true, not-false}
 use Rattle.aeolus_judge_spec.specs.Report.{bindings_at}
 use Rattle.write_report.proofs.Parts.{line-there, line-absent}
 use Rattle.aeolus_write_report.proofs.Tests.{first-fails, second-fails, both_hold}

@@ -1,4 +1,4 @@
-use mathlib.Core.Path.{◌≡◌, ap, ◌∙◌}
+use mathlib.Core.Path.{ap, ◌∙◌}
 use borrow.Author.Rules.{rules}
 use Rattle.foretell_spec.specs.Names.{foretold, foretold_from}
 use Rattle.foretell_lib.proofs.foretell_program.Statement.{statement}

@@ -1,5 +1,4 @@
 use borrow.Author.Tests.{eq-eqb, ne_eqb}
-use borrow.Author.Rules.{rules}
 use Rattle.form_cells.proofs.cell_byte.Statement.{statement}
 use Rattle.form_cells.proofs.cell_byte.Tie as tie
 

@@ -3,7 +3,7 @@ use mathlib.Core.Path.{◌≡◌, refl, sym, ◌∙◌}
 use native.Mathlib.Omega.{arith}
 use lib.ListN.{length, drop}
 use Rattle.form_cells.specs.Cells.{separator_of}
-use Rattle.form_cells.proofs.Laws.{not_on, not-off, separator-found, separator-later, separator-none}
+use Rattle.form_cells.proofs.Laws.{separator-found, separator-later, separator-none}
 use borrow.Author.Rules.{rules}
 use Rattle.form_cells.proofs.separator.Statement.{statement}
 use Rattle.form_cells.proofs.separator.Tie as tie

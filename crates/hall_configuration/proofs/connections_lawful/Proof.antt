@@ -1,5 +1,5 @@
 use mathlib.Core.Path.{◌≡◌, sym, ◌∙◌}
-use mathlib.Core.Bool.{Bool, ◌&&◌}
+use mathlib.Core.Bool.{Bool}
 use Prim.Native.Nat.{◌-◌}
 use borrow.Author.Tests.{lt-leb, le-leb}
 use Rattle.sets.specs.Test.{all_below}

@@ -1,4 +1,3 @@
-use borrow.Author.Tests.{not-true, not-false}
 use Rattle.hall_configuration.specs.Lawful.{instance_lawful}
 use borrow.Author.Rules.{rules}
 use Rattle.hall_configuration.proofs.instance_lawful.Statement.{statement}

@@ -1,4 +1,3 @@
-use mathlib.Core.Path.{◌≡◌}
 use Rattle.read_spec.specs.Lawful.{instruction_lawful}
 use borrow.Author.Rules.{rules}
 use Rattle.hall_lawful.proofs.instruction_lawful.Statement.{statement}

@@ -3,7 +3,7 @@ use native.Mathlib.Omega.{arith}
 use lib.Dec.{leb}
 use lib.ListN.{length}
 use Rattle.write_items.proofs.Laws.{fits_all}
-use borrow.Author.Tests.{not-true, not-false, leb-true}
+use borrow.Author.Tests.{leb-true}
 use Rattle.judge_spec.specs.Judged.{no_room, after_walk, in_room, over}
 use Rattle.words.specs.Words.{state_in}
 use Rattle.step_walk.specs.Reached.{walked}

@@ -1,4 +1,3 @@
-use mathlib.Core.Path.{◌≡◌}
 use Rattle.judge_lib.proofs.Printed.{shown-prints}
 use borrow.Author.Rules.{rules}
 use Rattle.judge_lib.proofs.print.Statement.{statement}

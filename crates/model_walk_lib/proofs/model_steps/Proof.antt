@@ -1,7 +1,5 @@
 -- The first k steps are written down, and the state is where they lead.
-use mathlib.Core.Path.{◌≡◌, refl, ap, ◌∙◌}
-use Prim.Native.Nat.{ℕ, ◌≤◌, ◌-◌}
-use native.Mathlib.Omega.{arith}
+use Prim.Native.Nat.{◌≤◌, ◌-◌}
 use borrow.Author.Rules.{rules}
 use Rattle.words.specs.Words.{tables_in, state_in, program_from, answer_in}
 use Rattle.step_walk.specs.Fits.{PortsFit}

@@ -1,5 +1,5 @@
 -- `model_walk_lib::write_model` meets its contract: the answer's words hold the model's steps, and their text goes into the lent buffer.
-use mathlib.Core.Path.{◌≡◌, refl}
+use mathlib.Core.Path.{refl}
 use native.Mathlib.Omega.{arith}
 use borrow.Author.Rules.{rules}
 use Rattle.words.specs.Words.{tables_in, program_from, state_in, answer_in}

@@ -1,5 +1,4 @@
 use borrow.Author.Tests.{eq-eqb, ne_eqb}
-use borrow.Author.Rules.{rules}
 use Rattle.outcome_lib.proofs.after_steps.Statement.{statement}
 use Rattle.outcome_lib.proofs.after_steps.Tie as tie
 

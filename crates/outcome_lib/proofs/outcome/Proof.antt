@@ -1,5 +1,5 @@
 -- The readers' answers are the texts' course, the walk is its walk, and the words say the sheet's program.
-use mathlib.Core.Path.{◌≡◌, ap, ◌∙◌}
+use mathlib.Core.Path.{ap, ◌∙◌}
 use Rattle.model.specs.declared.Tables.{Tables}
 use Rattle.model.specs.declared.Program.{Program}
 use Rattle.read_chain.specs.Whole.{Whole}

@@ -1,6 +1,6 @@
 use Rattle.write_items.proofs.Laws.{none, then, length-written}
 use borrow.Author.Tests.{lt-ltb, le-ltb}
-use Rattle.page_spec.specs.Page.{next_line, instruction_line}
+use Rattle.page_spec.specs.Page.{instruction_line}
 use Rattle.page_spec.specs.Piece.{piece_text, page_text}
 use Rattle.page_lib.proofs.FirstBytes.{next-is}
 use borrow.Author.Rules.{rules}

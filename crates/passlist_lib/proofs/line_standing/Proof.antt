@@ -1,5 +1,4 @@
 use borrow.Author.Rules.{rules}
-use mathlib.Core.Path.{◌≡◌}
 use borrow.Author.Tests.{eq-eqb, ne_eqb}
 use Rattle.passlist_spec.specs.Listed.{line_standing}
 use Rattle.passlist_lib.proofs.line_standing.Statement.{statement}

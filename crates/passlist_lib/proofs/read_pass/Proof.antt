@@ -1,9 +1,5 @@
 use borrow.Author.Rules.{rules}
-use mathlib.Core.Path.{◌≡◌, ap, ◌∙◌}
-use Rattle.item_spec.specs.Reader.{Reply, got, refused}
 use Rattle.read_items.proofs.Laws.{told}
-use Rattle.passlist_spec.specs.declared.Mark.{Mark}
-use Rattle.passlist_spec.specs.Standing.{pass_of, pass_in}
 use Rattle.passlist_lib.specs.Says.{mark_says}
 use Rattle.passlist_lib.proofs.Laws.{pass-fault, pass-is}
 use Rattle.passlist_lib.proofs.read_pass.Statement.{statement}

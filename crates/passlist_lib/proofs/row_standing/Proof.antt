@@ -1,5 +1,5 @@
 use borrow.Author.Rules.{rules}
-use mathlib.Core.Path.{◌≡◌, ap, ◌∙◌, refl}
+use mathlib.Core.Path.{◌∙◌, refl}
 use Rattle.item_spec.specs.Reader.{give}
 use Rattle.read_items.specs.Says.{due_says}
 use Rattle.read_items.proofs.Laws.{told}

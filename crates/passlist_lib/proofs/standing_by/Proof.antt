@@ -1,5 +1,4 @@
 use borrow.Author.Rules.{rules}
-use Rattle.passlist_spec.specs.Standing.{standing_by}
 use Rattle.passlist_lib.proofs.standing_by.Statement.{statement}
 use Rattle.passlist_lib.proofs.standing_by.Tie as tie
 

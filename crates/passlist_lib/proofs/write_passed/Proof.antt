@@ -1,5 +1,5 @@
 use borrow.Author.Rules.{rules}
-use lib.ListN.{take, length-take}
+use lib.ListN.{length-take}
 use native.Mathlib.Omega.{arith}
 use Rattle.write_items.proofs.Laws.{then, length-written}
 use Rattle.passlist_spec.specs.Standing.{passed_line}

@@ -1,7 +1,7 @@
 use Prim.Native.Nat.{zero-le}
 use mathlib.Core.Path.{◌≡◌, sym}
 use Rattle.item_spec.specs.Reader.{refused, bytes}
-use Rattle.item_spec.specs.Read.{given, key, upon}
+use Rattle.item_spec.specs.Read.{given, key}
 use Rattle.read_items.specs.Says.{due_says}
 use Rattle.read_items.proofs.Laws.{told}
 use Rattle.read_spec.specs.Kinds.{step_line}

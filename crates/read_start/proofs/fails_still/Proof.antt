@@ -1,5 +1,4 @@
-use mathlib.Core.Path.{refl, sym, ◌∙◌}
-use borrow.Author.Tests.{not-true, not-false}
+use mathlib.Core.Path.{sym, ◌∙◌}
 use Rattle.start_spec.specs.Served.{fails_still}
 use borrow.Author.Rules.{rules}
 use Rattle.read_start.proofs.fails_still.Statement.{statement}

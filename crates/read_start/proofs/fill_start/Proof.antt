@@ -1,5 +1,4 @@
-use mathlib.Core.Path.{◌≡◌, refl, sym, ap, ◌∙◌}
-use borrow.Author.Tests.{not-true, not-false}
+use mathlib.Core.Path.{sym, ◌∙◌}
 use Rattle.read_start.proofs.Laws.{start-stopped, start-fifty, start-served}
 use borrow.Author.Rules.{rules}
 use Rattle.read_start.proofs.fill_start.Statement.{statement}

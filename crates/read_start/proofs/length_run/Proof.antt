@@ -1,5 +1,4 @@
 use Rattle.read_start.proofs.Laws.{start-long, start_fits}
-use borrow.Author.Rules.{rules}
 use Rattle.read_start.proofs.length_run.Statement.{statement}
 use Rattle.read_start.proofs.length_run.Tie as tie
 

@@ -1,4 +1,3 @@
-use mathlib.Core.Path.{sym}
 use Rattle.start_spec.specs.Text.{start_lines}
 use Rattle.read_chain.proofs.Chain.{run-after, after_then, after-give}
 use Rattle.read_start.specs.Start.{start_run}

@@ -1,4 +1,3 @@
-use borrow.Author.Tests.{not-true, not-false}
 use Rattle.write_items.proofs.Laws.{then}
 use borrow.Author.Rules.{rules}
 use Rattle.sitting_lib.proofs.write_asked.Statement.{statement}

@@ -1,5 +1,4 @@
 use mathlib.Core.Path.{sym, ◌∙◌}
-use borrow.Author.Tests.{not-true, not-false}
 use Rattle.model.specs.View.{instance}
 use Rattle.rules_spec.specs.Ports.{refusing}
 use Rattle.words.specs.Words.{tables_in, state_in}

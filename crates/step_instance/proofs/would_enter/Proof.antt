@@ -1,5 +1,3 @@
-use mathlib.Core.Path.{ap}
-use mathlib.Core.Bool.{not, ◌&&◌}
 use borrow.Author.Tests.{eq-eqb, ne_eqb}
 use Rattle.rules_spec.specs.Instance.{active, entered}
 use Rattle.rules_spec.specs.Ports.{would_enter}

@@ -1,5 +1,3 @@
-use mathlib.Core.Path.{ap}
-use mathlib.Core.Bool.{not, ◌&&◌, ◌||◌}
 use borrow.Author.Tests.{eq-eqb, ne_eqb, lt-ltb, le-ltb}
 use Rattle.rules_spec.specs.Instance.{active, fired}
 use Rattle.step_instance.specs.Alone.{leaves_by}

@@ -1,5 +1,5 @@
 -- No port below q is unconnected.
-use Rattle.std.proofs.Common.{◌≡◌, ℕ, ◌-◌, ◌≤◌, Bool, false, sym, refl, ap, ◌∙◌, le_antisymm, arith, rules}
+use Rattle.std.proofs.Common.{◌≡◌, ℕ, ◌-◌, ◌≤◌, Bool, false, sym, ap, ◌∙◌, le_antisymm, arith, rules}
 use Rattle.sets.specs.Test.{any_below, lowest}
 use Rattle.sets.proofs.Laws.{any-start, any-more, any_none}
 use Rattle.sets.proofs.Lowest.{lowest-is, lowest-none}

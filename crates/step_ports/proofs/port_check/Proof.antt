@@ -1,7 +1,6 @@
-use Rattle.std.proofs.Common.{◌≡◌, sym, refl, ap, ◌∙◌, rules}
+use Rattle.std.proofs.Common.{sym, refl, ap, ◌∙◌, rules}
 use Rattle.model.specs.View.{instance}
 use Rattle.words.specs.Words.{tables_in, state_in}
-use Rattle.step_ports.specs.declared.Sets.{Sets}
 use Rattle.step_ports.specs.Turns.{ports_refusal, sets_of, turned}
 use Rattle.step_ports.proofs.Ports.{ports-check, same-sets, turned-held}
 use Rattle.step_ports.proofs.port_check.Statement.{statement}

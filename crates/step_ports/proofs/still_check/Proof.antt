@@ -1,7 +1,7 @@
-use Rattle.std.proofs.Common.{sym, refl, ◌∙◌, rules}
+use Rattle.std.proofs.Common.{refl, ◌∙◌, rules}
 use Rattle.model.specs.View.{instance}
-use Rattle.words.specs.Words.{tables_in, state_in}
-use Rattle.step_ports.proofs.Ports.{ports-check, same-sets}
+use Rattle.words.specs.Words.{state_in}
+use Rattle.step_ports.proofs.Ports.{ports-check}
 use Rattle.step_ports.proofs.still_check.Statement.{statement}
 use Rattle.step_ports.proofs.still_check.Tie as tie
 

@@ -1,5 +1,4 @@
 use Rattle.std.proofs.Common.{◌≡◌, ◌-◌, ◌/◌, ◌%◌, not, ◌&&◌, eqb, rules, eq-eqb, ne_eqb}
-use borrow.Author.Tests.{not-true, not-false}
 use Rattle.model.specs.Empty.{no_server}
 use Rattle.model.specs.View.{instance}
 use Rattle.rules_spec.specs.Refusal.{◌⇒◌∣◌, allowed, unconnected, unserved, provider_refusing}

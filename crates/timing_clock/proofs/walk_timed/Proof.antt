@@ -1,5 +1,5 @@
 -- Before each step the walk has come to the step's number, with the clock beside it.
-use mathlib.Core.Path.{◌≡◌, sym, ap, ◌∙◌}
+use mathlib.Core.Path.{◌≡◌, ap, ◌∙◌}
 use mathlib.Core.List.{List}
 use Prim.Native.Nat.{ℕ, ◌≤◌, ◌<◌, ◌-◌, min}
 use native.Mathlib.Omega.{arith}

@@ -1,7 +1,7 @@
 use mathlib.Core.Path.{◌≡◌, refl, sym, ◌∙◌}
 use lib.Dec.{leb}
 use lib.ListN.{length}
-use borrow.Author.Tests.{not-true, not-false, leb-true}
+use borrow.Author.Tests.{leb-true}
 use Rattle.write_items.proofs.Laws.{fits_all}
 use Rattle.judge_spec.specs.Judged.{no_room, after_walk, in_room, over}
 use Rattle.words.specs.Words.{state_in}

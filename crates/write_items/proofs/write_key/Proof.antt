@@ -1,8 +1,8 @@
 -- The first i bytes of the key are written; what is left of those that have room falls.
-use Prim.Native.Nat.{◌≤◌, ◌-◌, ◌+◌, min}
+use Prim.Native.Nat.{◌≤◌, ◌-◌, ◌+◌}
 use mathlib.Core.Path.{◌≡◌}
 use native.Mathlib.Omega.{arith}
-use lib.ListN.{length, take, get_or}
+use lib.ListN.{take, get_or}
 use borrow.Author.Rules.{rules}
 use Rattle.write_items.specs.Written.{Written}
 use Rattle.write_items.proofs.Laws.{none, then, length-written, byte-stored, all_past, as_many}

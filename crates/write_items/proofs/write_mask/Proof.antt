@@ -1,11 +1,9 @@
 -- Whoever writes the members that are left has written the mask; the members left fall.
 use Prim.Native.Nat.{ℕ}
 use mathlib.Core.List.{List}
-use mathlib.Core.Path.{◌≡◌}
-use native.Mathlib.Omega.{arith}
 use borrow.Author.Rules.{rules}
 use Rattle.sets.proofs.Members.{Rest, rest-start, rest-later, left, left_less}
-use Rattle.item_spec.specs.Write.{members, more_text, mask_text}
+use Rattle.item_spec.specs.Write.{members, more_text}
 use Rattle.write_items.specs.Written.{Written}
 use Rattle.write_items.proofs.Laws.{none, then, length-written}
 use Rattle.write_items.proofs.Items.{mask-some, mask-none, more-some, more-none}

@@ -1,6 +1,6 @@
 -- The lines of the use ports below s are written, and those that are left are counted; what is left of the 512 falls.
-use Prim.Native.Nat.{ℕ, ◌+◌, ◌≤◌, ◌<◌, ◌-◌}
-use mathlib.Core.Path.{◌≡◌, refl, ap, sym, ◌∙◌}
+use Prim.Native.Nat.{ℕ, ◌+◌, ◌<◌, ◌-◌}
+use mathlib.Core.Path.{◌≡◌, refl, sym}
 use mathlib.Core.Logic.{⊎_elim, by_cases}
 use mathlib.Core.List.{List, []}
 use mathlib.Core.Bool.{true, false, not}
@@ -11,7 +11,6 @@ use borrow.Author.Tests.{eq-eqb, ne_eqb}
 use Rattle.sets.specs.Test.{tally}
 use Rattle.sets.proofs.Laws.{tally-start, tally-in, tally-out}
 use Rattle.model.specs.View.{server, is_served, connection_of}
-use Rattle.rules_spec.specs.Standing.{standing, in_table}
 use Rattle.rules_spec.proofs.Connections.{count-is}
 use Rattle.report_spec.specs.Report.{connection_text, connection_line}
 use Rattle.report_spec.proofs.Lines.{line_at, lines-in-turn}

@@ -1,5 +1,4 @@
 use borrow.Author.Tests.{le-leb, lt-leb}
-use borrow.Author.Rules.{rules}
 use Rattle.write_room.proofs.room_fault.Statement.{statement}
 use Rattle.write_room.proofs.room_fault.Tie as tie
 

@@ -1,5 +1,4 @@
 use borrow.Author.Tests.{eq-eqb, ne_eqb}
-use borrow.Author.Rules.{rules}
 use Rattle.write_verbs.proofs.is_foreign.Statement.{statement}
 use Rattle.write_verbs.proofs.is_foreign.Tie as tie
 

@@ -5,7 +5,6 @@ use Rattle.write_spec.specs.Kinds.{step_text, step_fault}
 use Rattle.write_lines.specs.Numbers.{numbers_text}
 use Rattle.write_verbs.specs.Verbs.{numbers_ok}
 use Rattle.write_verbs.proofs.Limits.{below}
-use borrow.Author.Rules.{rules}
 use Rattle.write_verbs.proofs.step_verb.Statement.{statement}
 use Rattle.write_verbs.proofs.step_verb.Tie as tie
 

@@ -1,5 +1,5 @@
 use Prim.Native.Nat.{◌≤◌, ◌-◌, ◌*◌, ◌+◌}
-use mathlib.Core.Path.{◌≡◌, sym, ap, ◌∙◌}
+use mathlib.Core.Path.{◌≡◌, sym, ◌∙◌}
 use native.Mathlib.Omega.{arith}
 use Rattle.aeolus_model.specs.Words.{configuration_in}
 use Rattle.aeolus_step.specs.Rows.{first_sizes}

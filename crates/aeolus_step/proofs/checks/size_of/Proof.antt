@@ -1,5 +1,4 @@
 use Rattle.aeolus_step.proofs.Rows.{ones-size}
-use borrow.Author.Rules.{rules}
 use Rattle.aeolus_step.proofs.checks.size_of.Statement.{statement}
 use Rattle.aeolus_step.proofs.checks.size_of.Tie as tie
 

@@ -1,4 +1,4 @@
-use mathlib.Core.Path.{◌≡◌, ◌∙◌}
+use mathlib.Core.Path.{◌∙◌}
 use borrow.Author.Rules.{rules}
 use Rattle.foretell_lib.proofs.Kept.{names-kept, instances-length, queue-length}
 use Rattle.foretell_lib.proofs.names.keep_names.Statement.{statement}

@@ -1,5 +1,4 @@
-use mathlib.Core.Bool.{◌&&◌, not}
-use lib.Dec.{eqb, leb}
+use lib.Dec.{leb}
 use borrow.Author.Rules.{rules}
 use Rattle.sets.specs.Test.{all_below}
 use Rattle.read_spec.specs.Limits.{places_ok, mask_ok, initial_ok}

@@ -1,4 +1,3 @@
-use mathlib.Core.Path.{◌≡◌}
 use borrow.Author.Rules.{rules}
 use Rattle.judge_lib.proofs.next.write_next.Statement.{statement}
 use Rattle.judge_lib.proofs.next.write_next.Tie as tie

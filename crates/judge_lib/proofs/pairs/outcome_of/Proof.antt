@@ -1,6 +1,5 @@
 use borrow.Author.Tests.{le-leb, lt-leb, eq-eqb, ne_eqb}
 use Rattle.judge_lib.specs.Came.{outcome_of}
-use borrow.Author.Rules.{rules}
 use Rattle.judge_lib.proofs.pairs.outcome_of.Statement.{statement}
 use Rattle.judge_lib.proofs.pairs.outcome_of.Tie as tie
 

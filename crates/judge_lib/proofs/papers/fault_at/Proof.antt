@@ -1,7 +1,6 @@
-use mathlib.Core.Path.{◌≡◌, ap}
+use mathlib.Core.Path.{ap}
 use Rattle.judge_spec.specs.declared.Verdict.{Verdict}
 use Rattle.judge_spec.specs.Judged.{after_fault}
-use Rattle.judge_lib.specs.declared.papers.PaperFault.{PaperFault}
 use borrow.Author.Rules.{rules}
 use Rattle.judge_lib.proofs.papers.fault_at.Statement.{statement}
 use Rattle.judge_lib.proofs.papers.fault_at.Tie as tie

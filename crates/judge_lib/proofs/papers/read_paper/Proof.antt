@@ -3,13 +3,13 @@ use mathlib.Core.Path.{◌≡◌, sym, ap, ◌∙◌}
 use Rattle.model.specs.declared.Tables.{Tables}
 use Rattle.model.specs.declared.Program.{Program}
 use Rattle.model.specs.declared.Configuration.{Configuration}
-use Rattle.model.specs.Empty.{no_tables, none_begun, no_program, start}
+use Rattle.model.specs.Empty.{no_tables, no_program, start}
 use Rattle.start_spec.specs.Paper.{Paper, paper}
 use Rattle.judge_spec.specs.Course.{paper_course}
-use Rattle.words.specs.Words.{tables_in, program_in, begun_in, program_from, state_in}
+use Rattle.words.specs.Words.{tables_in, program_from, state_in}
 use Rattle.judge_lib.specs.declared.papers.PaperFault.{PaperFault}
 use Rattle.judge_lib.specs.Came.{came}
-use Rattle.judge_lib.specs.Alone.{paper_fault, said_by}
+use Rattle.judge_lib.specs.Alone.{paper_fault}
 use Rattle.judge_lib.proofs.Alone.{outcome-opens, words-say, words-clear, fault-told}
 use borrow.Author.Rules.{rules}
 use Rattle.judge_lib.proofs.papers.read_paper.Statement.{statement}

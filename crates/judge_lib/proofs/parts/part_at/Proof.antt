@@ -1,4 +1,3 @@
-use mathlib.Core.Path.{sym, subst}
 use Rattle.judge_lib.proofs.Places.{elsewhere}
 use borrow.Author.Rules.{rules}
 use Rattle.judge_lib.proofs.parts.part_at.Statement.{statement}

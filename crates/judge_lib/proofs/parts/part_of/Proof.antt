@@ -1,5 +1,4 @@
 use mathlib.Core.Path.{refl}
-use native.Mathlib.Omega.{arith}
 use Rattle.judge_lib.proofs.Places.{part-taken}
 use borrow.Author.Rules.{rules}
 use Rattle.judge_lib.proofs.parts.part_of.Statement.{statement}

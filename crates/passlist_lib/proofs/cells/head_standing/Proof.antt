@@ -1,5 +1,5 @@
 use borrow.Author.Rules.{rules}
-use mathlib.Core.Path.{sym, ap, ◌∙◌}
+use mathlib.Core.Path.{ap}
 use Rattle.read_items.specs.Says.{due_says}
 use Rattle.read_items.proofs.Laws.{told}
 use Rattle.item_spec.specs.Read.{key}

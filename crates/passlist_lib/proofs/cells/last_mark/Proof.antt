@@ -1,9 +1,8 @@
 use borrow.Author.Rules.{rules}
 use mathlib.Core.Path.{refl}
-use Rattle.item_spec.specs.Reader.{give, read_on}
+use Rattle.item_spec.specs.Reader.{give}
 use Rattle.read_items.specs.Says.{due_says}
 use Rattle.read_items.proofs.Laws.{told}
-use Rattle.passlist_spec.specs.declared.Mark.{Mark}
 use Rattle.passlist_spec.specs.Row.{mark_or, over, last_mark}
 use Rattle.passlist_lib.specs.Says.{mark_says}
 use Rattle.passlist_lib.proofs.Laws.{then_over, read-fault, read-then}

@@ -1,6 +1,4 @@
 use borrow.Author.Rules.{rules}
-use mathlib.Core.Path.{refl}
-use native.Mathlib.Omega.{arith}
 use Rattle.item_spec.specs.Reader.{bytes, no_line}
 use Rattle.read_items.specs.Says.{due_says}
 use Rattle.read_items.proofs.Laws.{told}

@@ -1,5 +1,4 @@
 use borrow.Author.Tests.{eq-eqb, ne_eqb}
-use borrow.Author.Rules.{rules}
 use Rattle.read_items.proofs.numbers.end_of.Statement.{statement}
 use Rattle.read_items.proofs.numbers.end_of.Tie as tie
 

@@ -2,7 +2,6 @@ use native.Mathlib.Omega.{arith}
 use lib.Dec.{leb}
 use borrow.Author.Tests.{leb-true}
 use Rattle.item_spec.proofs.Tests.{and_right}
-use borrow.Author.Rules.{rules}
 use Rattle.read_sheet.proofs.filled.counted_run.Statement.{statement}
 use Rattle.read_sheet.proofs.filled.counted_run.Tie as tie
 

@@ -1,13 +1,12 @@
-use mathlib.Core.Bool.{Bool, ◌&&◌}
-use mathlib.Core.Path.{◌≡◌, refl, sym, ap, ◌∙◌}
+use mathlib.Core.Bool.{◌&&◌}
+use mathlib.Core.Path.{◌≡◌, refl, sym, ◌∙◌}
 use Prim.Native.Nat.{ℕ, ◌+◌, ◌-◌, ◌≤◌}
 use native.Mathlib.Numerals.{add-one}
 use native.Mathlib.Omega.{arith}
 use lib.Dec.{ltb}
 use lib.ListN.{get_or}
 use Rattle.sets.specs.Test.{all_below}
-use Rattle.start_spec.specs.Row.{stamp_ok, items_ok}
-use Rattle.read_start.specs.Items.{pairs_in}
+use Rattle.start_spec.specs.Row.{stamp_ok}
 use Rattle.read_start.proofs.Queues.{items-below}
 use borrow.Author.Rules.{rules}
 use Rattle.read_start.proofs.items.items_ok.Statement.{statement}

@@ -1,7 +1,6 @@
-use mathlib.Core.Path.{◌≡◌, sym}
+use mathlib.Core.Path.{sym}
 use native.Mathlib.Omega.{arith}
 use native.Mathlib.Numerals.{add-one}
-use borrow.Author.Tests.{not-true, not-false}
 use Rattle.read_items.specs.Says.{number_says}
 use Rattle.read_items.proofs.Laws.{told}
 use Rattle.read_start.proofs.Queues.{number-took}

@@ -1,4 +1,3 @@
-use borrow.Author.Tests.{not-true, not-false}
 use Rattle.read_items.specs.Says.{number_says}
 use Rattle.read_items.proofs.Laws.{told}
 use Rattle.read_start.proofs.Queues.{queue-none, queue-alone, queue-unread, last-unread, queue-last}

@@ -2,7 +2,7 @@ use mathlib.Core.Path.{◌≡◌, refl, sym, ◌∙◌}
 use Prim.Native.Nat.{◌+◌, ◌-◌, ◌<◌}
 use native.Mathlib.Omega.{arith}
 use borrow.Author.Tests.{lt-ltb, le-ltb}
-use lib.ListN.{length, drop, take, length-take}
+use lib.ListN.{drop, length-take}
 use Rattle.start_spec.specs.Row.{rises_to}
 use Rattle.read_start.specs.Items.{queue_in}
 use Rattle.read_start.proofs.Laws.{get_take}

@@ -1,7 +1,6 @@
-use mathlib.Core.Path.{◌≡◌, refl, sym, ap, ◌∙◌}
+use mathlib.Core.Path.{sym, ◌∙◌}
 use Rattle.read_items.specs.Within.{numbers_says}
 use Rattle.read_items.proofs.Laws.{told}
-use Rattle.read_start.specs.Says.{SmallJoin}
 use Rattle.read_start.proofs.JoinLines.{join-faulty, join-got, join-refused}
 use borrow.Author.Rules.{rules}
 use Rattle.read_start.proofs.joins.join_line.Statement.{statement}

@@ -1,7 +1,5 @@
-use mathlib.Core.Bool.{◌&&◌}
-use mathlib.Core.Path.{◌≡◌, refl, sym, ap, ◌∙◌}
-use native.Mathlib.Omega.{arith}
-use borrow.Author.Tests.{not-true, not-false, lt-leb, le-leb, eq-eqb, ne_eqb}
+use mathlib.Core.Path.{sym}
+use borrow.Author.Tests.{lt-leb, le-leb, eq-eqb, ne_eqb}
 use Rattle.read_start.specs.Says.{join_number}
 use borrow.Author.Rules.{rules}
 use Rattle.read_start.proofs.joins.join_refusal.Statement.{statement}

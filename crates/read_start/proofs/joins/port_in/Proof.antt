@@ -1,4 +1,4 @@
-use mathlib.Core.Path.{refl, sym, ◌∙◌}
+use mathlib.Core.Path.{sym, ◌∙◌}
 use borrow.Author.Rules.{rules}
 use Rattle.read_start.proofs.joins.port_in.Statement.{statement}
 use Rattle.read_start.proofs.joins.port_in.Tie as tie

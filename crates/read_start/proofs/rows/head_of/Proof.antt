@@ -1,4 +1,4 @@
-use mathlib.Core.Path.{refl, sym, ◌∙◌}
+use mathlib.Core.Path.{refl, ◌∙◌}
 use Rattle.words.specs.Words.{tables_in}
 use Rattle.read_start.proofs.Laws.{head-slot, no-slots}
 use borrow.Author.Rules.{rules}

@@ -1,4 +1,3 @@
-use mathlib.Core.Path.{refl, ◌∙◌}
 use borrow.Author.Rules.{rules}
 use Rattle.read_start.proofs.rows.held_ok.Statement.{statement}
 use Rattle.read_start.proofs.rows.held_ok.Tie as tie

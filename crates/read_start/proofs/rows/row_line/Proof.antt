@@ -1,5 +1,4 @@
-use mathlib.Core.Path.{◌≡◌, sym, ◌∙◌}
-use borrow.Author.Tests.{not-true, not-false}
+use mathlib.Core.Path.{sym, ◌∙◌}
 use Rattle.read_items.proofs.Laws.{told}
 use Rattle.read_start.specs.Says.{form_says, row_says}
 use Rattle.read_start.proofs.RowLines.{form-faulty, queue-faulty, row-beyond, row-clause, row-got, row-short, next-within, slots-wide}

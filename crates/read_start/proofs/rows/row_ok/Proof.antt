@@ -1,4 +1,3 @@
-use mathlib.Core.Path.{refl, ◌∙◌}
 use lib.Dec.{leb-suc-suc}
 use Rattle.read_start.specs.Says.{row_passes}
 use borrow.Author.Rules.{rules}

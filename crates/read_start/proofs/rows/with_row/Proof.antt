@@ -1,5 +1,4 @@
-use mathlib.Core.Path.{◌≡◌, sym, ap, ◌∙◌}
-use Rattle.model.specs.View.{instance}
+use mathlib.Core.Path.{◌∙◌}
 use Rattle.start_spec.specs.Row.{with_row, placed}
 use Rattle.read_start.proofs.RowLines.{added-empty}
 use borrow.Author.Rules.{rules}

@@ -1,4 +1,4 @@
-use borrow.Author.Tests.{not-true, not-false, lt-ltb, le-ltb}
+use borrow.Author.Tests.{lt-ltb, le-ltb}
 use borrow.Author.Rules.{rules}
 use Rattle.sitting_lib.proofs.lines.write_ended.Statement.{statement}
 use Rattle.sitting_lib.proofs.lines.write_ended.Tie as tie

@@ -1,5 +1,4 @@
 use mathlib.Core.Path.{refl}
-use borrow.Author.Rules.{rules}
 use Rattle.step_instructions.proofs.tickets.adds.Statement.{statement}
 use Rattle.step_instructions.proofs.tickets.adds.Tie as tie
 

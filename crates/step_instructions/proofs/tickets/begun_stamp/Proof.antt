@@ -1,4 +1,3 @@
-use mathlib.Core.Path.{◌≡◌}
 use borrow.Author.Rules.{rules}
 use Rattle.step_instructions.proofs.tickets.begun_stamp.Statement.{statement}
 use Rattle.step_instructions.proofs.tickets.begun_stamp.Tie as tie

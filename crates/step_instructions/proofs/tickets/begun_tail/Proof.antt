@@ -2,7 +2,6 @@ use mathlib.Core.List.{List}
 use mathlib.Core.Path.{◌≡◌, sym, ap, ◌∙◌}
 use Prim.Native.Nat.{ℕ, ◌-◌, ◌≤◌}
 use native.Mathlib.Omega.{arith}
-use Rattle.model.specs.View.{stamp_in}
 use Rattle.rules_spec.specs.Tickets.{begun_to, last_stamp}
 use Rattle.words.specs.Words.{program_from}
 use Rattle.step_instructions.proofs.Begun.{from, from-none, from_more, from_end, last_from, last_more, slots, tail-is}

@@ -1,4 +1,3 @@
-use mathlib.Core.Path.{◌≡◌}
 use Rattle.step_instructions.proofs.Begun.{late-last}
 use borrow.Author.Rules.{rules}
 use Rattle.step_instructions.proofs.tickets.is_late.Statement.{statement}

@@ -1,4 +1,3 @@
-use mathlib.Core.Path.{◌≡◌, ◌∙◌}
 use borrow.Author.Rules.{rules}
 use Rattle.step_instructions.proofs.tickets.push_ticket_to.Statement.{statement}
 use Rattle.step_instructions.proofs.tickets.push_ticket_to.Tie as tie

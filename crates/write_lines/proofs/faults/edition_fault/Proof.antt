@@ -1,4 +1,3 @@
-use mathlib.Core.Path.{◌∙◌}
 use Rattle.write_spec.specs.Kinds.{edition_fault}
 use borrow.Author.Rules.{rules}
 use Rattle.write_lines.proofs.faults.edition_fault.Statement.{statement}

@@ -1,5 +1,4 @@
 use borrow.Author.Tests.{eq-eqb, ne_eqb}
-use borrow.Author.Rules.{rules}
 use Rattle.write_texts.proofs.faults.or_number.Statement.{statement}
 use Rattle.write_texts.proofs.faults.or_number.Tie as tie
 

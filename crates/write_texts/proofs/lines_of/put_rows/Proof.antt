@@ -1,6 +1,6 @@
 use Prim.Native.Nat.{◌-◌}
 use Rattle.write_items.proofs.Turns.{Turns, turns-none, turns_more, turns-all}
-use Rattle.words.specs.Words.{tables_in, program_in, answer_in}
+use Rattle.words.specs.Words.{tables_in}
 use Rattle.write_lines.specs.Rows.{row_text}
 use Rattle.write_texts.specs.Parts.{row_at}
 use borrow.Author.Rules.{rules}
