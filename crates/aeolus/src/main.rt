@@ -1,17 +1,20 @@
 // The judge of the Aeolus paper as a program: the sheet from sheet.txt in the current folder, the answer from standard input, and out goes what
 // `aeolus_lib::print` says. Promised there: every byte that is printed. Shown here: no index is out of range, and the program ends.
 // Called with an argument, as bin/aeolus calls it, it tells on descriptor 3 that all was written, and whether the answer was read.
+#![tactic(auto)]
+
 use judge_spec::LENT_BYTES;
 
 // Each text has room for a byte more than it may have, so that a longer one still gets 1.
-fn main() {
+fn main(rt: HostRuntime) {
     let mut sheet = [0u8; 32769];
-    // A missing file has no descriptor, and a read from none gives no bytes: it counts as empty.
-    let n = io::read_full(os::open_read(b"sheet.txt"), &mut sheet);
+    // A missing file counts as empty.
+    let n = program_io::read_as_far(&rt, b"sheet.txt", &mut sheet);
     let mut answer = [0u8; 32769];
-    let read = program_io::read_answer(&mut answer, b"aeolus: standard input");
+    let mut input = rt.stdin();
+    let read = program_io::read_answer(&mut input, &mut answer, b"aeolus: standard input");
     let m = read.size;
     let mut out = [0u8; LENT_BYTES];
     let used = aeolus_lib::print(&sheet[..n], &answer[..m], &mut out);
-    program_io::finish(&out[..used], read.failed);
+    program_io::finish(&rt, &out[..used], read.failed);
 }

@@ -4,7 +4,9 @@ ghost use Rattle.std.specs.Prelude.{◌≤◌, length};
 ghost use Rattle.io.specs.Counts.{IsPrefixLen};
 ghost use Rattle.compare_batch.specs.Within.{Inside};
 
-use libc::{STDIN_FILENO, STDOUT_FILENO};
+use std::io::Read;
+
+const STDOUT_FILENO: i32 = 1;
 
 // Past this place of the output a line and the widest report might lack room.
 const ENOUGH: usize = 49000;
@@ -38,15 +40,18 @@ pub(crate) fn flush(out: &[u8], used: usize) {
     }
 }
 
-fn read_some(free: &mut [u8]) -> usize
+// A read that fails gives nothing.
+fn read_some<R: Read>(from: &mut R, free: &mut [u8]) -> usize
     ensures { IsPrefixLen result free.new }
 {
-    let got = libc::read(STDIN_FILENO, free);
-    io::count(got, free)
+    match from.read(free) {
+        Ok(size) => size,
+        Err(_) => 0,
+    }
 }
 
 // One read, after what stands in the output is written: whoever feeds the input may wait for it.
-fn refill(input: &mut [u8], out: &[u8], flow: Flow) -> Flow
+fn refill<R: Read>(from: &mut R, input: &mut [u8], out: &[u8], flow: Flow) -> Flow
     requires { Inside flow input.old }
     ensures { Inside result input.new }
 {
@@ -55,7 +60,7 @@ fn refill(input: &mut [u8], out: &[u8], flow: Flow) -> Flow
     let to = flow.to;
     move_down(input, at, to);
     let kept = to - at;
-    let more = read_some(&mut input[kept..]);
+    let more = read_some(from, &mut input[kept..]);
     Flow {
         at: 0,
         to: kept + more,
@@ -65,13 +70,19 @@ fn refill(input: &mut [u8], out: &[u8], flow: Flow) -> Flow
 }
 
 // At least `need` unread bytes, or all that are left where the input ends before that.
-pub(crate) fn gather(input: &mut [u8], out: &[u8], flow: Flow, need: usize) -> Flow
+pub(crate) fn gather<R: Read>(
+    from: &mut R,
+    input: &mut [u8],
+    out: &[u8],
+    flow: Flow,
+    need: usize,
+) -> Flow
     requires { Inside flow input.old }
     ensures { Inside result input.new }
 {
     let mut unread = flow;
     while unread.to - unread.at < need {
-        let next = refill(input, out, unread);
+        let next = refill(from, input, out, unread);
         if next.to - next.at <= unread.to - unread.at {
             return next;
         }

@@ -2,6 +2,8 @@
 // bytes of the texts, or `plan SHEETLEN ANSWERLEN ROOM` and two texts of the Aeolus paper. Out goes for each a line `REFUSED ACCEPTED NEXT TEXT LINE WHICH
 // START LEN REPORTLEN` (a plan has no NEXT: 0) and the report.
 // Promised by `judge_lib` and `aeolus_lib`: what each line says, and the report's bytes.
+#![tactic(auto)]
+
 mod flow;
 mod header;
 
@@ -14,6 +16,7 @@ use header::{HEADER, Header, read_header};
 use judge_lib::Judged;
 use judge_spec::{Place, Verdict};
 use model::{Concerned, Text};
+use std::io::Read;
 
 fn write_text(out: &mut [u8], at: usize, text: Text) -> usize {
     match text {
@@ -147,7 +150,8 @@ fn bad_header(out: &mut [u8], flow: Flow) -> Flow
 }
 
 // The case that begins with this header, if its texts are whole.
-fn run_texts(
+fn run_texts<R: Read>(
+    from: &mut R,
     input: &mut [u8],
     header: Header,
     report: &mut [u8; 16384],
@@ -159,7 +163,7 @@ fn run_texts(
     ensures { Inside result input.new }
 {
     let need = header.size + header.sheet + header.start + header.answer;
-    let whole = gather(input, out, flow, need);
+    let whole = gather(from, input, out, flow, need);
     let at = whole.at;
     let to = whole.to;
     if to - at < need {
@@ -174,11 +178,17 @@ fn run_texts(
     }
 }
 
-fn run_case(input: &mut [u8], report: &mut [u8; 16384], out: &mut [u8], flow: Flow) -> Flow
+fn run_case<R: Read>(
+    from: &mut R,
+    input: &mut [u8],
+    report: &mut [u8; 16384],
+    out: &mut [u8],
+    flow: Flow,
+) -> Flow
     requires { Inside flow input.old }
     ensures { Inside result input.new }
 {
-    let start = gather(input, out, flow, HEADER);
+    let start = gather(from, input, out, flow, HEADER);
     let at = start.at;
     let to = start.to;
     if at == to {
@@ -193,10 +203,10 @@ fn run_case(input: &mut [u8], report: &mut [u8; 16384], out: &mut [u8], flow: Fl
     if header.size == 0 {
         return bad_header(out, start);
     }
-    run_texts(input, header, report, out, start)
+    run_texts(from, input, header, report, out, start)
 }
 
-fn run(input: &mut [u8], report: &mut [u8; 16384], out: &mut [u8]) {
+fn run<R: Read>(from: &mut R, input: &mut [u8], report: &mut [u8; 16384], out: &mut [u8]) {
     let mut flow = Flow {
         at: 0,
         to: 0,
@@ -206,15 +216,16 @@ fn run(input: &mut [u8], report: &mut [u8; 16384], out: &mut [u8]) {
     // A loop that is proved ends, so it counts its turns down.
     let mut turns = u64::MAX;
     while 0 < turns && flow.ended == 0 {
-        flow = run_case(input, report, out, flow);
+        flow = run_case(from, input, report, out, flow);
         turns -= 1;
     }
     flush(out, flow.used);
 }
 
-fn main() {
+fn main(rt: HostRuntime) {
+    let mut from = rt.stdin();
     let mut input = [0u8; 131072];
     let mut report = [0u8; 16384];
     let mut out = [0u8; 65536];
-    run(&mut input, &mut report, &mut out);
+    run(&mut from, &mut input, &mut report, &mut out);
 }

@@ -1,17 +1,20 @@
 // Runs each paper that an argument names, NAME.sheet and, where there is one, NAME.start: its name, and what `foretell` prints of it.
 // Promised by `foretell_lib`: every byte after the name. A paper is a line of cases.py, and make.py writes the rest.
-use foretell_lib::FORESEEN_BYTES;
-use libc::STDOUT_FILENO;
+#![tactic(auto)]
 
-fn run_case(i: usize) {
+use foretell_lib::FORESEEN_BYTES;
+
+const STDOUT_FILENO: i32 = 1;
+
+fn run_case(rt: &HostRuntime, i: usize) {
     let mut name = [0u8; 64];
-    let k = os::arg(i, &mut name);
+    let k = program_io::read_argument(rt, i, &mut name);
     let mut sheet = [0u8; 32769];
-    let n = sitting_shown::read_named(&name[..k], b".sheet", &mut sheet);
+    let n = sitting_shown::read_named(rt, &name[..k], b".sheet", &mut sheet);
     let mut path = [0u8; 80];
     let l = sitting_shown::path_of(&mut path, &name[..k], b".start");
     let mut start = [0u8; 8193];
-    let begun = program_io::read_start(&path[..l], &mut start);
+    let begun = program_io::read_start(rt, &path[..l], &mut start);
     let b = begun.size;
     let mut out = [0u8; FORESEEN_BYTES];
     let used = foretell_lib::foretell_print(&sheet[..n], begun.given, &start[..b], &mut out);
@@ -21,9 +24,9 @@ fn run_case(i: usize) {
     io::write_all(STDOUT_FILENO, &out[..used]);
 }
 
-fn main() {
-    let count = os::arg_count();
+fn main(rt: HostRuntime) {
+    let count = program_io::argument_count(&rt);
     for i in 1..count {
-        run_case(i);
+        run_case(&rt, i);
     }
 }

@@ -1,6 +1,8 @@
 // A form as a sheet, and a sheet as a form: the one from standard input; out goes the other, or on standard error the number and the line or row at fault.
 // Promised, on all bytes and buffers: `write_draft` answers the number, the row or line and the bytes that `sheet_of_form` and `form_of_sheet` of form_spec
 // give of the text, and leaves theirs in the lent buffer, which beside a refusal is as it was found. `run` reads, calls it and writes.
+#![tactic(auto)]
+
 ghost use Rattle.std.specs.Prelude.{◌≡◌, ◌≤◌, length};
 ghost use Rattle.io.specs.Counts.{IsPrefixLen};
 ghost use Rattle.words.specs.Words.{tables_in, program_in};
@@ -11,10 +13,13 @@ ghost use Rattle.form_spec.specs.Said.{lines_said, form_said, sheet_said};
 ghost use Rattle.form_lib.specs.Drafts.{fault_at, saying, said_for, text_for, Drafts};
 
 use item_spec::TOO_LONG;
-use libc::{STDIN_FILENO, STDOUT_FILENO};
 use read_lines::LONGEST;
+use std::io::Input;
+use std::rt::Env;
 use words::{ProgramWords, TableWords};
 use write_texts::Written;
+
+const STDOUT_FILENO: i32 = 1;
 
 // What is written: a sheet from a form, or a form from a sheet.
 #[derive(Clone, Copy)]
@@ -137,12 +142,10 @@ pub fn write_draft(draft: Draft, text: &[u8], out: &mut [u8]) -> Drafted
 
 // By the names of its input and of the text that is refused. A text has room for a byte more than it may have, so that a longer one still gets 1.
 // Called with an argument, as bin/ calls the programs, it tells on descriptor 3 how it ended.
-pub fn run(draft: Draft, input: &[u8], refused_text: &[u8]) {
+pub fn run<R: Input + Env>(rt: &R, draft: Draft, input: &[u8], refused_text: &[u8]) {
     let mut text = [0u8; 32769];
-    let read = program_io::read_text(STDIN_FILENO, &mut text);
-    if read.failed {
-        os::fail(input);
-    }
+    let mut reader = rt.reader();
+    let read = program_io::read_answer(&mut reader, &mut text, input);
     let n = read.size;
     let mut out = [0u8; 32768];
     let drafted = write_draft(draft, &text[..n], &mut out);
@@ -152,7 +155,7 @@ pub fn run(draft: Draft, input: &[u8], refused_text: &[u8]) {
     if refused {
         program_io::say_fault(refused_text, drafted.line, drafted.refused);
     }
-    if done & (1 < os::arg_count()) {
+    if done & program_io::has_argument(rt, 1) {
         program_io::tell_of(read.failed, refused);
     }
 }

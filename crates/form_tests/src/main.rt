@@ -1,6 +1,9 @@
 // A test program: each argument names a form. It prints `NAME refused=N row=R`, what `write_draft` answers, and then the sheet. make.py writes the cases.
+#![tactic(auto)]
+
 use form_lib::Draft;
-use libc::STDOUT_FILENO;
+
+const STDOUT_FILENO: i32 = 1;
 
 fn write_number(key: &[u8], n: usize) {
     io::write_all(STDOUT_FILENO, key);
@@ -8,11 +11,11 @@ fn write_number(key: &[u8], n: usize) {
 }
 
 // A form has room for a byte more than it may have.
-fn run_case(i: usize) {
+fn run_case(rt: &HostRuntime, i: usize) {
     let mut name = [0u8; 64];
-    let k = os::arg(i, &mut name);
+    let k = program_io::read_argument(rt, i, &mut name);
     let mut form = [0u8; 32769];
-    let n = program_io::read_named(&name[..k], &mut form).size;
+    let n = program_io::read_named(rt, &name[..k], &mut form).size;
     let mut sheet = [0u8; 32768];
     let drafted = form_lib::write_draft(Draft::Sheet, &form[..n], &mut sheet);
     io::write_all(STDOUT_FILENO, &name[..k]);
@@ -23,9 +26,9 @@ fn run_case(i: usize) {
     io::write_all(STDOUT_FILENO, &sheet[..used]);
 }
 
-fn main() {
-    let n = os::arg_count();
+fn main(rt: HostRuntime) {
+    let n = program_io::argument_count(&rt);
     for i in 1..n {
-        run_case(i);
+        run_case(&rt, i);
     }
 }

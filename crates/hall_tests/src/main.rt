@@ -1,5 +1,7 @@
 // Runs one step of the screen in the hall for each line of standard input, `NAME PLACE=VALUE ..`: bytes of what is lent, the others 0.
 // Writes `NAME N PORT PLACE=VALUE ..`: what `hall` answers, `-` for no port, and the bytes of the lent configuration that moved. make.py writes the cases.
+#![tactic(auto)]
+
 mod lent;
 mod lines;
 mod shown;
@@ -10,12 +12,15 @@ ghost use Rattle.hall.specs.Words.{LeftWords};
 
 use hall::{LentConfiguration, Moved, hall, lent_step};
 use lent::{BYTES, byte_at, fill_program, fill_state, fill_tables};
-use libc::{STDIN_FILENO, STDOUT_FILENO};
 use lines::{Line, Part, ended, fresh, is_over, read_byte};
 use model::Concerned;
 use shown::show;
 use step_ports::Answered;
 use words::{ProgramWords, StateWords, TableWords};
+
+const STDIN_FILENO: i32 = 0;
+
+const STDOUT_FILENO: i32 = 1;
 
 // The use port's number, and one past them all for none.
 fn port_of(answered: Answered) -> u32 {

@@ -1,12 +1,13 @@
 // A configuration as its 1,764 bytes, and the line that says which of them moved.
 ghost use Rattle.std.specs.Prelude.{◌≤◌, ◌<◌};
 
-use libc::STDOUT_FILENO;
 use model::{Concerned, wide};
 use step_ports::Answered;
 use words::StateWords;
 use words::state::{done, ended, kind, marked, present, queued, running, server, slot_at};
 use write_items::{write_byte, write_key, write_number};
+
+const STDOUT_FILENO: i32 = 1;
 
 const BYTES: usize = 1764;
 

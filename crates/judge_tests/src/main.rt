@@ -1,8 +1,11 @@
 // Runs each paper and answer that an argument names, NAME.sheet, NAME.answer and, where there is one, NAME.start: its name, what `judge` prints, and the place
 // of the line at fault.
 // Promised by `judge_lib`: every byte between the name and the place, and the place. A pair is a line of pairs.py or papers.py, and make.py writes the rest.
+#![tactic(auto)]
+
 use judge_spec::LENT_BYTES;
-use libc::STDOUT_FILENO;
+
+const STDOUT_FILENO: i32 = 1;
 
 fn print_case(name: &[u8], sheet: &[u8], given: bool, start: &[u8], answer: &[u8]) {
     let mut out = [0u8; LENT_BYTES];
@@ -14,28 +17,28 @@ fn print_case(name: &[u8], sheet: &[u8], given: bool, start: &[u8], answer: &[u8
     sitting_shown::print_place(judge_lib::place(sheet, given, start, answer, LENT_BYTES));
 }
 
-fn run_started(name: &[u8], sheet: &[u8], answer: &[u8]) {
+fn run_started(rt: &HostRuntime, name: &[u8], sheet: &[u8], answer: &[u8]) {
     let mut path = [0u8; 80];
     let l = sitting_shown::path_of(&mut path, name, b".start");
     let mut start = [0u8; 8193];
-    let begun = program_io::read_start(&path[..l], &mut start);
+    let begun = program_io::read_start(rt, &path[..l], &mut start);
     let b = begun.size;
     print_case(name, sheet, begun.given, &start[..b], answer);
 }
 
-fn run_case(i: usize) {
+fn run_case(rt: &HostRuntime, i: usize) {
     let mut name = [0u8; 64];
-    let k = os::arg(i, &mut name);
+    let k = program_io::read_argument(rt, i, &mut name);
     let mut sheet = [0u8; 32769];
-    let n = sitting_shown::read_named(&name[..k], b".sheet", &mut sheet);
+    let n = sitting_shown::read_named(rt, &name[..k], b".sheet", &mut sheet);
     let mut answer = [0u8; 32769];
-    let m = sitting_shown::read_named(&name[..k], b".answer", &mut answer);
-    run_started(&name[..k], &sheet[..n], &answer[..m]);
+    let m = sitting_shown::read_named(rt, &name[..k], b".answer", &mut answer);
+    run_started(rt, &name[..k], &sheet[..n], &answer[..m]);
 }
 
-fn main() {
-    let count = os::arg_count();
+fn main(rt: HostRuntime) {
+    let count = program_io::argument_count(&rt);
     for i in 1..count {
-        run_case(i);
+        run_case(&rt, i);
     }
 }

@@ -3,21 +3,26 @@
 // that is refused.
 // Shown here: no index is out of range, and the program ends. Called with an argument, as bin/model-walk calls it, it tells on descriptor 3 that all was
 // written, or that a text was refused.
-use libc::{STDERR_FILENO, STDOUT_FILENO};
+#![tactic(auto)]
+
 use model::Text;
 use model_walk_spec::Ending;
 
-fn tell(refused: bool) {
-    if 1 < os::arg_count() {
+const STDOUT_FILENO: i32 = 1;
+
+const STDERR_FILENO: i32 = 2;
+
+fn tell(rt: &HostRuntime, refused: bool) {
+    if program_io::has_argument(rt, 1) {
         program_io::tell_of(false, refused);
     }
 }
 
-fn say_refused(text: Text, line: usize, refused: u8) {
+fn say_refused(rt: &HostRuntime, text: Text, line: usize, refused: u8) {
     let mut said = [0u8; 64];
     let used = write_report::write_fault(&mut said, text, line, refused);
     io::write_all(STDERR_FILENO, &said[..used]);
-    tell(true);
+    tell(rt, true);
 }
 
 fn say_ending(ending: Ending) {
@@ -36,24 +41,24 @@ fn say_ending(ending: Ending) {
 }
 
 // Each text has room for a byte more than it may have, so that a longer one still gets 1.
-fn main() {
+fn main(rt: HostRuntime) {
     let mut sheet = [0u8; 32769];
-    // A missing file has no descriptor, and a read from none gives no bytes: it counts as empty.
-    let n = io::read_full(os::open_read(b"sheet.txt"), &mut sheet);
+    // A missing file counts as empty.
+    let n = program_io::read_as_far(&rt, b"sheet.txt", &mut sheet);
     let mut start = [0u8; 8193];
-    let begun = program_io::read_start(b"start.txt", &mut start);
+    let begun = program_io::read_start(&rt, b"start.txt", &mut start);
     let k = begun.size;
     let mut out = [0u8; 17428];
     let done = model_walk_lib::model_walk(&sheet[..n], begun.given, &start[..k], &mut out);
     let text = done.text;
     if done.refused != 0 {
-        say_refused(text, done.line, done.refused);
+        say_refused(&rt, text, done.line, done.refused);
         return;
     }
     let used = done.written;
     let ending = done.ending;
     if io::write_all(STDOUT_FILENO, &out[..used]) {
         say_ending(ending);
-        tell(false);
+        tell(&rt, false);
     }
 }

@@ -1,12 +1,15 @@
 // Runs each paper that an argument names, NAME.sheet and, where there is one, NAME.start: its name, what `model_walk` answers, how many bytes of the lent
 // buffer are as they were found, and the text; then what it answers in a buffer of just that many bytes and in one of a byte less.
 // Promised by `model_walk_lib`: all of it but the name. A paper is a line of cases.py, and make.py writes the rest.
+#![tactic(auto)]
+
 ghost use Rattle.std.specs.Prelude.{◌≤◌};
 
-use libc::STDOUT_FILENO;
 use model::Text;
 use model_walk_lib::Modelled;
 use model_walk_spec::Ending;
+
+const STDOUT_FILENO: i32 = 1;
 
 // What every byte of the buffer holds before, and no answer has.
 const FOUND: u8 = b'#';
@@ -106,15 +109,15 @@ fn run_paper(sheet: &[u8], given: bool, start: &[u8]) {
     }
 }
 
-fn run_case(i: usize) {
+fn run_case(rt: &HostRuntime, i: usize) {
     let mut name = [0u8; 64];
-    let k = os::arg(i, &mut name);
+    let k = program_io::read_argument(rt, i, &mut name);
     let mut sheet = [0u8; 32769];
-    let n = sitting_shown::read_named(&name[..k], b".sheet", &mut sheet);
+    let n = sitting_shown::read_named(rt, &name[..k], b".sheet", &mut sheet);
     let mut path = [0u8; 80];
     let l = sitting_shown::path_of(&mut path, &name[..k], b".start");
     let mut start = [0u8; 8193];
-    let begun = program_io::read_start(&path[..l], &mut start);
+    let begun = program_io::read_start(rt, &path[..l], &mut start);
     let b = begun.size;
     io::write_all(STDOUT_FILENO, b"case=");
     io::write_all(STDOUT_FILENO, &name[..k]);
@@ -122,9 +125,9 @@ fn run_case(i: usize) {
     run_paper(&sheet[..n], begun.given, &start[..b]);
 }
 
-fn main() {
-    let count = os::arg_count();
+fn main(rt: HostRuntime) {
+    let count = program_io::argument_count(&rt);
     for i in 1..count {
-        run_case(i);
+        run_case(&rt, i);
     }
 }

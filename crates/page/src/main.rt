@@ -2,7 +2,8 @@
 // takes the answers' names from standard input (program_input) twice, with an empty name between: once to count the candidates by outcome, and once to write
 // each of them, under the last part of its name. A fault of the sheet, of the start or of the times is the paper's: it is said, and nothing is written. Each
 // candidate is one write, and the first write that fails ends it. On descriptor 3 it tells that all was written, and whether every answer was read.
-use libc::STDOUT_FILENO;
+#![tactic(auto)]
+
 use model::Text;
 use page_found::found_of;
 use page_lib::tops;
@@ -10,8 +11,18 @@ use page_spec::Found;
 use program_input::{argument, at_most, base_from, next_part};
 use std::num::wrapping_add_usize;
 
+const STDOUT_FILENO: i32 = 1;
+
 // `longest` in crates/page_spec/specs/Room.antt: no candidate has more, and neither has the page's top.
 const LONGEST: usize = 294912;
+
+// The paper's texts.
+#[derive(Clone, Copy)]
+struct Paper<'a> {
+    sheet: &'a [u8],
+    start: &'a [u8],
+    times: &'a [u8],
+}
 
 // Whether the paper has a start and times; whether the candidates are counted or written, and how many were; whether something could not be read, and whether
 // all was written.
@@ -83,41 +94,55 @@ fn write_answer(
 }
 
 fn run_answer(
+    rt: &HostRuntime,
     block: &mut [u8],
     counts: &mut [usize; 41],
     sat: Sat,
-    sheet: &[u8],
-    start: &[u8],
-    times: &[u8],
+    paper: Paper<'_>,
     path: &[u8],
 ) -> Sat {
     let mut answer = [0u8; 32769];
-    let read = program_io::read_named(path, &mut answer);
+    let read = program_io::read_named(rt, path, &mut answer);
     let size = read.size;
     if read.failed {
         return run_unreadable(block, counts, sat, path);
     }
-    let row = register_lib::row_of(sheet, sat.given, start, sat.marked, times, &answer[..size]);
+    let row = register_lib::row_of(
+        paper.sheet,
+        sat.given,
+        paper.start,
+        sat.marked,
+        paper.times,
+        &answer[..size],
+    );
     let found = found_of(row, &answer[..size]);
     if sat.counting {
         count(counts, found.group);
         return one_more(sat, false, true);
     }
-    write_answer(block, sat, found, sheet, start, &answer[..size], path)
+    write_answer(
+        block,
+        sat,
+        found,
+        paper.sheet,
+        paper.start,
+        &answer[..size],
+        path,
+    )
 }
 
 // What stands before the candidates, once they are counted.
-fn begin(block: &mut [u8], counts: &mut [usize; 41], sat: Sat) -> Sat {
+fn begin(rt: &HostRuntime, block: &mut [u8], counts: &mut [usize; 41], sat: Sat) -> Sat {
     let mut title = [0u8; 4096];
     let mut sheet = [0u8; 4096];
     let mut start = [0u8; 4096];
     let mut times = [0u8; 4096];
     let mut judge = [0u8; 4096];
-    let a = argument(5, &mut title);
-    let b = argument(6, &mut sheet);
-    let c = argument(7, &mut start);
-    let d = argument(8, &mut times);
-    let e = argument(9, &mut judge);
+    let a = argument(rt, 5, &mut title);
+    let b = argument(rt, 6, &mut sheet);
+    let c = argument(rt, 7, &mut start);
+    let d = argument(rt, 8, &mut times);
+    let e = argument(rt, 9, &mut judge);
     let used = tops::write_top(
         block,
         &title[..a],
@@ -140,31 +165,30 @@ fn begin(block: &mut [u8], counts: &mut [usize; 41], sat: Sat) -> Sat {
 
 // A name after its mark, or the end of the first time.
 fn run_name(
+    rt: &HostRuntime,
     block: &mut [u8],
     counts: &mut [usize; 41],
     sat: Sat,
-    sheet: &[u8],
-    start: &[u8],
-    times: &[u8],
+    paper: Paper<'_>,
     name: &[u8],
 ) -> Sat {
     if name.len() == 0 {
-        return begin(block, counts, sat);
+        return begin(rt, block, counts, sat);
     }
     if name[0] != b'+' {
         return run_unreadable(block, counts, sat, &name[1..]);
     }
-    run_answer(block, counts, sat, sheet, start, times, &name[1..])
+    run_answer(rt, block, counts, sat, paper, &name[1..])
 }
 
 fn run_names(
+    rt: &HostRuntime,
     block: &mut [u8],
-    sheet: &[u8],
+    paper: Paper<'_>,
     given: bool,
-    start: &[u8],
     marked: bool,
-    times: &[u8],
 ) -> Sat {
+    let mut input = rt.stdin();
     let mut name = [0u8; 4097];
     let mut bytes = [0u8; 65536];
     let mut counts = [0usize; 41];
@@ -180,14 +204,14 @@ fn run_names(
     // A loop that is proved ends, so it counts its turns down.
     let mut turns = u64::MAX;
     while 0 < turns && sat.written && !names.ended {
-        let next = next_part(&mut bytes, &mut name, names, 0);
+        let next = next_part(&mut input, &mut bytes, &mut name, names, 0);
         let left = next.parts;
         names = left;
         let size = next.size;
         if !next.there {
             break;
         }
-        sat = run_name(block, &mut counts, sat, sheet, start, times, &name[..size]);
+        sat = run_name(rt, block, &mut counts, sat, paper, &name[..size]);
         turns -= 1;
     }
     Sat {
@@ -209,21 +233,21 @@ fn argument_of(text: Text) -> usize {
     }
 }
 
-fn say_fault(text: Text, line: usize, refused: u8) {
+fn say_fault(rt: &HostRuntime, text: Text, line: usize, refused: u8) {
     let mut path = [0u8; 4096];
-    let size = argument(argument_of(text), &mut path);
+    let size = argument(rt, argument_of(text), &mut path);
     program_input::say_paper(b"page", &path[..size], line, refused);
     program_io::tell_of(false, true);
 }
 
-fn run(block: &mut [u8], sheet: &[u8], given: bool, start: &[u8], marked: bool, times: &[u8]) {
-    let verdict = outcome_lib::paper_verdict(sheet, given, start, marked, times);
+fn run(rt: &HostRuntime, block: &mut [u8], paper: Paper<'_>, given: bool, marked: bool) {
+    let verdict = outcome_lib::paper_verdict(paper.sheet, given, paper.start, marked, paper.times);
     if verdict.refused != 0 {
         let text = verdict.text;
-        say_fault(text, verdict.line, verdict.refused);
+        say_fault(rt, text, verdict.line, verdict.refused);
         return;
     }
-    let sat = run_names(block, sheet, given, start, marked, times);
+    let sat = run_names(rt, block, paper, given, marked);
     if !sat.written {
         return;
     }
@@ -234,26 +258,24 @@ fn run(block: &mut [u8], sheet: &[u8], given: bool, start: &[u8], marked: bool, 
 }
 
 // Each text has room for a byte more than it may have, so that a longer one still gets its number.
-fn main() {
+fn main(rt: HostRuntime) {
     let mut block = [0u8; LONGEST];
     let mut path = [0u8; 4096];
     let mut sheet = [0u8; 32769];
-    let k = argument(2, &mut path);
-    let n = program_io::read_named(&path[..k], &mut sheet).size;
+    let k = argument(&rt, 2, &mut path);
+    let n = program_io::read_named(&rt, &path[..k], &mut sheet).size;
     let mut start = [0u8; 8193];
-    let l = argument(3, &mut path);
-    let begun = program_io::read_start(&path[..l], &mut start);
+    let l = argument(&rt, 3, &mut path);
+    let begun = program_io::read_start(&rt, &path[..l], &mut start);
     let b = begun.size;
     let mut times = [0u8; 32769];
-    let m = argument(4, &mut path);
-    let timed = program_io::read_start(&path[..m], &mut times);
+    let m = argument(&rt, 4, &mut path);
+    let timed = program_io::read_start(&rt, &path[..m], &mut times);
     let t = timed.size;
-    run(
-        &mut block,
-        &sheet[..n],
-        begun.given,
-        &start[..b],
-        timed.given,
-        &times[..t],
-    );
+    let paper = Paper {
+        sheet: &sheet[..n],
+        start: &start[..b],
+        times: &times[..t],
+    };
+    run(&rt, &mut block, paper, begun.given, timed.given);
 }

@@ -2,11 +2,17 @@
 // says of each line, `candidate=` and the name of each row that stands as passed, then how many rows stand so, below the pass line, unfinished, refused, at
 // fault and absent, and how many there are. What is no register and a pass line of the wrong kind are said, and told on descriptor 3 as refused; the script
 // then shows nothing.
-use libc::{STDERR_FILENO, STDOUT_FILENO};
+#![tactic(auto)]
+
 use passlist_lib::{count_line, write_line};
 use passlist_spec::{Pass, PassRead, Wrong};
 use program_input::{Part, argument, at_most, next_part};
+use std::io::Read;
 use write_items::write_byte;
+
+const STDOUT_FILENO: i32 = 1;
+
+const STDERR_FILENO: i32 = 2;
 
 // A row with a name of 255 bytes has a seventh of this.
 const LONGEST: usize = 8192;
@@ -52,7 +58,8 @@ fn take_part(
     take_line(pass, &row[..n], line, counts)
 }
 
-fn take_parts(
+fn take_parts<R: Read>(
+    input: &mut R,
     pass: Pass,
     row: &mut [u8],
     bytes: &mut [u8],
@@ -64,7 +71,7 @@ fn take_parts(
     // A loop that is proved ends, so it counts its turns down.
     let mut turns = u64::MAX;
     while 0 < turns && written && !parts.ended {
-        let next = next_part(bytes, row, parts, b'\n');
+        let next = next_part(input, bytes, row, parts, b'\n');
         let left = next.parts;
         parts = left;
         written = take_part(pass, row, next, line, counts);
@@ -107,10 +114,10 @@ fn say_wrong(pass: Pass, wrong: Wrong) -> bool {
     }
 }
 
-fn list(pass: Pass, row: &mut [u8], bytes: &mut [u8]) {
+fn list<R: Read>(input: &mut R, pass: Pass, row: &mut [u8], bytes: &mut [u8]) {
     let mut line = [0u8; LONGEST];
     let mut counts = [0usize; 9];
-    let went = take_parts(pass, row, bytes, &mut line, &mut counts);
+    let went = take_parts(input, pass, row, bytes, &mut line, &mut counts);
     let wrong = say_wrong(pass, passlist_lib::wrong_in(&counts));
     let used = passlist_lib::write_counts(&mut line, 0, &counts);
     if went.written && print(&line, used) {
@@ -118,9 +125,9 @@ fn list(pass: Pass, row: &mut [u8], bytes: &mut [u8]) {
     }
 }
 
-fn main() {
+fn main(rt: HostRuntime) {
     let mut word = [0u8; 16];
-    let size = argument(2, &mut word);
+    let size = argument(&rt, 2, &mut word);
     let used = write_byte(&mut word, size, b'\n');
     let n = at_most(used, &word);
     let PassRead::Got(pass) = passlist_lib::read_pass(&word[..n]) else {
@@ -133,5 +140,6 @@ fn main() {
     };
     let mut row = [0u8; LONGEST];
     let mut bytes = [0u8; 65536];
-    list(pass, &mut row, &mut bytes);
+    let mut input = rt.stdin();
+    list(&mut input, pass, &mut row, &mut bytes);
 }

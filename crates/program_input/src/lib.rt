@@ -2,13 +2,19 @@
 // name and `-` before any other; the rows of a register. And what a program says of a name or of a paper on standard error.
 // Promised of standard input and of the arguments: a count within the lent buffer, and no more, since what they hold no contract can say.
 // Of a path: where its last part begins.
+#![tactic(auto)]
+
 ghost use Rattle.std.specs.Prelude.{◌≤◌, min, false, ◌≡◌, length, drop};
 ghost use Rattle.io.specs.Counts.{IsPrefixLen};
 ghost use Rattle.program_input.specs.Last.{last_part};
 
-use libc::{STDERR_FILENO, STDIN_FILENO};
 use sitting_shown::Among;
+use std::env::FillError;
+use std::io::Read;
+use std::rt::Env;
 use write_items::{write_byte, write_key};
+
+const STDERR_FILENO: i32 = 2;
 
 // A path's bytes, each shown as four at most, and the words about it.
 const LONGEST: usize = 16600;
@@ -62,16 +68,23 @@ pub fn at_most(size: usize, text: &[u8]) -> usize
 }
 
 // What the next read gives.
-fn more_parts(bytes: &mut [u8]) -> Parts {
-    let read = program_io::read_some(STDIN_FILENO, bytes);
-    if read.failed {
-        os::fail(b"standard input");
-    }
-    Parts {
-        taken: 0,
-        size: read.size,
-        ended: read.failed || read.size == 0,
-        failed: read.failed,
+fn more_parts<R: Read>(input: &mut R, bytes: &mut [u8]) -> Parts {
+    match input.read(bytes) {
+        Ok(size) => Parts {
+            taken: 0,
+            size,
+            ended: size == 0,
+            failed: false,
+        },
+        Err(error) => {
+            program_io::say_failed(b"standard input", error);
+            Parts {
+                taken: 0,
+                size: 0,
+                ended: true,
+                failed: true,
+            }
+        }
     }
 }
 
@@ -104,11 +117,11 @@ fn byte_of(bytes: &[u8], parts: Parts) -> Taken {
     }
 }
 
-fn next_byte(bytes: &mut [u8], parts: Parts) -> Taken {
+fn next_byte<R: Read>(input: &mut R, bytes: &mut [u8], parts: Parts) -> Taken {
     if parts.ended || parts.taken < parts.size {
         return byte_of(bytes, parts);
     }
-    let more = more_parts(bytes);
+    let more = more_parts(input, bytes);
     byte_of(bytes, more)
 }
 
@@ -125,7 +138,13 @@ fn part_of(whole: bool, size: usize, part: &[u8], parts: Parts) -> Part
 }
 
 // The next part, without the byte that ends it, into the lent bytes; of a longer one the first bytes. The last part may lack its end.
-pub fn next_part(bytes: &mut [u8], part: &mut [u8], parts: Parts, end: u8) -> Part
+pub fn next_part<R: Read>(
+    input: &mut R,
+    bytes: &mut [u8],
+    part: &mut [u8],
+    parts: Parts,
+    end: u8,
+) -> Part
     ensures { IsPrefixLen result.size part.new }
 {
     let mut so_far = parts;
@@ -133,7 +152,7 @@ pub fn next_part(bytes: &mut [u8], part: &mut [u8], parts: Parts, end: u8) -> Pa
     // A loop that is proved ends, so it counts its turns down.
     let mut turns = u64::MAX;
     while 0 < turns {
-        let taken = next_byte(bytes, so_far);
+        let taken = next_byte(input, bytes, so_far);
         let left = taken.parts;
         so_far = left;
         if !taken.there {
@@ -168,14 +187,14 @@ pub fn base_from(path: &[u8]) -> usize
 }
 
 // Argument i; of one that is longer than any path, its first bytes, by which no file can be opened.
-pub fn argument(i: usize, word: &mut [u8]) -> usize
+pub fn argument<E: Env>(rt: &E, i: usize, word: &mut [u8]) -> usize
     ensures { IsPrefixLen result word.new }
 {
-    let size = os::arg(i, word);
-    if os::errno() == libc::ENAMETOOLONG {
-        return io::count(isize::MAX, word);
+    match rt.arg(i, word) {
+        Ok(size) => size,
+        Err(FillError::TooLong) => word.len(),
+        Err(FillError::NotPresent) => 0,
     }
-    size
 }
 
 fn say(line: &[u8], used: usize) {

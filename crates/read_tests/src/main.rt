@@ -1,6 +1,8 @@
 // A test program: each argument names a text, by its end a sheet or an answer, and one line says what came of reading it:
 // `NAME refused=N line=L start=S size=Z`, with the line at fault by its number and as a part of the text. make.py writes the cases.
-use libc::STDOUT_FILENO;
+#![tactic(auto)]
+
+const STDOUT_FILENO: i32 = 1;
 
 fn ends_in(name: &[u8], end: &[u8]) -> bool {
     if name.len() < end.len() {
@@ -49,17 +51,17 @@ fn read_text(name: &[u8], text: &[u8]) {
 }
 
 // The buffer has one byte more than a text may have, so a text that is too long is seen as such.
-fn run_case(i: usize) {
+fn run_case(rt: &HostRuntime, i: usize) {
     let mut name = [0u8; 64];
-    let k = os::arg(i, &mut name);
+    let k = program_io::read_argument(rt, i, &mut name);
     let mut buffer = [0u8; 32769];
-    let n = program_io::read_named(&name[..k], &mut buffer).size;
+    let n = program_io::read_named(rt, &name[..k], &mut buffer).size;
     read_text(&name[..k], &buffer[..n]);
 }
 
-fn main() {
-    let n = os::arg_count();
+fn main(rt: HostRuntime) {
+    let n = program_io::argument_count(&rt);
     for i in 1..n {
-        run_case(i);
+        run_case(&rt, i);
     }
 }

@@ -2,13 +2,26 @@
 // and writes what the columns are, then a row for each answer, under the last part of its name; `unreadable` for one that isn't a plain file or can't be read.
 // A fault of the sheet, of the start or of the times is the paper's: it is said, and nothing is written. Each row is one write, and the first write that fails
 // ends it. On descriptor 3 it tells that all was written, and whether every answer was read.
-use libc::STDOUT_FILENO;
+#![tactic(auto)]
+
 use model::Text;
 use program_input::{argument, at_most, base_from, next_part};
 use register_lib::{row_of, write_row};
 
+const STDOUT_FILENO: i32 = 1;
+
 // A name of 4,096 bytes, each shown as four at most, and the cells after it.
 const LONGEST: usize = 16600;
+
+// The sheet, and the start and the times where there are some.
+#[derive(Clone, Copy)]
+struct Paper<'a> {
+    sheet: &'a [u8],
+    given: bool,
+    start: &'a [u8],
+    marked: bool,
+    times: &'a [u8],
+}
 
 // Whether something could not be read, and whether all was written.
 #[derive(Clone, Copy)]
@@ -32,22 +45,21 @@ fn run_unreadable(block: &mut [u8], path: &[u8]) -> Went {
     }
 }
 
-fn run_answer(
-    block: &mut [u8],
-    sheet: &[u8],
-    given: bool,
-    start: &[u8],
-    marked: bool,
-    times: &[u8],
-    path: &[u8],
-) -> Went {
+fn run_answer(rt: &HostRuntime, block: &mut [u8], paper: Paper<'_>, path: &[u8]) -> Went {
     let mut answer = [0u8; 32769];
-    let read = program_io::read_named(path, &mut answer);
+    let read = program_io::read_named(rt, path, &mut answer);
     let size = read.size;
     if read.failed {
         return run_unreadable(block, path);
     }
-    let row = row_of(sheet, given, start, marked, times, &answer[..size]);
+    let row = row_of(
+        paper.sheet,
+        paper.given,
+        paper.start,
+        paper.marked,
+        paper.times,
+        &answer[..size],
+    );
     let from = base_from(path);
     let used = write_row(block, 0, &path[from..], row);
     Went {
@@ -57,32 +69,18 @@ fn run_answer(
 }
 
 // A name after its mark.
-fn run_name(
-    block: &mut [u8],
-    sheet: &[u8],
-    given: bool,
-    start: &[u8],
-    marked: bool,
-    times: &[u8],
-    name: &[u8],
-) -> Went {
+fn run_name(rt: &HostRuntime, block: &mut [u8], paper: Paper<'_>, name: &[u8]) -> Went {
     if name.len() == 0 {
         return run_unreadable(block, name);
     }
     if name[0] != b'+' {
         return run_unreadable(block, &name[1..]);
     }
-    run_answer(block, sheet, given, start, marked, times, &name[1..])
+    run_answer(rt, block, paper, &name[1..])
 }
 
-fn run_names(
-    block: &mut [u8],
-    sheet: &[u8],
-    given: bool,
-    start: &[u8],
-    marked: bool,
-    times: &[u8],
-) -> Went {
+fn run_names(rt: &HostRuntime, block: &mut [u8], paper: Paper<'_>) -> Went {
+    let mut input = rt.stdin();
     let mut name = [0u8; 4097];
     let mut bytes = [0u8; 65536];
     let mut names = program_input::no_parts_yet();
@@ -91,14 +89,14 @@ fn run_names(
     // A loop that is proved ends, so it counts its turns down.
     let mut turns = u64::MAX;
     while 0 < turns && written && !names.ended {
-        let next = next_part(&mut bytes, &mut name, names, 0);
+        let next = next_part(&mut input, &mut bytes, &mut name, names, 0);
         let left = next.parts;
         names = left;
         let size = next.size;
         if !next.there {
             break;
         }
-        let went = run_name(block, sheet, given, start, marked, times, &name[..size]);
+        let went = run_name(rt, block, paper, &name[..size]);
         unread = unread | went.unread;
         written = went.written;
         turns -= 1;
@@ -118,51 +116,57 @@ fn argument_of(text: Text) -> usize {
     }
 }
 
-fn say_fault(text: Text, line: usize, refused: u8) {
+fn say_fault(rt: &HostRuntime, text: Text, line: usize, refused: u8) {
     let mut path = [0u8; 4096];
-    let size = argument(argument_of(text), &mut path);
+    let size = argument(rt, argument_of(text), &mut path);
     program_input::say_paper(b"register", &path[..size], line, refused);
     program_io::tell_of(false, true);
 }
 
-fn run(block: &mut [u8], sheet: &[u8], given: bool, start: &[u8], marked: bool, times: &[u8]) {
-    let verdict = outcome_lib::paper_verdict(sheet, given, start, marked, times);
+fn run(rt: &HostRuntime, block: &mut [u8], paper: Paper<'_>) {
+    let verdict = outcome_lib::paper_verdict(
+        paper.sheet,
+        paper.given,
+        paper.start,
+        paper.marked,
+        paper.times,
+    );
     if verdict.refused != 0 {
         let text = verdict.text;
-        say_fault(text, verdict.line, verdict.refused);
+        say_fault(rt, text, verdict.line, verdict.refused);
         return;
     }
     let used = register_lib::write_head(block, 0);
     if !print(block, used) {
         return;
     }
-    let went = run_names(block, sheet, given, start, marked, times);
+    let went = run_names(rt, block, paper);
     if went.written {
         program_io::tell_of(went.unread, false);
     }
 }
 
 // Each text has room for a byte more than it may have, so that a longer one still gets its number.
-fn main() {
+fn main(rt: HostRuntime) {
     let mut block = [0u8; LONGEST];
     let mut path = [0u8; 4096];
     let mut sheet = [0u8; 32769];
-    let k = argument(2, &mut path);
-    let n = program_io::read_named(&path[..k], &mut sheet).size;
+    let k = argument(&rt, 2, &mut path);
+    let n = program_io::read_named(&rt, &path[..k], &mut sheet).size;
     let mut start = [0u8; 8193];
-    let l = argument(3, &mut path);
-    let begun = program_io::read_start(&path[..l], &mut start);
+    let l = argument(&rt, 3, &mut path);
+    let begun = program_io::read_start(&rt, &path[..l], &mut start);
     let b = begun.size;
     let mut times = [0u8; 32769];
-    let m = argument(4, &mut path);
-    let timed = program_io::read_start(&path[..m], &mut times);
+    let m = argument(&rt, 4, &mut path);
+    let timed = program_io::read_start(&rt, &path[..m], &mut times);
     let t = timed.size;
-    run(
-        &mut block,
-        &sheet[..n],
-        begun.given,
-        &start[..b],
-        timed.given,
-        &times[..t],
-    );
+    let paper = Paper {
+        sheet: &sheet[..n],
+        given: begun.given,
+        start: &start[..b],
+        marked: timed.given,
+        times: &times[..t],
+    };
+    run(&rt, &mut block, paper);
 }

@@ -1,11 +1,14 @@
 // A test program: each two arguments name a sheet and an answer. It prints their names and what `rewrite` answers, how many bytes of the lent buffer are as
 // they were found, then the rewritten sheet and what `judge` prints of it and the answer. Promised by `rewrite_lib` and `judge_lib`; make.py writes the cases.
+#![tactic(auto)]
+
 ghost use Rattle.std.specs.Prelude.{◌≤◌};
 
 use judge_spec::LENT_BYTES;
-use libc::STDOUT_FILENO;
 use read_lines::LONGEST;
 use rewrite_lib::Rewritten;
+
+const STDOUT_FILENO: i32 = 1;
 
 // What every byte of the buffer holds before, and no sheet has.
 const FOUND: u8 = b'#';
@@ -50,15 +53,15 @@ fn print_judged(sheet: &[u8], answer: &[u8]) {
 }
 
 // Each text has room for a byte more than it may have.
-fn run_case(first: usize, second: usize) {
+fn run_case(rt: &HostRuntime, first: usize, second: usize) {
     let mut name = [0u8; 64];
-    let k = os::arg(first, &mut name);
+    let k = program_io::read_argument(rt, first, &mut name);
     let mut sheet = [0u8; 32769];
-    let n = program_io::read_text(os::open_read(&name[..k]), &mut sheet).size;
+    let n = program_io::read_named(rt, &name[..k], &mut sheet).size;
     let mut other = [0u8; 64];
-    let l = os::arg(second, &mut other);
+    let l = program_io::read_argument(rt, second, &mut other);
     let mut answer = [0u8; 32769];
-    let m = program_io::read_text(os::open_read(&other[..l]), &mut answer).size;
+    let m = program_io::read_named(rt, &other[..l], &mut answer).size;
     io::write_all(STDOUT_FILENO, b"case=");
     io::write_all(STDOUT_FILENO, &name[..k]);
     io::write_all(STDOUT_FILENO, b",");
@@ -77,10 +80,10 @@ fn rewrite_and_judge(sheet: &[u8], answer: &[u8]) {
     }
 }
 
-fn main() {
-    let count = os::arg_count();
+fn main(rt: HostRuntime) {
+    let count = program_io::argument_count(&rt);
     for pair in 0..count / 2 {
         let before = 2 * pair;
-        run_case(before + 1, before + 2);
+        run_case(&rt, before + 1, before + 2);
     }
 }

@@ -2,10 +2,21 @@
 // writes for each what sitting_lib promises: `candidate=` and the name, and its block, or `unreadable=1`; at the end `candidates=` and how many there
 // were. A fault of the sheet, of the start or of the times is the paper's: it is said, and nothing is written. Each candidate is one write, and the first
 // write that fails ends it. On descriptor 3 it tells that all was written, and whether every answer was read.
-use libc::STDOUT_FILENO;
+#![tactic(auto)]
+
 use model::Text;
 use program_input::{argument, at_most, next_part};
 use sitting_lib::LONGEST;
+
+const STDOUT_FILENO: i32 = 1;
+
+// The sheet, and the start where there is one.
+#[derive(Clone, Copy)]
+struct Paper<'a> {
+    sheet: &'a [u8],
+    given: bool,
+    start: &'a [u8],
+}
 
 // How many candidates there were, whether something could not be read, and whether all was written.
 #[derive(Clone, Copy)]
@@ -35,29 +46,34 @@ fn run_unread(block: &mut [u8], name: &[u8], went: Went) -> Went {
 }
 
 fn run_answer(
+    rt: &HostRuntime,
     block: &mut [u8],
-    sheet: &[u8],
-    given: bool,
-    start: &[u8],
+    paper: Paper<'_>,
     name: &[u8],
     went: Went,
 ) -> Went {
     let mut answer = [0u8; 32769];
-    let read = program_io::read_named(name, &mut answer);
+    let read = program_io::read_named(rt, name, &mut answer);
     let size = read.size;
     if read.failed {
         return run_unread(block, name, went);
     }
-    let used = sitting_lib::write_candidate(block, name, sheet, given, start, &answer[..size]);
+    let used = sitting_lib::write_candidate(
+        block,
+        name,
+        paper.sheet,
+        paper.given,
+        paper.start,
+        &answer[..size],
+    );
     one_more(went, false, print(block, used))
 }
 
 // A name after its mark.
 fn run_name(
+    rt: &HostRuntime,
     block: &mut [u8],
-    sheet: &[u8],
-    given: bool,
-    start: &[u8],
+    paper: Paper<'_>,
     marked: &[u8],
     went: Went,
 ) -> Went {
@@ -67,26 +83,26 @@ fn run_name(
     if marked[0] != b'+' {
         return run_unread(block, &marked[1..], went);
     }
-    run_answer(block, sheet, given, start, &marked[1..], went)
+    run_answer(rt, block, paper, &marked[1..], went)
 }
 
 // The next name, or none.
 fn run_part(
+    rt: &HostRuntime,
     block: &mut [u8],
-    sheet: &[u8],
-    given: bool,
-    start: &[u8],
+    paper: Paper<'_>,
     there: bool,
     marked: &[u8],
     went: Went,
 ) -> Went {
     if there {
-        return run_name(block, sheet, given, start, marked, went);
+        return run_name(rt, block, paper, marked, went);
     }
     went
 }
 
-fn run_names(block: &mut [u8], sheet: &[u8], given: bool, start: &[u8]) -> Went {
+fn run_names(rt: &HostRuntime, block: &mut [u8], paper: Paper<'_>) -> Went {
+    let mut input = rt.stdin();
     let mut name = [0u8; 4097];
     let mut bytes = [0u8; 65536];
     let mut names = program_input::no_parts_yet();
@@ -98,20 +114,12 @@ fn run_names(block: &mut [u8], sheet: &[u8], given: bool, start: &[u8]) -> Went 
     // A loop that is proved ends, so it counts its turns down.
     let mut turns = u64::MAX;
     while 0 < turns && went.written && !names.ended {
-        let next = next_part(&mut bytes, &mut name, names, 0);
+        let next = next_part(&mut input, &mut bytes, &mut name, names, 0);
         let left = next.parts;
         names = left;
         let size = next.size;
         let so_far = went;
-        went = run_part(
-            block,
-            sheet,
-            given,
-            start,
-            next.there,
-            &name[..size],
-            so_far,
-        );
+        went = run_part(rt, block, paper, next.there, &name[..size], so_far);
         turns -= 1;
     }
     Went {
@@ -121,8 +129,8 @@ fn run_names(block: &mut [u8], sheet: &[u8], given: bool, start: &[u8]) -> Went 
     }
 }
 
-fn sit(block: &mut [u8], sheet: &[u8], given: bool, start: &[u8]) {
-    let went = run_names(block, sheet, given, start);
+fn sit(rt: &HostRuntime, block: &mut [u8], paper: Paper<'_>) {
+    let went = run_names(rt, block, paper);
     let used = write_report::write_count(block, b"candidates=", went.candidates);
     if went.written && print(block, used) {
         program_io::tell_of(went.unread, false);
@@ -139,44 +147,52 @@ fn argument_of(text: Text) -> usize {
 }
 
 // Where the paper is refused, that is said, and nobody is judged.
-fn is_refused(text: Text, line: usize, refused: u8) -> bool {
+fn is_refused(rt: &HostRuntime, text: Text, line: usize, refused: u8) -> bool {
     if refused == 0 {
         return false;
     }
     let mut path = [0u8; 4096];
-    let size = argument(argument_of(text), &mut path);
+    let size = argument(rt, argument_of(text), &mut path);
     program_input::say_paper(b"sitting", &path[..size], line, refused);
     program_io::tell_of(false, true);
     true
 }
 
-fn paper_refused(sheet: &[u8], given: bool, start: &[u8], timed: bool, times: &[u8]) -> bool {
+fn paper_refused(
+    rt: &HostRuntime,
+    sheet: &[u8],
+    given: bool,
+    start: &[u8],
+    timed: bool,
+    times: &[u8],
+) -> bool {
     if sitting_lib::is_aeolus(sheet) {
         let verdict = sitting_lib::plans::paper_verdict(sheet);
         let text = verdict.text;
-        return is_refused(text, verdict.line, verdict.refused);
+        return is_refused(rt, text, verdict.line, verdict.refused);
     }
     let verdict = outcome_lib::paper_verdict(sheet, given, start, timed, times);
     let text = verdict.text;
-    is_refused(text, verdict.line, verdict.refused)
+    is_refused(rt, text, verdict.line, verdict.refused)
 }
 
 // Each text has room for a byte more than it may have, so that a longer one still gets its number.
-fn main() {
+fn main(rt: HostRuntime) {
     let mut block = [0u8; LONGEST];
     let mut path = [0u8; 4096];
     let mut sheet = [0u8; 32769];
-    let k = argument(2, &mut path);
-    let n = program_io::read_named(&path[..k], &mut sheet).size;
+    let k = argument(&rt, 2, &mut path);
+    let n = program_io::read_named(&rt, &path[..k], &mut sheet).size;
     let mut start = [0u8; 8193];
-    let l = argument(3, &mut path);
-    let begun = program_io::read_start(&path[..l], &mut start);
+    let l = argument(&rt, 3, &mut path);
+    let begun = program_io::read_start(&rt, &path[..l], &mut start);
     let b = begun.size;
     let mut times = [0u8; 32769];
-    let m = argument(4, &mut path);
-    let timed = program_io::read_start(&path[..m], &mut times);
+    let m = argument(&rt, 4, &mut path);
+    let timed = program_io::read_start(&rt, &path[..m], &mut times);
     let t = timed.size;
     let refused = paper_refused(
+        &rt,
         &sheet[..n],
         begun.given,
         &start[..b],
@@ -184,6 +200,11 @@ fn main() {
         &times[..t],
     );
     if !refused {
-        sit(&mut block, &sheet[..n], begun.given, &start[..b]);
+        let paper = Paper {
+            sheet: &sheet[..n],
+            given: begun.given,
+            start: &start[..b],
+        };
+        sit(&rt, &mut block, paper);
     }
 }

@@ -2,6 +2,8 @@
 // Promised: every byte of the lent buffer, by `shown`, `cell` and `place_text`. What is shown is always printable, nothing of it means more where it stands,
 // and no two texts look alike (specs/Readable).
 // Beside it stands how the programs that show many texts read each of them.
+#![tactic(auto)]
+
 ghost use Rattle.std.specs.Prelude.{◌≡◌, ◌++◌, ◌<◌, min, length};
 ghost use Rattle.write_items.specs.Written.{Written};
 ghost use Rattle.sitting_shown.specs.Shown.{plain, quote, markup, separator, formula, more, itself, hex_digit, shown_byte, shown, cell};
@@ -9,8 +11,10 @@ ghost use Rattle.io.specs.Counts.{IsPrefixLen};
 ghost use Rattle.sitting_shown.specs.Place.{which_text, place_text};
 
 use judge_spec::Place;
-use libc::STDOUT_FILENO;
 use model::Text;
+use std::rt::Files;
+
+const STDOUT_FILENO: i32 = 1;
 
 // Where a candidate's bytes are shown: alone at a line's end, within markup, or in a cell of a table, as its first byte or a later one.
 #[derive(Clone, Copy)]
@@ -199,16 +203,13 @@ pub fn path_of(path: &mut [u8], name: &[u8], ending: &[u8]) -> usize
     write_items::write_key(path, at, ending)
 }
 
-// What stands in the file of a text; a missing one has no descriptor, and a read from none gives no bytes.
-pub fn read_named(name: &[u8], ending: &[u8], text: &mut [u8]) -> usize
+// What stands in the file of a text; one that can't be opened has no bytes, and neither has what comes after a read that fails.
+pub fn read_named<R: Files>(rt: &R, name: &[u8], ending: &[u8], text: &mut [u8]) -> usize
     ensures { IsPrefixLen result text.new }
 {
     let mut path = [0u8; 80];
     let size = path_of(&mut path, name, ending);
-    let file = os::open_read(&path[..size]);
-    let n = io::read_full(file, text);
-    libc::close(file);
-    n
+    program_io::read_as_far(rt, &path[..size], text)
 }
 
 // The place on standard output, and how many bytes that took.

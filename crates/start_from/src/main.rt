@@ -2,13 +2,18 @@
 // from standard input, and out goes what `judge_lib::next::next_start` writes. Promised there: every byte that is printed. Where a text or a step is refused
 // nothing is printed, and what is refused goes to standard error. Shown here: no index is out of range, and the program ends.
 // Called with an argument, as bin/start-from calls it, it tells on descriptor 3 that the whole start was written, or that something was refused or not read.
+#![tactic(auto)]
+
 use judge_lib::next::Next;
 use judge_spec::LENT_BYTES;
-use libc::{STDERR_FILENO, STDOUT_FILENO};
 use model::Text;
 
-fn tell(unread: bool, refused: bool) {
-    if 1 < os::arg_count() {
+const STDOUT_FILENO: i32 = 1;
+
+const STDERR_FILENO: i32 = 2;
+
+fn tell(rt: &HostRuntime, unread: bool, refused: bool) {
+    if program_io::has_argument(rt, 1) {
         program_io::tell_of(unread, refused);
     }
 }
@@ -33,15 +38,16 @@ fn say_refused(next: Next) {
 }
 
 // Each text has room for a byte more than it may have, so that a longer one still gets 1.
-fn main() {
+fn main(rt: HostRuntime) {
     let mut sheet = [0u8; 32769];
-    // A missing file has no descriptor, and a read from none gives no bytes: it counts as empty.
-    let n = io::read_full(os::open_read(b"sheet.txt"), &mut sheet);
+    // A missing file counts as empty.
+    let n = program_io::read_as_far(&rt, b"sheet.txt", &mut sheet);
     let mut start = [0u8; 8193];
-    let begun = program_io::read_start(b"start.txt", &mut start);
+    let begun = program_io::read_start(&rt, b"start.txt", &mut start);
     let k = begun.size;
     let mut answer = [0u8; 32769];
-    let read = program_io::read_answer(&mut answer, b"start-from: standard input");
+    let mut input = rt.stdin();
+    let read = program_io::read_answer(&mut input, &mut answer, b"start-from: standard input");
     let m = read.size;
     let mut out = [0u8; LENT_BYTES];
     let next = judge_lib::next::next_start(
@@ -53,11 +59,11 @@ fn main() {
     );
     if next.refused != 0 {
         say_refused(next);
-        tell(read.failed, true);
+        tell(&rt, read.failed, true);
         return;
     }
     let used = next.used;
     if io::write_all(STDOUT_FILENO, &out[..used]) {
-        tell(read.failed, false);
+        tell(&rt, read.failed, false);
     }
 }

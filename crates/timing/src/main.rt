@@ -1,20 +1,23 @@
 // Timing as a program: the sheet from sheet.txt and the times from times.txt in the current folder, the answer from standard input, and out goes what
 // `timing_lib::timed_print` says. Promised there: every byte that is printed. Shown here: no index is out of range, and the program ends.
 // Called with an argument, as bin/timing calls it, it tells on descriptor 3 that all was written, and whether the answer was read.
+#![tactic(auto)]
+
 use judge_spec::LENT_BYTES;
 
 // Each text has room for a byte more than it may have, so that a longer one still gets 1 or 40.
-fn main() {
+fn main(rt: HostRuntime) {
     let mut sheet = [0u8; 32769];
-    // A missing file has no descriptor, and a read from none gives no bytes: it counts as empty.
-    let n = io::read_full(os::open_read(b"sheet.txt"), &mut sheet);
+    // A missing file counts as empty.
+    let n = program_io::read_as_far(&rt, b"sheet.txt", &mut sheet);
     let mut times = [0u8; 32769];
-    let k = io::read_full(os::open_read(b"times.txt"), &mut times);
+    let k = program_io::read_as_far(&rt, b"times.txt", &mut times);
     let mut start = [0u8; 8193];
-    let begun = program_io::read_start(b"start.txt", &mut start);
+    let begun = program_io::read_start(&rt, b"start.txt", &mut start);
     let b = begun.size;
     let mut answer = [0u8; 32769];
-    let read = program_io::read_answer(&mut answer, b"timing: standard input");
+    let mut input = rt.stdin();
+    let read = program_io::read_answer(&mut input, &mut answer, b"timing: standard input");
     let m = read.size;
     let mut out = [0u8; LENT_BYTES];
     let used = timing_lib::timed_print(
@@ -25,5 +28,5 @@ fn main() {
         &times[..k],
         &mut out,
     );
-    program_io::finish(&out[..used], read.failed);
+    program_io::finish(&rt, &out[..used], read.failed);
 }

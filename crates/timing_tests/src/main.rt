@@ -1,8 +1,11 @@
 // Runs each paper, answer and times that an argument names, NAME.sheet, NAME.answer, NAME.times and, where there is one, NAME.start: its name, what `timing`
 // prints, and the place of the line at fault.
 // Promised by `timing_lib`: every byte between the name and the place, and the place. A triple is a line of triples.py, and make.py writes the rest.
+#![tactic(auto)]
+
 use judge_spec::LENT_BYTES;
-use libc::STDOUT_FILENO;
+
+const STDOUT_FILENO: i32 = 1;
 
 fn print_case(sheet: &[u8], given: bool, start: &[u8], answer: &[u8], times: &[u8]) {
     let mut out = [0u8; LENT_BYTES];
@@ -13,33 +16,33 @@ fn print_case(sheet: &[u8], given: bool, start: &[u8], answer: &[u8], times: &[u
     ));
 }
 
-fn run_started(name: &[u8], sheet: &[u8], answer: &[u8], times: &[u8]) {
+fn run_started(rt: &HostRuntime, name: &[u8], sheet: &[u8], answer: &[u8], times: &[u8]) {
     let mut path = [0u8; 80];
     let l = sitting_shown::path_of(&mut path, name, b".start");
     let mut start = [0u8; 8193];
-    let begun = program_io::read_start(&path[..l], &mut start);
+    let begun = program_io::read_start(rt, &path[..l], &mut start);
     let b = begun.size;
     print_case(sheet, begun.given, &start[..b], answer, times);
 }
 
-fn run_case(i: usize) {
+fn run_case(rt: &HostRuntime, i: usize) {
     let mut name = [0u8; 64];
-    let k = os::arg(i, &mut name);
+    let k = program_io::read_argument(rt, i, &mut name);
     io::write_all(STDOUT_FILENO, b"case=");
     io::write_all(STDOUT_FILENO, &name[..k]);
     io::write_all(STDOUT_FILENO, b"\n");
     let mut sheet = [0u8; 32769];
-    let n = sitting_shown::read_named(&name[..k], b".sheet", &mut sheet);
+    let n = sitting_shown::read_named(rt, &name[..k], b".sheet", &mut sheet);
     let mut answer = [0u8; 32769];
-    let m = sitting_shown::read_named(&name[..k], b".answer", &mut answer);
+    let m = sitting_shown::read_named(rt, &name[..k], b".answer", &mut answer);
     let mut times = [0u8; 32769];
-    let l = sitting_shown::read_named(&name[..k], b".times", &mut times);
-    run_started(&name[..k], &sheet[..n], &answer[..m], &times[..l]);
+    let l = sitting_shown::read_named(rt, &name[..k], b".times", &mut times);
+    run_started(rt, &name[..k], &sheet[..n], &answer[..m], &times[..l]);
 }
 
-fn main() {
-    let count = os::arg_count();
+fn main(rt: HostRuntime) {
+    let count = program_io::argument_count(&rt);
     for i in 1..count {
-        run_case(i);
+        run_case(&rt, i);
     }
 }

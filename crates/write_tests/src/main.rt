@@ -1,14 +1,17 @@
 // A test program. An argument names a sheet or an answer: it is read, written and compared, a sheet by way of a form too, `NAME same`. Or it names words,
 // lines `PLACE,HIGH,LOW`, the others 0, with a room: `NAME refused=N bytes=B read=R beside=S`, what the writer answers, what the reader says of the text, and
 // how many bytes of the buffer are as they were; then the text. make.py writes the cases.
+#![tactic(auto)]
+
 mod lent;
 
 ghost use Rattle.std.specs.Prelude.{◌≤◌};
 ghost use Rattle.io.specs.Counts.{IsPrefixLen};
 
 use lent::{lend, read_words, room_of};
-use libc::STDOUT_FILENO;
 use write_texts::Written;
+
+const STDOUT_FILENO: i32 = 1;
 
 fn ends_in(name: &[u8], end: &[u8]) -> bool {
     if name.len() < end.len() {
@@ -151,11 +154,11 @@ fn write_words(text: &[u8]) {
     write_lent(&all, &mut out);
 }
 
-fn run_text(i: usize) {
+fn run_text(rt: &HostRuntime, i: usize) {
     let mut name = [0u8; 64];
-    let k = os::arg(i, &mut name);
+    let k = program_io::read_argument(rt, i, &mut name);
     let mut buffer = [0u8; 70000];
-    let n = program_io::read_named(&name[..k], &mut buffer).size;
+    let n = program_io::read_named(rt, &name[..k], &mut buffer).size;
     io::write_all(STDOUT_FILENO, &name[..k]);
     if ends_in(&name[..k], b".words") {
         write_words(&buffer[..n]);
@@ -168,9 +171,9 @@ fn run_text(i: usize) {
     }
 }
 
-fn main() {
-    let n = os::arg_count();
+fn main(rt: HostRuntime) {
+    let n = program_io::argument_count(&rt);
     for i in 1..n {
-        run_text(i);
+        run_text(&rt, i);
     }
 }
