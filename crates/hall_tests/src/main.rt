@@ -53,7 +53,7 @@ fn moved(answered: Answered, configuration: LentConfiguration) -> Moved
     }
 }
 
-// Lends a configuration of its own. Its proof is a walk by hand.
+// Lends a configuration of its own.
 fn lend(
     tables: &TableWords,
     program: &ProgramWords,
