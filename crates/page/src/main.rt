@@ -8,7 +8,7 @@ use model::Text;
 use page_found::found_of;
 use page_lib::tops;
 use page_spec::Found;
-use program_input::{argument, at_most, base_from, next_part};
+use program_input::{Listed, argument, at_most, base_from, next_part, read_listed};
 use std::num::wrapping_add_usize;
 
 const STDOUT_FILENO: i32 = 1;
@@ -99,10 +99,11 @@ fn run_answer(
     counts: &mut [usize; 41],
     sat: Sat,
     paper: Paper<'_>,
-    path: &[u8],
+    listed: Listed<'_>,
 ) -> Sat {
+    let path = listed.name;
     let mut answer = [0u8; 32769];
-    let read = program_io::read_named(rt, path, &mut answer);
+    let read = program_io::read_named(rt, listed.path, &mut answer);
     let size = read.size;
     if read.failed {
         return run_unreadable(block, counts, sat, path);
@@ -175,10 +176,11 @@ fn run_name(
     if name.len() == 0 {
         return begin(rt, block, counts, sat);
     }
-    if name[0] != b'+' {
-        return run_unreadable(block, counts, sat, &name[1..]);
+    let listed = read_listed(name);
+    if !listed.plain {
+        return run_unreadable(block, counts, sat, listed.name);
     }
-    run_answer(rt, block, counts, sat, paper, &name[1..])
+    run_answer(rt, block, counts, sat, paper, listed)
 }
 
 fn run_names(

@@ -7,6 +7,7 @@
 ghost use Rattle.std.specs.Prelude.{◌≤◌, min, false, ◌≡◌, length, drop};
 ghost use Rattle.io.specs.Counts.{IsPrefixLen};
 ghost use Rattle.program_input.specs.Last.{last_part};
+ghost use Rattle.program_input.specs.Listed.{is_plain, path_in, name_in};
 
 use sitting_shown::Among;
 use std::env::FillError;
@@ -165,6 +166,44 @@ pub fn next_part<R: Read>(
         turns -= 1;
     }
     part_of(false, 0, part, so_far)
+}
+
+// A part of the list of names: whether it is of a plain file, the path that opens the file, and the name.
+#[derive(Clone, Copy)]
+pub struct Listed<'a> {
+    pub plain: bool,
+    pub path: &'a [u8],
+    pub name: &'a [u8],
+}
+
+// `+NAME` and `-NAME`, and of a plain file whose name is no text, by which std opens none, `=`, a byte that says how long a path is, the path and the name.
+pub fn read_listed(part: &[u8]) -> Listed<'_>
+    ensures plain { result.plain ≡ is_plain part.now }
+    ensures path { result.path.now ≡ path_in part.now }
+    ensures name { result.name.now ≡ name_in part.now }
+{
+    if part.len() == 0 {
+        return Listed {
+            plain: false,
+            path: part,
+            name: part,
+        };
+    }
+    if part[0] == b'=' && 1 < part.len() {
+        let from = part[1] as usize + 2;
+        if from <= part.len() {
+            return Listed {
+                plain: true,
+                path: &part[2..from],
+                name: &part[from..],
+            };
+        }
+    }
+    Listed {
+        plain: part[0] == b'+',
+        path: &part[1..],
+        name: &part[1..],
+    }
 }
 
 // Where a path's last part begins.

@@ -5,7 +5,7 @@
 #![tactic(auto)]
 
 use model::Text;
-use program_input::{argument, at_most, base_from, next_part};
+use program_input::{Listed, argument, at_most, base_from, next_part, read_listed};
 use register_lib::{row_of, write_row};
 
 const STDOUT_FILENO: i32 = 1;
@@ -45,9 +45,10 @@ fn run_unreadable(block: &mut [u8], path: &[u8]) -> Went {
     }
 }
 
-fn run_answer(rt: &HostRuntime, block: &mut [u8], paper: Paper<'_>, path: &[u8]) -> Went {
+fn run_answer(rt: &HostRuntime, block: &mut [u8], paper: Paper<'_>, listed: Listed<'_>) -> Went {
+    let path = listed.name;
     let mut answer = [0u8; 32769];
-    let read = program_io::read_named(rt, path, &mut answer);
+    let read = program_io::read_named(rt, listed.path, &mut answer);
     let size = read.size;
     if read.failed {
         return run_unreadable(block, path);
@@ -70,13 +71,11 @@ fn run_answer(rt: &HostRuntime, block: &mut [u8], paper: Paper<'_>, path: &[u8])
 
 // A name after its mark.
 fn run_name(rt: &HostRuntime, block: &mut [u8], paper: Paper<'_>, name: &[u8]) -> Went {
-    if name.len() == 0 {
-        return run_unreadable(block, name);
+    let listed = read_listed(name);
+    if !listed.plain {
+        return run_unreadable(block, listed.name);
     }
-    if name[0] != b'+' {
-        return run_unreadable(block, &name[1..]);
-    }
-    run_answer(rt, block, paper, &name[1..])
+    run_answer(rt, block, paper, listed)
 }
 
 fn run_names(rt: &HostRuntime, block: &mut [u8], paper: Paper<'_>) -> Went {

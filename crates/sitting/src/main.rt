@@ -5,7 +5,7 @@
 #![tactic(auto)]
 
 use model::Text;
-use program_input::{argument, at_most, next_part};
+use program_input::{Listed, argument, at_most, next_part, read_listed};
 use sitting_lib::LONGEST;
 
 const STDOUT_FILENO: i32 = 1;
@@ -49,11 +49,12 @@ fn run_answer(
     rt: &HostRuntime,
     block: &mut [u8],
     paper: Paper<'_>,
-    name: &[u8],
+    listed: Listed<'_>,
     went: Went,
 ) -> Went {
+    let name = listed.name;
     let mut answer = [0u8; 32769];
-    let read = program_io::read_named(rt, name, &mut answer);
+    let read = program_io::read_named(rt, listed.path, &mut answer);
     let size = read.size;
     if read.failed {
         return run_unread(block, name, went);
@@ -77,13 +78,11 @@ fn run_name(
     marked: &[u8],
     went: Went,
 ) -> Went {
-    if marked.len() == 0 {
-        return run_unread(block, marked, went);
+    let listed = read_listed(marked);
+    if !listed.plain {
+        return run_unread(block, listed.name, went);
     }
-    if marked[0] != b'+' {
-        return run_unread(block, &marked[1..], went);
-    }
-    run_answer(rt, block, paper, &marked[1..], went)
+    run_answer(rt, block, paper, listed, went)
 }
 
 // The next name, or none.

@@ -1,4 +1,4 @@
--- A candidate's bytes as a marker is shown them: printable ASCII as it is, and the blank, the backslash, what means more there, and every other byte as `\x_nn`.
+-- A candidate's bytes as a marker is shown them: printable ASCII as it is, and the blank, the backslash, what means more there, and every other byte as `\xNN`.
 use Rattle.std.specs.Prelude.{ℕ, ◌+◌, ◌-◌, ◌/◌, ◌%◌, Bool, true, false, ◌&&◌, ◌||◌, not, List, [], ◌∷◌, ◌++◌, leb, ltb, eqb}
 use Rattle.item_spec.specs.Reader.{bytes, byte}
 use Rattle.sitting_shown.specs.declared.Among.{Among}

@@ -1,4 +1,4 @@
-// What is shown of a candidate: bytes at a line's end, in markup, in a cell of a table, what isn't plain there as `\x_nn` in lower case; and the place of a line.
+// What is shown of a candidate: bytes at a line's end, in markup, in a cell of a table, what isn't plain there as `\xNN` in lower case; and the place of a line.
 // Promised: every byte of the lent buffer, by `shown`, `cell` and `place_text`. What is shown is always printable, nothing of it means more where it stands,
 // and no two texts look alike (specs/Readable).
 // Beside it stands how the programs that show many texts read each of them.
