@@ -17,6 +17,9 @@ use write_items::{write_byte, write_key};
 
 const STDERR_FILENO: i32 = 2;
 
+// What stands between a path's parts.
+const SLASH: u8 = b'/';
+
 // A path's bytes, each shown as four at most, and the words about it.
 const LONGEST: usize = 16600;
 
@@ -215,7 +218,7 @@ pub fn base_from(path: &[u8]) -> usize
     let mut i: usize = 0;
     while i < path.len() {
         let next = i + 1;
-        if path[i] == b'/' {
+        if path[i] == SLASH {
             from = next;
             i = next;
         } else {
