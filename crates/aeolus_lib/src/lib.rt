@@ -105,7 +105,8 @@ fn at_step(refused: u32) -> u8
     requires { refused < 100 }
     ensures { result ≡ at_step refused }
 {
-    if refused == 70 {
+    let after_all = refused == 70;
+    if after_all {
         return 0;
     }
     refused as u8

@@ -148,7 +148,8 @@ fn note_after(noted: bool, c: u8) -> bool
     if c == b'\n' {
         return false;
     }
-    if c == b'#' {
+    let sign = c == b'#';
+    if sign {
         return true;
     }
     noted

@@ -103,7 +103,8 @@ fn connection_lawful(tables: &TableWords, state: &StateWords, s: u32) -> bool
 fn connections_lawful(tables: &TableWords, state: &StateWords) -> bool
     ensures { result ≡ connections_lawful (tables_in tables.now) (state_in state.now) }
 {
-    if 64 < entries(state) {
+    let many = 64 < entries(state);
+    if many {
         return false;
     }
     let mut s: u32 = 0;

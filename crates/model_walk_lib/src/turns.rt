@@ -36,7 +36,8 @@ pub(crate) fn ordered(k: u32) -> StepWords
     if x == 0 {
         return step_of(4, i, 0);
     }
-    if x < 17 {
+    let enters = x < 17;
+    if enters {
         return step_of(3, i, x - 1);
     }
     if x < 49 {

@@ -61,7 +61,8 @@ pub fn end_run(text: &[u8], start: usize) -> LinesRead
 pub fn length_run(text: &[u8]) -> LinesRead
     ensures { RunsTo text.now result.went result.at tt (short text.now) }
 {
-    if LONGEST < text.len() {
+    let long = LONGEST < text.len();
+    if long {
         let went = Went::Stop(TOO_LONG);
         return LinesRead { went, at: 0 };
     }

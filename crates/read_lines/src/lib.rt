@@ -71,7 +71,8 @@ fn edition_line(s: &[u8]) -> Line
     if a < 1 {
         return Line::Refused(BAD_FORM);
     }
-    if 2 < a {
+    let unknown = 2 < a;
+    if unknown {
         return Line::Refused(BAD_FORM);
     }
     Line::Got(a, used)

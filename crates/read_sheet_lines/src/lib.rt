@@ -62,10 +62,12 @@ pub fn initial_line(s: &[u8], places: u32) -> Line
     let OneList::Got(mask, top, used) = read_items::list_line(s, b"initial=", Digits::Five) else {
         return Line::Refused(BAD_FORM);
     };
-    if places < top {
+    let beyond = places < top;
+    if beyond {
         return Line::Refused(BEYOND_LIMIT);
     }
-    if top == 0 {
+    let empty = top == 0;
+    if empty {
         return Line::Refused(BAD_CLAUSE);
     }
     Line::Got(mask, used)

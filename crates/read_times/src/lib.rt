@@ -52,7 +52,8 @@ fn time_line(s: &[u8], listed: &mut [u8; 1024], seconds: &mut [u32; 1024]) -> Ti
         return TimeLine::Refused(refusal(line));
     };
     let slot = (n.first * 32 + n.second) as usize;
-    if listed[slot] == 1 {
+    let twice = listed[slot] == 1;
+    if twice {
         return TimeLine::Refused(BAD_CLAUSE);
     }
     listed[slot] = 1;

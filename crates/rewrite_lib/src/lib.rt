@@ -46,7 +46,8 @@ pub fn rewrite(sheet: &[u8], out: &mut [u8; LONGEST]) -> Rewritten
     let mut tables = [0u32; 2002];
     let mut program = [0u32; 1282];
     let read = read_sheet::fill_sheet(sheet, &mut tables, &mut program);
-    if read.refused != 0 {
+    let refused = read.refused != 0;
+    if refused {
         let fault = judge_verdicts::after_fault(Text::Sheet, sheet, read.refused, read.place);
         return Rewritten {
             refused: read.refused,

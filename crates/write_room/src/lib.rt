@@ -16,7 +16,8 @@ pub fn room_fault(length: usize, room: usize) -> u8
     if LONGEST < length {
         return TOO_LONG;
     }
-    if room < length {
+    let short = room < length;
+    if short {
         return BUFFER_SHORT;
     }
     0

@@ -6,5 +6,5 @@ pub note_after_spec : {M : Type 1} → statement M
 note_after_spec =
     tie.close
     (tie.spec
-    (λ c. note-ends _ _ c.if-c-eq10.true) (λ c. note-begins _ _ c.if-c-eq10.false c.if-c-eq35.true)
-    (λ c. note-goes-on _ _ c.if-c-eq10.false c.if-c-eq35.false))
+    (λ c. note-ends _ _ c.if-c-eq10.true) (λ c. note-begins _ _ c.if-c-eq10.false c.if-sign.true)
+    (λ c. note-goes-on _ _ c.if-c-eq10.false c.if-sign.false))

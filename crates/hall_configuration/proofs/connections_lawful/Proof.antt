@@ -18,19 +18,19 @@ invariant-loop tables state s₀ s = Passed 512 (lawful_at (tables_in tables) (s
 abbrev decreases-loop : tie.decreases-loop-s
 decreases-loop tables state s₀ s = 512 - s
 
-returns : tie.Need-returns-then-entries-gt64 invariant-loop decreases-loop
+returns : tie.Need-returns-then-many invariant-loop decreases-loop
 unfolding connections_lawful
-returns c = rw (← c.entries.ensures.0, lt-leb _ _ c.if-entries-gt64.true)
+returns c = rw (← c.entries.ensures.0, lt-leb _ _ c.if-many.true)
 
 -- few enough, and so by each use port
-each : (e : tie.Else-entries-gt64 invariant-loop decreases-loop) (r : Bool)
+each : (e : tie.Else-many invariant-loop decreases-loop) (r : Bool)
     → let s = e.args in
     r ≡ all_below 512 (lawful_at (tables_in s.tables.now) (state_in s.state.now) (state_in s.state.now).servers)
     → r ≡ connections_lawful (tables_in s.tables.now) (state_in s.state.now)
 unfolding connections_lawful
 each e r is =
     let s = e.args in
-    rw (← e.entries.ensures.0, le-leb _ _ e.if-entries-gt64.false) (is ∙ sym (lawful-all (tables_in s.tables.now) (state_in s.state.now) _ (servers-length _)))
+    rw (← e.entries.ensures.0, le-leb _ _ e.if-many.false) (is ∙ sym (lawful-all (tables_in s.tables.now) (state_in s.state.now) _ (servers-length _)))
 
 loop-holds : tie.Need-loop-s-init invariant-loop decreases-loop
 loop-holds c = none_yet _ _

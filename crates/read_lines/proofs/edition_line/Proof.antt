@@ -21,18 +21,18 @@ returns-2 c =
     let h = told number_says _ c.number_line.ensures c.in-Got.is in
     record { reads = record { within = search rules; same = sym (keyed-got _ _ _ h ∙ rw (edition-out c.in-Got.a (λ l g. omega (arith, c.if-a-lt1.true)))) }; limited = tt }
 
-returns-3 : tie.Need-returns-then-a-gt2
+returns-3 : tie.Need-returns-then-unknown
 unfolding edition_line
 returns-3 c =
     let h = told number_says _ c.number_line.ensures c.in-Got.is in
-    record { reads = record { within = search rules; same = sym (keyed-got _ _ _ h ∙ rw (edition-out c.in-Got.a (λ l g. omega (arith, c.if-a-gt2.true)))) }; limited = tt }
+    record { reads = record { within = search rules; same = sym (keyed-got _ _ _ h ∙ rw (edition-out c.in-Got.a (λ l g. omega (arith, c.if-unknown.true)))) }; limited = tt }
 
 returns-4 : tie.Need-returns
 unfolding edition_line
 returns-4 c =
     let h = told number_says _ c.number_line.ensures c.in-Got.is in
     let l = c.if-a-lt1.false in
-    let g = c.if-a-gt2.false in
+    let g = c.if-unknown.false in
     record { reads = record { within = h.within; same = sym (keyed-got _ _ _ h ∙ rw (edition-in _ l g)) }; limited = (l, g) }
 
 pub edition_line_spec : {M : Type 1} → statement M

@@ -14,6 +14,6 @@ initial_line_spec =
     (tie.spec
     (λ c κs. search rules) (λ c. search rules) (λ c. search rules)
     (λ c. whole-line _ _ _ (form-fault _ _ (told list_says _ c.list_line.ensures c.in_default.is)))
-    (λ c. whole-line _ _ _ (limit-fault _ _ (told list_says _ c.list_line.ensures c.in-Got.is) (rw (lt-leb _ _ c.if-places-top.true))))
-    (λ c. whole-line _ _ _ (limit-fault _ _ (told list_says _ c.list_line.ensures c.in-Got.is) (rw (le-leb _ _ c.if-places-top.false, eq-eqb _ _ c.if-top-eq0.true))))
-    (λ c. whole-line _ _ _ (limit-kept _ _ (told list_says _ c.list_line.ensures c.in-Got.is) (rw (le-leb _ _ c.if-places-top.false, ne_eqb _ _ c.if-top-eq0.false)))))
+    (λ c. whole-line _ _ _ (limit-fault _ _ (told list_says _ c.list_line.ensures c.in-Got.is) (rw (lt-leb _ _ c.if-beyond.true))))
+    (λ c. whole-line _ _ _ (limit-fault _ _ (told list_says _ c.list_line.ensures c.in-Got.is) (rw (le-leb _ _ c.if-beyond.false, eq-eqb _ _ c.if-empty.true))))
+    (λ c. whole-line _ _ _ (limit-kept _ _ (told list_says _ c.list_line.ensures c.in-Got.is) (rw (le-leb _ _ c.if-beyond.false, ne_eqb _ _ c.if-empty.false)))))

@@ -36,17 +36,17 @@ returns-2 c par j =
     rw (c.refusal.ensures, c.in_default-line.is)
     (no-numbers _ _ j (stands c.before.before.before) (told numbers_says _ c.numbers_within-line.ensures c.in_default-line.is))
 
-returns-3 : tie.Need-returns-then-listed-slot-eq1
+returns-3 : tie.Need-returns-then-twice
 returns-3 c par j =
     let e = c in
-    listed-twice _ _ j (stands c.before.before.before.before.before.before.before) (numbers c.before.before.before.before.before) (eq-eqb _ _ c.if-listed-slot-eq1.true)
+    listed-twice _ _ j (stands c.before.before.before.before.before.before.before) (numbers c.before.before.before.before.before) (eq-eqb _ _ c.if-twice.true)
 
 returns-4 : tie.Need-returns
 unfolding with_time
 returns-4 c par j =
     let e = c in
     let a = c.args in
-    listed-now a.s.now (filled par a.listed.now a.seconds.now) j (stands c.before.before.before.before.before.before.before.before) (numbers c.before.before.before.before.before.before) (ne_eqb _ _ c.if-listed-slot-eq1.false) refl
+    listed-now a.s.now (filled par a.listed.now a.seconds.now) j (stands c.before.before.before.before.before.before.before.before) (numbers c.before.before.before.before.before.before) (ne_eqb _ _ c.if-twice.false) refl
 
 pub time_line_spec : {M : Type 1} → statement M
 time_line_spec =

@@ -9,17 +9,17 @@ use Rattle.rewrite_lib.proofs.Bytes.{counted}
 use Rattle.rewrite_lib.proofs.rewrite.Statement.{statement}
 use Rattle.rewrite_lib.proofs.rewrite.Tie as tie
 
-returns : tie.Need-returns-then-read-ne0
+returns : tie.Need-returns-then-refused
 unfolding after_fault
 returns c =
     let y = c.fill_sheet-read in
     let s = c in
-    (refused-so (sheet-came _ y.ensures) s.args.out.now c.if-read-ne0.true c.after_fault-fault.result.line (ap (λ (v : Verdict). v.line) c.after_fault-fault.ensures), (search rules, refl))
+    (refused-so (sheet-came _ y.ensures) s.args.out.now c.if-refused.true c.after_fault-fault.result.line (ap (λ (v : Verdict). v.line) c.after_fault-fault.ensures), (search rules, refl))
 
 write-sheet-requires : tie.Need-write_sheet-written-requires
 write-sheet-requires c κs =
     let k = sheet-came _ c.fill_sheet-read.ensures in
-    let z = c.if-read-ne0.false in
+    let z = c.if-refused.false in
     (k.short-is z, λ e. k.begins-so z (sym c.depth-depth.ensures ∙ e))
 
 returns-2 : tie.Need-returns
@@ -28,7 +28,7 @@ returns-2 c =
     let s = c in
     let d = c.depth-depth.ensures in
     let (size, is) = rw d at c.write_sheet-written.ensures in
-    (rewritten-so k s.args.out.now c.if-read-ne0.false _ _ size is, counted _ s.args.out.now _ _ size is)
+    (rewritten-so k s.args.out.now c.if-refused.false _ _ size is, counted _ s.args.out.now _ _ size is)
 
 pub rewrite_spec : {M : Type 1} → statement M
 rewrite_spec = tie.close (tie.spec

@@ -6,5 +6,5 @@ pub room_fault_spec : {M : Type 1} → statement M
 room_fault_spec =
     tie.close
     (tie.spec
-    (λ c. rw (lt-leb _ _ c.if-length-gt-LONGEST.true)) (λ c. rw (le-leb _ _ c.if-length-gt-LONGEST.false, lt-leb _ _ c.if-room-length.true))
-    (λ c. rw (le-leb _ _ c.if-length-gt-LONGEST.false, le-leb _ _ c.if-room-length.false)))
+    (λ c. rw (lt-leb _ _ c.if-length-gt-LONGEST.true)) (λ c. rw (le-leb _ _ c.if-length-gt-LONGEST.false, lt-leb _ _ c.if-short.true))
+    (λ c. rw (le-leb _ _ c.if-length-gt-LONGEST.false, le-leb _ _ c.if-short.false)))
