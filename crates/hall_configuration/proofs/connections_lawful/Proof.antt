@@ -13,14 +13,14 @@ use Rattle.hall_configuration.proofs.connections_lawful.Statement.{statement}
 use Rattle.hall_configuration.proofs.connections_lawful.Tie as tie
 
 abbrev invariant-loop : tie.invariant-loop-s
-invariant-loop tables state s₀ s = Passed 512 (lawful_at (tables_in tables) (state_in state) (state_in state).servers) s
+invariant-loop tables state many s₀ s = Passed 512 (lawful_at (tables_in tables) (state_in state) (state_in state).servers) s
 
 abbrev decreases-loop : tie.decreases-loop-s
-decreases-loop tables state s₀ s = 512 - s
+decreases-loop tables state many s₀ s = 512 - s
 
 returns : tie.Need-returns-then-many invariant-loop decreases-loop
 unfolding connections_lawful
-returns c = rw (← c.entries.ensures.0, lt-leb _ _ c.if-many.true)
+returns c = rw (← c.entries-many.ensures.0, lt-leb _ _ c.if-many.true)
 
 -- few enough, and so by each use port
 each : (e : tie.Else-many invariant-loop decreases-loop) (r : Bool)
@@ -30,7 +30,7 @@ each : (e : tie.Else-many invariant-loop decreases-loop) (r : Bool)
 unfolding connections_lawful
 each e r is =
     let s = e.args in
-    rw (← e.entries.ensures.0, le-leb _ _ e.if-many.false) (is ∙ sym (lawful-all (tables_in s.tables.now) (state_in s.state.now) _ (servers-length _)))
+    rw (← e.entries-many.ensures.0, le-leb _ _ e.if-many.false) (is ∙ sym (lawful-all (tables_in s.tables.now) (state_in s.state.now) _ (servers-length _)))
 
 loop-holds : tie.Need-loop-s-init invariant-loop decreases-loop
 loop-holds c = none_yet _ _
