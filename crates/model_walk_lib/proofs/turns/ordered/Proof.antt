@@ -33,4 +33,4 @@ ordered_spec =
     tie.close
     (tie.spec
     (λ c κs. search rules) returns (λ c. search rules) (λ c. search rules) (λ c κs. search rules) returns-2 (λ c. search rules) (λ c κs. search rules)
-    returns-3 (λ c κs. search rules) returns-4 (λ c κs. search rules) returns-5)
+    returns-3 (λ c. search rules) (λ c κs. search rules) returns-4 (λ c κs. search rules) returns-5)
