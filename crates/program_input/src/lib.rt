@@ -1,6 +1,6 @@
-// Parts of standard input, each ended by a byte: the answers' names, as a script hands them to a program, each ended by a NUL, with `+` before a plain file's
-// name, `-` before any other, and `=` before a path and the name of the plain file that it opens; the rows of a register. And what a program says of a name or of a
-// paper on standard error.
+// Parts of standard input, each ended by a byte: the answers' names, as a script hands them to a program, each ended by a NUL, with `+` before a plain
+// file's name, `-` before any other, and `=` before a path and the name of the plain file that it opens; the rows of a register. And what a program says
+// of a name or of a paper on standard error.
 // Promised of standard input and of the arguments: a count within the lent buffer, and no more, since what they hold no contract can say.
 // Of a path: where its last part begins.
 #![tactic(auto)]
