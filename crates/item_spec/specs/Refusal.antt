@@ -1,5 +1,7 @@
 -- The refusal numbers 1 to 6 of 01 by name: those of texts and of the lent buffer.
 use Rattle.std.specs.Prelude.{ℕ}
+use Rattle.item_spec.specs.declared.Refusal.{Refusal}
+use Rattle.item_spec.specs.declared.Refusal.TheVariants as refusal
 
 -- a text is too long
 abbrev pub too_long : ℕ
@@ -24,3 +26,11 @@ bytes_after = 5
 -- the lent report buffer is shorter than the report
 abbrev pub buffer_short : ℕ
 buffer_short = 6
+
+-- the number of a text's refusal
+abbrev pub number_of : Refusal → ℕ
+number_of refusal.TooLong = too_long
+number_of refusal.BadForm = bad_form
+number_of refusal.BeyondLimit = beyond_limit
+number_of refusal.BadClause = bad_clause
+number_of refusal.BytesAfter = bytes_after

@@ -3,7 +3,7 @@
 use Prim.Native.Nat.{ℕ, zero, suc, ◌+◌, ◌-◌, ◌*◌, ◌<◌, ◌≤◌, min}
 use mathlib.Core.List.{List, [], ◌∷◌}
 use mathlib.Core.Bool.{Bool, true, false}
-use mathlib.Core.Path.{◌≡◌, refl, sym, ◌∙◌}
+use mathlib.Core.Path.{◌≡◌, refl, sym, ap, ◌∙◌}
 use native.Mathlib.Numerals.{add-one}
 use native.Mathlib.Nat.{pow-suc, zero-min, min-zero, suc-min-suc}
 use native.Mathlib.Omega.{arith}
@@ -20,6 +20,9 @@ use Rattle.read_items.specs.declared.Digits.{Digits}
 use Rattle.read_items.specs.declared.Digits.TheVariants.{Five, Seven}
 use Rattle.read_items.specs.Says.{most}
 use Rattle.read_items.specs.Reads.{Outcome, Reads}
+use Rattle.std.specs.declared.result.Result.{Result}
+use Rattle.std.specs.declared.result.Result.TheVariants.{Ok, Err}
+use Rattle.std.specs.Result.{IsErrAnd}
 
 -- a test that fails
 unless : (b : Bool) → (b ≡ true → ⊥) → b ≡ false
@@ -125,3 +128,8 @@ module _ (d e : ℕ) where
 -- ---- what was promised of an answer r, of the case v that it is
 pub told : {A R : Type 0} (says : R → Outcome A) {s : List ℕ} {m : Reply A} {r : R} (v : R) → Reads s (says r) m → r ≡ v → Reads s (says v) m
 told says v h e = rw e at h
+
+-- ---- what a `?` hands on is the error that it met
+pub handed_on : {A E : Type 0} {e : E} (r : Result A E) → IsErrAnd r (λ y. y ≡ e) → r ≡ Err e
+handed_on (Ok a) h = absurd h
+handed_on (Err y) h = ap Err h

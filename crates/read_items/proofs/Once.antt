@@ -1,20 +1,20 @@
 -- That no other case fits a reader's promise: the place and the reply fix what the enum says, and that fixes the enum.
 -- Assumes nothing.
-use Prim.Native.Nat.{ℕ, ◌≤◌}
+use Prim.Native.Nat.{ℕ, zero, suc, ◌≤◌}
 use mathlib.Core.List.{List}
 use mathlib.Core.Path.{◌≡◌, refl, sym, ap, ◌∙◌}
 use native.Mathlib.Omega.{arith}
 use lib.ListN.{length, drop, length-drop}
 use Rattle.item_spec.specs.Reader.{Reply, refused}
+use Rattle.item_spec.specs.Refusal.{number_of}
 use Rattle.item_spec.proofs.Laws.{not-got, got-value, got-rest}
 use Rattle.read_items.specs.Reads.{Outcome, past, fault, Reads, NoOther}
 use Rattle.read_items.specs.Within.{numbers_says}
-use Rattle.read_items.specs.declared.numbers.Numbers.TheVariants as numbers
 use Rattle.read_items.specs.Says.{due_says, number_says, list_says, lists_says}
-use Rattle.read_items.specs.declared.Due.TheVariants as due
-use Rattle.read_items.specs.declared.Number.TheVariants as number
-use Rattle.read_items.specs.declared.OneList.TheVariants as list
-use Rattle.read_items.specs.declared.TwoLists.TheVariants as lists
+use Rattle.item_spec.specs.declared.Refusal.{Refusal}
+use Rattle.item_spec.specs.declared.Refusal.TheVariants as refusal
+use Rattle.std.specs.declared.option.Option.TheVariants.{Some, None}
+use Rattle.std.specs.declared.result.Result.TheVariants.{Ok, Err}
 
 -- a place within the text is told by the text from it on
 pub place-once : (s : List ℕ) (a b : ℕ) → a ≤ length s → b ≤ length s → drop a s ≡ drop b s → a ≡ b
@@ -40,22 +40,42 @@ unfolding NoOther
 no_other says back e s m r q h g = sym (e r) ∙ ap back (same_outcome s m (says r) (says q) h g) ∙ e q
 
 pub due-once : NoOther due_says
-due-once = no_other due_says (elim [ past a n ↦ due.Past n | fault k ↦ due.Other ]) (elim [ due.Past n ↦ refl | due.Other ↦ refl ])
+due-once = no_other due_says (elim [ past a n ↦ Some n | fault k ↦ None ]) (elim [ Some n ↦ refl | None ↦ refl ])
 
 pub number-once : NoOther number_says
-number-once = no_other number_says (elim [ past a n ↦ number.Got a n | fault k ↦ number.Fault ]) (elim [ number.Got a n ↦ refl | number.Fault ↦ refl ])
+number-once = no_other number_says (elim [ past a n ↦ Some (a, n) | fault k ↦ None ]) (elim [ Some (a, n) ↦ refl | None ↦ refl ])
 
 pub list-once : NoOther list_says
 list-once =
     no_other list_says
-    (elim [ past a n ↦ list.Got a.mask a.top n | fault k ↦ list.Fault ])
-    (elim [ list.Got m t n ↦ refl | list.Fault ↦ refl ])
+    (elim [ past a n ↦ Some (record { mask = a.mask; top = a.top }, n) | fault k ↦ None ])
+    (elim [ Some (l, n) ↦ refl | None ↦ refl ])
 
 pub lists-once : NoOther lists_says
 lists-once =
     no_other lists_says
-    (elim [ past a n ↦ lists.Got a.0.mask a.0.top a.1.mask a.1.top n | fault k ↦ lists.Fault ])
-    (elim [ lists.Got m t o u n ↦ refl | lists.Fault ↦ refl ])
+    (elim [ past a n ↦ Some (record { mask = a.0.mask; top = a.0.top }, record { mask = a.1.mask; top = a.1.top }, n) | fault k ↦ None ])
+    (elim [ Some (l, m, n) ↦ refl | None ↦ refl ])
+
+-- the refusal of a number
+pub refusal_by : ℕ → Refusal
+refusal_by zero = refusal.TooLong
+refusal_by (suc zero) = refusal.TooLong
+refusal_by (suc (suc zero)) = refusal.BadForm
+refusal_by (suc (suc (suc zero))) = refusal.BeyondLimit
+refusal_by (suc (suc (suc (suc zero)))) = refusal.BadClause
+refusal_by (suc (suc (suc (suc (suc n))))) = refusal.BytesAfter
+
+pub refusal-back : (r : Refusal) → refusal_by (number_of r) ≡ r
+unfolding refusal_by
+refusal-back refusal.TooLong = refl
+refusal-back refusal.BadForm = refl
+refusal-back refusal.BeyondLimit = refl
+refusal-back refusal.BadClause = refl
+refusal-back refusal.BytesAfter = refl
 
 pub numbers-once : NoOther numbers_says
-numbers-once = no_other numbers_says (elim [ past a n ↦ numbers.Got a n | fault k ↦ numbers.Refused k ]) (elim [ numbers.Got a n ↦ refl | numbers.Refused k ↦ refl ])
+numbers-once =
+    no_other numbers_says
+    (elim [ past a n ↦ Ok (a, n) | fault k ↦ Err (refusal_by k) ])
+    (elim [ Ok (a, n) ↦ refl | Err r ↦ ap Err (refusal-back r) ])

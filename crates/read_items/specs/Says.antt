@@ -5,32 +5,31 @@ use Rattle.item_spec.specs.Read.{Set}
 use Rattle.read_items.specs.Reads.{Outcome, past, fault}
 use Rattle.read_items.specs.declared.Digits.{Digits}
 use Rattle.read_items.specs.declared.Digits.TheVariants as digits
-use Rattle.read_items.specs.declared.Due.{Due}
-use Rattle.read_items.specs.declared.Due.TheVariants as due
-use Rattle.read_items.specs.declared.Number.{Number}
-use Rattle.read_items.specs.declared.Number.TheVariants as number
-use Rattle.read_items.specs.declared.OneList.{OneList}
-use Rattle.read_items.specs.declared.OneList.TheVariants as list
-use Rattle.read_items.specs.declared.TwoLists.{TwoLists}
-use Rattle.read_items.specs.declared.TwoLists.TheVariants as lists
+use Rattle.read_items.specs.declared.Listed.{Listed}
+use Rattle.std.specs.declared.option.Option.{Option}
+use Rattle.std.specs.declared.option.Option.TheVariants.{Some, None}
 
 -- how many digits a number may have
 abbrev pub most : Digits → ℕ
 most digits.Five = 5
 most digits.Seven = 7
 
-abbrev pub due_says : Due → Outcome (Unit {0})
-due_says (due.Past n) = past tt n
-due_says due.Other = fault bad_form
+abbrev pub due_says : Option ℕ → Outcome (Unit {0})
+due_says (Some n) = past tt n
+due_says None = fault bad_form
 
-abbrev pub number_says : Number → Outcome ℕ
-number_says (number.Got a n) = past a n
-number_says number.Fault = fault bad_form
+abbrev pub number_says : Option (ℕ × ℕ) → Outcome ℕ
+number_says (Some (a, n)) = past a n
+number_says None = fault bad_form
 
-abbrev pub list_says : OneList → Outcome Set
-list_says (list.Got m t n) = past (record { mask = m; top = t }) n
-list_says list.Fault = fault bad_form
+-- a list as a set
+abbrev pub set_of : Listed → Set
+set_of l = record { mask = l.mask; top = l.top }
 
-abbrev pub lists_says : TwoLists → Outcome (Set × Set)
-lists_says (lists.Got m t o u n) = past (record { mask = m; top = t }, record { mask = o; top = u }) n
-lists_says lists.Fault = fault bad_form
+abbrev pub list_says : Option (Listed × ℕ) → Outcome Set
+list_says (Some (l, n)) = past (set_of l) n
+list_says None = fault bad_form
+
+abbrev pub lists_says : Option (Listed × Listed × ℕ) → Outcome (Set × Set)
+lists_says (Some (l, m, n)) = past (set_of l, set_of m) n
+lists_says None = fault bad_form

@@ -1,6 +1,6 @@
 -- Lines of one to four numbers, each below its limit: the form whole (2), then the limits (3).
 use Rattle.std.specs.Prelude.{ℕ, zero, suc, List, Bool, ◌&&◌, cond, ltb, eqb, get_or, set, replicate}
-use Rattle.item_spec.specs.Refusal.{beyond_limit}
+use Rattle.item_spec.specs.Refusal.{beyond_limit, number_of}
 use Rattle.item_spec.specs.Reader.{Reader, byte, ◌>>=◌, ◌>>◌, give, check}
 use Rattle.item_spec.specs.Read.{number, one_form, two_form, three_form, four_form}
 use Rattle.read_items.specs.Reads.{Outcome, past, fault}
@@ -8,15 +8,16 @@ use Rattle.read_items.specs.declared.numbers.Four.{Four}
 use Rattle.read_items.specs.declared.numbers.Limits.{Limits}
 use Rattle.read_items.specs.declared.numbers.Limits.TheVariants as limits
 use Rattle.read_items.specs.declared.numbers.Held.{Held}
-use Rattle.read_items.specs.declared.numbers.Numbers.{Numbers}
-use Rattle.read_items.specs.declared.numbers.Numbers.TheVariants as numbers
+use Rattle.item_spec.specs.declared.Refusal.{Refusal}
+use Rattle.std.specs.declared.result.Result.{Result}
+use Rattle.std.specs.declared.result.Result.TheVariants.{Ok, Err}
 
 abbrev pub four : ℕ → ℕ → ℕ → ℕ → Four
 four a b c e = record { first = a; second = b; third = c; fourth = e }
 
-abbrev pub numbers_says : Numbers → Outcome Four
-numbers_says (numbers.Got x n) = past x n
-numbers_says (numbers.Refused k) = fault k
+abbrev pub numbers_says : Result (Four × ℕ) Refusal → Outcome Four
+numbers_says (Ok (x, n)) = past x n
+numbers_says (Err r) = fault (number_of r)
 
 -- the numbers of at most d digits, and 0 for those that the line has not
 unfoldable pub numbers_within : ℕ → Limits → Reader Four

@@ -18,38 +18,11 @@ pub enum Digits {
     Seven,
 }
 
-// What is due stands here: the place past it. Or something else does.
+// A list: its members below 32 as a mask, and one more than its greatest member, 0 where it is empty.
 #[derive(Clone, Copy)]
-pub enum Due {
-    Past(usize),
-    Other,
-}
-
-// A number, and the place past the byte that ends it.
-#[derive(Clone, Copy)]
-pub enum Number {
-    Got(u32, usize),
-    Fault,
-}
-
-// A list: its members below 32 as a mask, and one more than its greatest member, 0 where it is empty. Then the place.
-#[derive(Clone, Copy)]
-pub enum OneList {
-    Got(u32, u32, usize),
-    Fault,
-}
-
-#[derive(Clone, Copy)]
-pub enum TwoLists {
-    Got(u32, u32, u32, u32, usize),
-    Fault,
-}
-
-// The value with one digit more.
-#[derive(Clone, Copy)]
-enum Digit {
-    More(u32),
-    Other,
+pub struct Listed {
+    pub mask: u32,
+    pub top: u32,
 }
 
 // A list of which a part has been read: its whole members, and the digits of the next.
@@ -61,46 +34,34 @@ struct SoFar {
     value: u32,
 }
 
-#[derive(Clone, Copy)]
-enum Member {
-    Added(u32, u32),
-    Other,
-}
-
+// What a byte does to a list: it goes on, or it ends.
 #[derive(Clone, Copy)]
 enum Turn {
     On(SoFar),
-    End(u32, u32),
-    Fault,
+    End(Listed),
 }
 
 // The place at, or the text's end where that lies past it.
 pub fn place_in(s: &[u8], at: usize) -> usize
     ensures { result ≡ min at (length s.now) }
 {
-    if s.len() < at {
-        return s.len();
-    }
-    at
+    at.min(s.len())
 }
 
-// The bytes due stand at the place at. Whether there are so many is asked once, before the first is looked at.
-pub fn past_key(s: &[u8], at: usize, due: &[u8]) -> Due
+// The bytes due stand at the place at: the place past them. Whether there are so many is asked once, before the first is looked at.
+pub fn past_key(s: &[u8], at: usize, due: &[u8]) -> Option<usize>
     ensures { Reads s.now (due_says result) (key due.now (drop at s.now)) }
 {
-    let mut i = place_in(s, at);
+    let i = place_in(s, at);
     if s.len() - i < due.len() {
-        return Due::Other;
+        return None;
     }
-    let mut j: usize = 0;
-    while j < due.len() {
-        if s[i] != due[j] {
-            return Due::Other;
+    for (j, byte) in due.iter().enumerate() {
+        if s[i + j] != *byte {
+            return None;
         }
-        i = i + 1;
-        j = j + 1;
     }
-    Due::Past(i)
+    Some(i + due.len())
 }
 
 fn most(digits: Digits) -> usize
@@ -115,100 +76,89 @@ fn most(digits: Digits) -> usize
 pub fn wide(x: u8) -> u32
     ensures { result ≡ x }
 {
-    x as u32
+    u32::from(x)
 }
 
-// The byte c as one digit more, after count digits of that value.
-fn digit_after(digits: Digits, count: usize, value: u32, c: u8) -> Digit
+// The value with the byte c as one digit more, after count digits of that value.
+fn digit_after(digits: Digits, count: usize, value: u32, c: u8) -> Option<u32>
     requires { Small count value }
     ensures { TakesDigit (most digits) count value c result }
 {
     if c < b'0' {
-        return Digit::Other;
+        return None;
     }
     if b'9' < c {
-        return Digit::Other;
+        return None;
     }
     if most(digits) <= count {
-        return Digit::Other;
+        return None;
     }
     if 0 < count {
         if value == 0 {
-            return Digit::Other;
+            return None;
         }
     }
     let more = value * 10 + wide(c - b'0');
-    Digit::More(more)
+    Some(more)
 }
 
-// A number and the byte that ends it.
-pub fn number_then(s: &[u8], at: usize, end: u8, digits: Digits) -> Number
+// A number and the byte that ends it: its value, and the place past that byte.
+pub fn number_then(s: &[u8], at: usize, end: u8, digits: Digits) -> Option<(u32, usize)>
     ensures { Reads s.now (number_says result) (number (most digits) end (drop at s.now)) }
 {
-    let mut i = at;
     let mut count: usize = 0;
     let mut value: u32 = 0;
-    while i < s.len() {
+    for i in at..s.len() {
         let c = s[i];
         if c == end {
             if count == 0 {
-                return Number::Fault;
+                return None;
             }
-            let next = i + 1;
-            return Number::Got(value, next);
+            return Some((value, i + 1));
         }
-        let Digit::More(more) = digit_after(digits, count, value, c) else {
-            return Number::Fault;
-        };
+        let more = digit_after(digits, count, value, c)?;
         value = more;
-        count = count + 1;
-        i = i + 1;
+        count += 1;
     }
-    Number::Fault
+    None
 }
 
 // The list with its next member, where the digits are there and the member is above all others.
-fn member_after(f: SoFar) -> Member
+fn member_after(f: SoFar) -> Option<Listed>
     requires { Small f.count f.value }
     ensures { TakesMember f result }
 {
     if f.count == 0 {
-        return Member::Other;
+        return None;
     }
     if f.value < f.top {
-        return Member::Other;
+        return None;
     }
     let mask = sets::with(f.mask, f.value);
     let top = f.value + 1;
-    Member::Added(mask, top)
+    Some(Listed { mask, top })
 }
 
 // One byte of a list.
-fn list_byte(f: SoFar, c: u8, end: u8, digits: Digits) -> Turn
+fn list_byte(f: SoFar, c: u8, end: u8, digits: Digits) -> Option<Turn>
     requires { Small f.count f.value }
     ensures { Turns (most digits) end f c result }
 {
     if c == end {
-        let Member::Added(mask, top) = member_after(f) else {
-            return Turn::Fault;
-        };
-        return Turn::End(mask, top);
+        let listed = member_after(f)?;
+        return Some(Turn::End(listed));
     }
     if c == b'+' {
-        let Member::Added(mask, top) = member_after(f) else {
-            return Turn::Fault;
-        };
+        let listed = member_after(f)?;
         let next = SoFar {
-            mask,
-            top,
+            mask: listed.mask,
+            top: listed.top,
             count: 0,
             value: 0,
         };
-        return Turn::On(next);
+        return Some(Turn::On(next));
     }
-    let Digit::More(value) = digit_after(digits, f.count, f.value, c) else {
-        return Turn::Fault;
-    };
+    let value = digit_after(digits, f.count, f.value, c)?;
     let count = f.count + 1;
     let next = SoFar {
         mask: f.mask,
@@ -216,94 +166,77 @@ fn list_byte(f: SoFar, c: u8, end: u8, digits: Digits) -> Turn
         count,
         value,
     };
-    Turn::On(next)
+    Some(Turn::On(next))
 }
 
 // The members of a list, one at least, and the byte that ends them.
-fn members_then(s: &[u8], at: usize, end: u8, digits: Digits) -> OneList
+fn members_then(s: &[u8], at: usize, end: u8, digits: Digits) -> Option<(Listed, usize)>
     ensures { Reads s.now (list_says result) (members_from (most digits) end 0 0 0 0 (drop at s.now)) }
 {
-    let mut i = at;
     let mut f = SoFar {
         mask: 0,
         top: 0,
         count: 0,
         value: 0,
     };
-    while i < s.len() {
-        let c = s[i];
-        let turn = list_byte(f, c, end, digits);
-        let next = i + 1;
+    for i in at..s.len() {
+        let turn = list_byte(f, s[i], end, digits)?;
         match turn {
             Turn::On(more) => {
                 f = more;
-                i = next;
             }
-            Turn::End(mask, top) => {
-                return OneList::Got(mask, top, next);
-            }
-            Turn::Fault => {
-                return OneList::Fault;
+            Turn::End(listed) => {
+                return Some((listed, i + 1));
             }
         }
     }
-    OneList::Fault
+    None
 }
 
 // A list and the byte that ends it; `-` is the empty list.
-pub fn list_then(s: &[u8], at: usize, end: u8, digits: Digits) -> OneList
+pub fn list_then(s: &[u8], at: usize, end: u8, digits: Digits) -> Option<(Listed, usize)>
     ensures { Reads s.now (list_says result) (list (most digits) end (drop at s.now)) }
 {
-    let Due::Past(i) = past_key(s, at, b"-") else {
+    let Some(i) = past_key(s, at, b"-") else {
         return members_then(s, at, end, digits);
     };
-    let ends = [end; 1];
-    let Due::Past(next) = past_key(s, i, &ends) else {
-        return OneList::Fault;
-    };
-    OneList::Got(0, 0, next)
+    let next = past_key(s, i, &[end])?;
+    let none = Listed { mask: 0, top: 0 };
+    Some((none, next))
 }
 
 // What stands between the key and the line's end: a number, a list, two lists; more numbers: module numbers.
-pub fn one_number(s: &[u8], at: usize, digits: Digits) -> Number
+pub fn one_number(s: &[u8], at: usize, digits: Digits) -> Option<(u32, usize)>
     ensures { Reads s.now (number_says result) (one_form (most digits) (drop at s.now)) }
 {
     number_then(s, at, b'\n', digits)
 }
 
-fn one_list(s: &[u8], at: usize, digits: Digits) -> OneList
+fn one_list(s: &[u8], at: usize, digits: Digits) -> Option<(Listed, usize)>
     ensures { Reads s.now (list_says result) (list_form (most digits) (drop at s.now)) }
 {
     list_then(s, at, b'\n', digits)
 }
 
-pub fn two_lists(s: &[u8], at: usize, digits: Digits) -> TwoLists
+pub fn two_lists(s: &[u8], at: usize, digits: Digits) -> Option<(Listed, Listed, usize)>
     ensures { Reads s.now (lists_says result) (lists_form (most digits) (drop at s.now)) }
 {
-    let OneList::Got(first, first_top, i) = list_then(s, at, b',', digits) else {
-        return TwoLists::Fault;
-    };
-    let OneList::Got(second, second_top, next) = one_list(s, i, digits) else {
-        return TwoLists::Fault;
-    };
-    TwoLists::Got(first, first_top, second, second_top, next)
+    let (first, i) = list_then(s, at, b',', digits)?;
+    let (second, next) = one_list(s, i, digits)?;
+    Some((first, second, next))
 }
 
 // A line of a key and a number, a list. Where a verb follows the key, past_key tells it, and the rest is read from there.
-pub fn number_line(s: &[u8], key: &[u8], digits: Digits) -> Number
+pub fn number_line(s: &[u8], key: &[u8], digits: Digits) -> Option<(u32, usize)>
     ensures { Reads s.now (number_says result) (keyed key.now (one_form (most digits)) s.now) }
 {
-    let Due::Past(i) = past_key(s, 0, key) else {
-        return Number::Fault;
-    };
+    let i = past_key(s, 0, key)?;
     one_number(s, i, digits)
 }
 
-pub fn list_line(s: &[u8], key: &[u8], digits: Digits) -> OneList
+pub fn list_line(s: &[u8], key: &[u8], digits: Digits) -> Option<(Listed, usize)>
     ensures { Reads s.now (list_says result) (keyed key.now (list_form (most digits)) s.now) }
 {
-    let Due::Past(i) = past_key(s, 0, key) else {
-        return OneList::Fault;
-    };
+    let i = past_key(s, 0, key)?;
     one_list(s, i, digits)
 }

@@ -1,11 +1,11 @@
 // Lines of one to four numbers, each below its limit: the form whole first, then the limits.
 ghost use Rattle.std.specs.Prelude.{◌≡◌, drop};
-ghost use Rattle.read_items.specs.Reads.{Reads, refusal};
+ghost use Rattle.read_items.specs.Reads.{Reads};
 ghost use Rattle.read_items.specs.Says.{most};
 ghost use Rattle.read_items.specs.Within.{numbers_says, numbers_within, held_by, end_of, within};
 
-use crate::{Digits, Number, number_then};
-use item_spec::{BAD_FORM, BEYOND_LIMIT};
+use crate::{Digits, number_then};
+use item_spec::Refusal;
 
 // How many numbers a line has, and what each lies below.
 #[derive(Clone, Copy)]
@@ -23,12 +23,6 @@ pub struct Four {
     pub second: u32,
     pub third: u32,
     pub fourth: u32,
-}
-
-#[derive(Clone, Copy)]
-pub enum Numbers {
-    Got(Four, usize),
-    Refused(u8),
 }
 
 // The same limits in one row: a number that the line has not is 0, and so below 1.
@@ -71,23 +65,19 @@ fn end_of(left: usize) -> u8
     if left == 1 { b'\n' } else { b',' }
 }
 
-// The numbers of a line from a place on, up to the line's end.
-pub fn numbers_within(s: &[u8], at: usize, digits: Digits, limits: Limits) -> Numbers
+// The numbers of a line from a place on, up to the line's end, and the place past it.
+pub fn numbers_within(s: &[u8], at: usize, digits: Digits, limits: Limits) -> Result<(Four, usize), Refusal>
     ensures { Reads s.now (numbers_says result) (numbers_within (most digits) limits (drop at s.now)) }
 {
     let held = held_by(limits);
     let mut got = [0u32; 4];
     let mut next = at;
-    let mut k: usize = 0;
-    let mut left = held.count;
-    while 0 < left {
-        let Number::Got(a, i) = number_then(s, next, end_of(left), digits) else {
-            return Numbers::Refused(BAD_FORM);
+    for k in 0..held.count {
+        let Some((a, i)) = number_then(s, next, end_of(held.count - k), digits) else {
+            return Err(Refusal::BadForm);
         };
         got[k] = a;
         next = i;
-        k = k + 1;
-        left = left - 1;
     }
     let four = Four {
         first: got[0],
@@ -96,9 +86,9 @@ pub fn numbers_within(s: &[u8], at: usize, digits: Digits, limits: Limits) -> Nu
         fourth: got[3],
     };
     if within(four, held) {
-        return Numbers::Got(four, next);
+        return Ok((four, next));
     }
-    Numbers::Refused(BEYOND_LIMIT)
+    Err(Refusal::BeyondLimit)
 }
 
 fn within(four: Four, held: Held) -> bool
@@ -106,14 +96,4 @@ fn within(four: Four, held: Held) -> bool
 {
     let ends = (four.third < held.third) & (four.fourth < held.fourth);
     (four.first < held.first) & ((four.second < held.second) & ends)
-}
-
-// The number of a line's refusal, 0 where the line was read.
-pub fn refusal(line: Numbers) -> u8
-    ensures { result ≡ refusal (numbers_says line) }
-{
-    match line {
-        Numbers::Got(_, _) => 0,
-        Numbers::Refused(k) => k,
-    }
 }

@@ -20,7 +20,8 @@ use Rattle.read_items.proofs.Laws.{from_end, told}
 use Rattle.read_lines.specs.declared.Limit.{Limit}
 use Rattle.read_lines.specs.declared.Limit.TheVariants as limit
 use Rattle.read_lines.specs.declared.Range.{Range}
-use Rattle.read_lines.specs.declared.Line.{Line}
+use Rattle.item_spec.specs.declared.Refusal.{Refusal}
+use Rattle.std.specs.declared.result.Result.{Result}
 use Rattle.read_lines.specs.Counts.{limit_ok, range_of, in_range, CountsIn, Counts}
 
 -- ---- a line read at the part of s from start on
@@ -55,6 +56,13 @@ module _ {A R : Type 0} (says : R → Outcome A) (m : Reader A) (s : List ℕ) (
       let l : start ≤ length s = omega arith in
       rw (same_rest s at start e) at (moved s start l (says v) (told says v (rw (rest-is start s) at h) q))
 
+-- the same where the case of the answer is known
+module _ {A : Type 0} (m : Reader A) (s : List ℕ) (at start : ℕ) (e : start ≡ min at (length s)) where
+  pub line-there : {o : Outcome A} → Reads (part s start) o (m (part s start)) → Reads s (onward start o) (m (drop at s))
+  line-there {o} h =
+      let l : start ≤ length s = omega arith in
+      rw (same_rest s at start e) at (moved s start l o (rw (rest-is start s) at h))
+
 -- ---- a count's limit
 from-none : (b a : ℕ) → leb a b ≡ in_range 0 b a
 from-none b a = rw (leb-zero a)
@@ -73,7 +81,7 @@ limit_is limit.Steps a = from-none 1024 a
 pub count-to : (d b : ℕ) (k s : List ℕ) → count_line_in d k (λ a. leb a b) s ≡ count_line_in d k (in_range 0 b) s
 count-to d b k s = ap (λ (f : ℕ → Bool). count_line_in d k f s) (fun_ext (from-none b))
 
-pub count-limit : (l : Limit) (k t : List ℕ) {s : List ℕ} {x : Range} {r : Line} → x ≡ range_of l
+pub count-limit : (l : Limit) (k t : List ℕ) {s : List ℕ} {x : Range} {r : Result (ℕ × ℕ) Refusal} → x ≡ range_of l
     → CountsIn s x.0 x.1 r (count_line_in five_digits k (in_range x.0 x.1) t) → Counts s l r (count_line k (limit_ok l) t)
 count-limit l k t e h = rw (fun_ext (limit_is l)) (rw e at h)
 

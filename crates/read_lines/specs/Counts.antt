@@ -1,4 +1,4 @@
--- A line of a count: its limit, and what each case of its enum says.
+-- A line of a count: its limit, and what each case of its answer says.
 use Rattle.std.specs.Prelude.{ℕ, ◌≤◌, List, Bool, ◌&&◌, leb}
 use Rattle.item_spec.specs.Reader.{Reply}
 use Rattle.read_spec.specs.Limits.{depth_ok, types_ok, places_ok, transitions_ok, behaviors_ok, ports_ok, program_ok, steps_ok}
@@ -6,8 +6,10 @@ use Rattle.read_items.specs.Reads.{Outcome, past, fault, Reads}
 use Rattle.read_lines.specs.declared.Limit.{Limit}
 use Rattle.read_lines.specs.declared.Limit.TheVariants as limit
 use Rattle.read_lines.specs.declared.Range.{Range}
-use Rattle.read_lines.specs.declared.Line.{Line}
-use Rattle.read_lines.specs.declared.Line.TheVariants as line
+use Rattle.item_spec.specs.Refusal.{number_of}
+use Rattle.item_spec.specs.declared.Refusal.{Refusal}
+use Rattle.std.specs.declared.result.Result.{Result}
+use Rattle.std.specs.declared.result.Result.TheVariants.{Ok, Err}
 
 -- the limit's test, and the numbers that it lies between
 abbrev pub limit_ok : Limit → ℕ → Bool
@@ -37,19 +39,19 @@ greatest l = (range_of l).1
 abbrev pub in_range : ℕ → ℕ → ℕ → Bool
 in_range a b n = leb a n && leb n b
 
-abbrev pub line_says : Line → Outcome ℕ
-line_says (line.Got a n) = past a n
-line_says (line.Refused k) = fault k
+abbrev pub line_says : Result (ℕ × ℕ) Refusal → Outcome ℕ
+line_says (Ok (a, n)) = past a n
+line_says (Err r) = fault (number_of r)
 
-abbrev pub Lies : ℕ → ℕ → Line → Type 0
-Lies a b (line.Got x n) = (a ≤ x) × (x ≤ b)
-Lies a b (line.Refused k) = Unit
+abbrev pub Lies : ℕ → ℕ → Result (ℕ × ℕ) Refusal → Type 0
+Lies a b (Ok (x, n)) = (a ≤ x) × (x ≤ b)
+Lies a b (Err r) = Unit
 
 -- the answer r is what a definition that replies m says of the text s, and a count that was read lies from a to b
-pub record CountsIn (s : List ℕ) (a b : ℕ) (r : Line) (m : Reply ℕ) : Type 0 where
+pub record CountsIn (s : List ℕ) (a b : ℕ) (r : Result (ℕ × ℕ) Refusal) (m : Reply ℕ) : Type 0 where
   pub reads : Reads s (line_says r) m
   pub limited : Lies a b r
 
 -- the same for a count with a limit's name
-abbrev pub Counts : List ℕ → Limit → Line → Reply ℕ → Type 0
+abbrev pub Counts : List ℕ → Limit → Result (ℕ × ℕ) Refusal → Reply ℕ → Type 0
 Counts s l r m = CountsIn s (range_of l).0 (greatest l) r m
