@@ -1,6 +1,6 @@
 -- Items joined by `+` in any order, `-` for none: m reads one, told the byte that ends it.
 use Rattle.std.specs.Prelude.{ℕ, zero, suc, List, [], ◌∷◌, Bool, true, false, length}
-use Rattle.item_spec.specs.Reader.{Reader, got, refused, read_on, ◌>>=◌, ◌>>◌, give, no_line, byte}
+use Rattle.item_spec.specs.Reader.{Reader, got, refused, read_on, ◌>>=◌, give, no_line, byte}
 use Rattle.item_spec.specs.Read.{upon}
 
 -- an item, and whether another follows

@@ -2,85 +2,67 @@
 -- Assumes nothing.
 use Prim.Native.Nat.{ℕ}
 use mathlib.Core.List.{List}
-use mathlib.Core.Logic.{◌⊎◌, inl, inr}
 use mathlib.Core.Path.{◌≡◌, refl, sym, ap, ◌∙◌}
-use native.Mathlib.Omega.{arith}
-use Rattle.read_items.proofs.Once.{place-once}
-use Rattle.read_spec.specs.Lines.{Run, Lines, on, stop}
-use Rattle.read_lines.specs.declared.Went.{Went}
-use Rattle.read_lines.specs.declared.Went.TheVariants.{On, Stop}
-use Rattle.read_lines.specs.Runs.{run, RunsTo}
-use Rattle.read_chain.specs.declared.LinesRead.{LinesRead}
-use Rattle.read_chain.specs.declared.NumberRead.{NumberRead}
-use Rattle.read_chain.specs.Chain.{After, Held, NoOtherRun, NoOtherAfter, NoOtherNumber}
-use Rattle.read_chain.proofs.Chain.{not-both, one_of}
-
-abbrev rest : {A : Type 0} → Run A → List ℕ
-rest (on a r) = r
-rest (stop n r) = r
-
-abbrev value : Run ℕ → ℕ
-value (on n r) = n
-value (stop n r) = 0
+use lib.ListN.{drop}
+use Rattle.read_items.proofs.Once.{place-once, refusal_by, refusal-back}
+use Rattle.read_spec.specs.Lines.{Run, on, stop}
+use Rattle.read_lines.specs.declared.LineFault.{LineFault}
+use Rattle.read_lines.specs.Runs.{Came, onto, fault_at, place, run, came, number_came, RunsTo}
+use Rattle.read_chain.specs.Chain.{NoOtherRun, NoOtherNumber}
+use Rattle.std.specs.declared.result.Result.{Result}
+use Rattle.std.specs.declared.result.Result.TheVariants.{Ok, Err}
 
 module _ {A : Type 0} where
-  same-went : (w v : Went) (a b : A) (t u : List ℕ) → run w a t ≡ run v b u → w ≡ v
-  same-went On On a b t u e = refl
-  same-went On (Stop k) a b t u e = let z : ◌≡◌ {A = ℕ} 0 1 = cc in absurd (omega arith)
-  same-went (Stop j) On a b t u e = let z : ◌≡◌ {A = ℕ} 0 1 = cc in absurd (omega arith)
-  same-went (Stop j) (Stop k) a b t u e = cc
+  abbrev rest : Run A → List ℕ
+  rest (on a r) = r
+  rest (stop n r) = r
 
-  same_rest : (w v : Went) (a b : A) (t u : List ℕ) → run w a t ≡ run v b u → t ≡ u
-  same_rest On On a b t u e = ap rest e
-  same_rest On (Stop k) a b t u e = ap rest e
-  same_rest (Stop j) On a b t u e = ap rest e
-  same_rest (Stop j) (Stop k) a b t u e = ap rest e
+  run-rest : (s : List ℕ) (c : Came A) → rest (run s c) ≡ drop (place c) s
+  run-rest s (onto a at) = refl
+  run-rest s (fault_at k at) = refl
 
-  lines_same : (s : List ℕ) (r q : LinesRead) (a b : A) {m : Run A} → RunsTo s r.went r.at a m → RunsTo s q.went q.at b m → r ≡ q
-  lines_same s r q a b h g =
+  same_place : (s : List ℕ) (c d : Came A) {m : Run A} → RunsTo s c m → RunsTo s d m → place c ≡ place d
+  same_place s c d h g = place-once s (place c) (place d) h.within g.within (sym (run-rest s c) ∙ ap rest (h.same ∙ sym g.same) ∙ run-rest s d)
+
+  -- what came of it, told by the run and the place
+  abbrev back : Run A → ℕ → Came A
+  back (on a r) at = onto a at
+  back (stop k r) at = fault_at k at
+
+  back-is : (s : List ℕ) (c : Came A) → back (run s c) (place c) ≡ c
+  back-is s (onto a at) = refl
+  back-is s (fault_at k at) = refl
+
+  pub same_came : (s : List ℕ) (c d : Came A) {m : Run A} → RunsTo s c m → RunsTo s d m → c ≡ d
+  same_came s c d h g =
+      let p = same_place s c d h g in
       let e = h.same ∙ sym g.same in
-      let w = same-went r.went q.went a b _ _ e in
-      let p = place-once s r.at q.at h.within g.within (same_rest r.went q.went a b _ _ e) in
-      λ i. record { went = w i; at = p i }
+      sym (back-is s c) ∙ (λ i. back (e i) (p i)) ∙ back-is s d
 
-  after_same : (s : List ℕ) (a : LinesRead) (f : Lines A) (r q : LinesRead) (b c : A) → After s a f r b → After s a f q c → r ≡ q
-  after_same s a f r q b c h g = by (one_of a.went)
-    where
-      by : (a.went ≡ On) ⊎ ((k : ℕ) × (a.went ≡ Stop k)) → r ≡ q
-      by (inl e) = lines_same s r q b c (h.went e) (g.went e)
-      by (inr (k, e)) = h.stopped k e ∙ sym (g.stopped k e)
+-- and that tells the answer
+abbrev fault_back : ℕ → ℕ → LineFault
+fault_back k at = record { refusal = refusal_by k; at = at }
+
+abbrev came_back : Came (Unit {0}) → Result ℕ LineFault
+came_back (onto a at) = Ok at
+came_back (fault_at k at) = Err (fault_back k at)
+
+came-back : (r : Result ℕ LineFault) → came_back (came r tt) ≡ r
+came-back (Ok at) = refl
+came-back (Err f) = ap (λ q. Err (record { refusal = q; at = f.at })) (refusal-back f.refusal)
+
+abbrev number_back : Came ℕ → Result (ℕ × ℕ) LineFault
+number_back (onto a at) = Ok (a, at)
+number_back (fault_at k at) = Err (fault_back k at)
+
+number-back : (r : Result (ℕ × ℕ) LineFault) → number_back (number_came r) ≡ r
+number-back (Ok (a, at)) = refl
+number-back (Err f) = ap (λ q. Err (record { refusal = q; at = f.at })) (refusal-back f.refusal)
 
 pub run-once : NoOtherRun
 unfolding NoOtherRun
-run-once s m r q h g = lines_same s r q tt tt h g
-
-pub after-once : NoOtherAfter
-unfolding NoOtherAfter
-after-once s a f r q h g = after_same s a f r q tt tt h g
-
-same-value : (w v : Went) (n k : ℕ) (t u : List ℕ) → w ≡ On → v ≡ On → run w n t ≡ run v k u → n ≡ k
-same-value On On n k t u p q e = ap value e
-same-value On (Stop j) n k t u p q e = absurd (not-both (sym q))
-same-value (Stop j) v n k t u p q e = absurd (not-both (sym p))
-
-module _ (s : List ℕ) (a : LinesRead) (f : Lines ℕ) (n : ℕ) (r q : NumberRead) (h : After s a f r.read r.number) (l : Held n r)
-    (g : After s a f q.read q.number) (o : Held n q) where
-  same : r.read ≡ q.read
-  same = after_same s a f r.read q.read r.number q.number h g
-
-  at-start : (a.went ≡ On) ⊎ ((k : ℕ) × (a.went ≡ Stop k)) → r.read.went ≡ On → r.number ≡ q.number
-  at-start (inl e) w =
-      same-value r.read.went q.read.went r.number q.number _ _ w (sym (ap (λ (x : LinesRead). x.went) same) ∙ w)
-      ((h.went e).same ∙ sym (g.went e).same)
-  at-start (inr (k, e)) w = absurd (not-both (sym w ∙ ap (λ (x : LinesRead). x.went) (h.stopped k e) ∙ e))
-
-  numbers : (r.read.went ≡ On) ⊎ ((k : ℕ) × (r.read.went ≡ Stop k)) → r.number ≡ q.number
-  numbers (inl w) = at-start (one_of a.went) w
-  numbers (inr (k, w)) = l.none k w ∙ sym (o.none k (sym (ap (λ (x : LinesRead). x.went) same) ∙ w))
+run-once s m r q h g = sym (came-back r) ∙ ap came_back (same_came s (came r tt) (came q tt) h g) ∙ came-back q
 
 pub number-once : NoOtherNumber
 unfolding NoOtherNumber
-number-once s a f n r q h l g o =
-    let p = same s a f n r q h l g o in
-    let e = numbers s a f n r q h l g o (one_of r.read.went) in
-    λ i. record { read = p i; number = e i }
+number-once s m r q h g = sym (number-back r) ∙ ap number_back (same_came s (number_came r) (number_came q) h g) ∙ number-back q

@@ -1,3 +1,3 @@
--- What reading a whole text answers (Whole), and lines after what was read so far (Chain).
+-- What reading a whole text answers (Whole), and lines of one number, short texts (Chain).
 pub mod Whole
 pub mod Chain

@@ -2,8 +2,10 @@
 use Rattle.std.specs.Prelude.{ℕ, ◌-◌, List, true, false, length}
 use Rattle.read_spec.specs.Limits.{length_ok}
 use Rattle.read_spec.specs.Lines.{Run, Lines, on, stop}
-use Rattle.read_lines.specs.declared.Went.{Went}
-use Rattle.read_lines.specs.declared.Went.TheVariants.{On, Stop}
+use Rattle.item_spec.specs.Refusal.{number_of}
+use Rattle.read_lines.specs.declared.LineFault.{LineFault}
+use Rattle.std.specs.declared.result.Result.{Result}
+use Rattle.std.specs.declared.result.Result.TheVariants.{Ok, Err}
 use Rattle.read_chain.specs.declared.Place.{Place}
 
 pub record Whole (A : Type 0) : Type 0 where
@@ -24,7 +26,12 @@ whole none m s = elim (length_ok (length s)) [ true ↦ outcome none s (m s) | f
 abbrev pub beside : {A : Type 0} → Place → A → Whole A
 beside r a = record { refused = r.refused; place = r.place; value = a }
 
--- the value a of a reading that went w: nothing of it beside a refusal
-abbrev pub kept : {A : Type 0} → A → Went → A → A
-kept none On a = a
-kept none (Stop k) a = none
+-- the number and the place of a reading
+abbrev pub place_of : Result ℕ LineFault → Place
+place_of (Ok at) = record { refused = 0; place = at }
+place_of (Err f) = record { refused = number_of f.refusal; place = f.at }
+
+-- the value a of a reading: nothing of it beside a refusal
+abbrev pub kept : {A : Type 0} → A → Result ℕ LineFault → A → A
+kept none (Ok at) a = a
+kept none (Err f) a = none

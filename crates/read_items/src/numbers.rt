@@ -66,7 +66,12 @@ fn end_of(left: usize) -> u8
 }
 
 // The numbers of a line from a place on, up to the line's end, and the place past it.
-pub fn numbers_within(s: &[u8], at: usize, digits: Digits, limits: Limits) -> Result<(Four, usize), Refusal>
+pub fn numbers_within(
+    s: &[u8],
+    at: usize,
+    digits: Digits,
+    limits: Limits,
+) -> Result<(Four, usize), Refusal>
     ensures { Reads s.now (numbers_says result) (numbers_within (most digits) limits (drop at s.now)) }
 {
     let held = held_by(limits);

@@ -3,7 +3,6 @@
 use Prim.Native.Nat.{ℕ}
 use mathlib.Core.List.{List}
 use mathlib.Core.Path.{◌≡◌, refl, sym, ap, ◌∙◌}
-use native.Mathlib.Omega.{arith}
 use Rattle.item_spec.specs.Refusal.{number_of}
 use Rattle.item_spec.specs.declared.Refusal.{Refusal}
 use Rattle.read_spec.specs.Lines.{Run, on, stop}

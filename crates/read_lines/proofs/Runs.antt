@@ -6,13 +6,11 @@ use mathlib.Core.Path.{◌≡◌, refl, sym, ap, ◌∙◌}
 use native.Mathlib.Nat.{sub-zero, add-zero}
 use native.Mathlib.Omega.{arith}
 use lib.ListN.{length, drop, length-drop}
-use lib.Seq.{drop-drop}
-use Rattle.item_spec.specs.Reader.{Reply, Reader}
-use Rattle.read_spec.specs.Lines.{Run, Lines, on, stop, run_on, hand_on, line_of, line, each}
-use Rattle.read_items.specs.Reads.{Outcome, past, fault, refusal, Reads}
-use Rattle.read_items.proofs.Laws.{told}
+use Rattle.item_spec.specs.Reader.{Reader}
+use Rattle.read_spec.specs.Lines.{Run, Lines, on, stop, run_on, hand_on, line, each}
+use Rattle.read_items.specs.Reads.{past, fault, Reads}
 use Rattle.read_lines.specs.Runs.{Came, onto, fault_at, RunsTo}
-use Rattle.read_lines.proofs.Lines.{part, rest-is, same_rest, place-within, line-told}
+use Rattle.read_lines.proofs.Lines.{same_rest}
 
 -- ---- a refusal at the place at; the value a, before the place at
 pub stopped : {A : Type 0} {s : List ℕ} {k at : ℕ} {m : Run A} → at ≤ length s → m ≡ stop k (drop at s) → RunsTo s (fault_at k at) m

@@ -86,7 +86,13 @@ fn range_of(limit: Limit) -> Range
 }
 
 // The line of a key and a number from the least to the greatest.
-fn within_line(s: &[u8], key: &[u8], digits: Digits, least: u32, greatest: u32) -> Result<(u32, usize), Refusal>
+fn within_line(
+    s: &[u8],
+    key: &[u8],
+    digits: Digits,
+    least: u32,
+    greatest: u32,
+) -> Result<(u32, usize), Refusal>
     ensures { CountsIn s.now least greatest result (count_line_in (most digits) key.now (in_range least greatest) s.now) }
 {
     let Some((a, used)) = read_items::number_line(s, key, digits) else {

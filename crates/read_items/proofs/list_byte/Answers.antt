@@ -1,6 +1,5 @@
 use mathlib.Core.Path.{sym}
 use native.Mathlib.Numerals.{add-one}
-use native.Mathlib.Omega.{arith}
 use borrow.Author.Tests.{eq-eqb, ne_eqb}
 use Rattle.item_spec.proofs.Laws.{list-end, list-end-no, list-plus, list-plus-no, list-digit, list-other}
 use Rattle.read_items.proofs.Laws.{small-none}

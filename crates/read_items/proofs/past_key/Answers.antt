@@ -3,7 +3,7 @@ use mathlib.Core.Path.{◌≡◌, sym, ap, ◌∙◌}
 use native.Mathlib.Nat.{add-zero}
 use native.Mathlib.Omega.{arith}
 use borrow.Author.Rules.{rules}
-use lib.ListN.{length, drop}
+use lib.ListN.{length}
 use Rattle.item_spec.specs.Read.{key}
 use Rattle.read_items.proofs.Laws.{from_end, key-short, key-same, key-other, key-done}
 use Rattle.read_items.proofs.past_key.Goals as goal

@@ -1,4 +1,4 @@
-use Rattle.std.proofs.Common.{◌≡◌, ◌≤◌, length, take}
+use Rattle.std.proofs.Common.{◌≡◌, take}
 use Prim.Native.Nat.{suc}
 use Rattle.read_spec.specs.Place.{lfs}
 use Rattle.read_lines.proofs.line_number.Given as goal

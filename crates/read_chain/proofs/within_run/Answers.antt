@@ -1,0 +1,10 @@
+use Rattle.read_spec.specs.Kinds.{count_line}
+use Rattle.read_lines.specs.Counts.{in_range}
+use Rattle.read_chain.proofs.Chain.{number-line}
+use Rattle.read_chain.proofs.within_run.Goals as goal
+
+pub returns-clause-reads : goal.returns-clause-reads
+returns-clause-reads c = (number-line (count_line c.args.key.now (in_range c.args.least c.args.greatest)) c.args.text.now c.args.start _ c.within_at-line.ensures c.number_run.ensures).0
+
+pub returns-clause-few : goal.returns-clause-few
+returns-clause-few c = (number-line (count_line c.args.key.now (in_range c.args.least c.args.greatest)) c.args.text.now c.args.start _ c.within_at-line.ensures c.number_run.ensures).1
