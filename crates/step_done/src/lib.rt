@@ -15,12 +15,10 @@ use words::{ProgramWords, StateWords};
 fn queues_empty(state: &StateWords) -> bool
     ensures { result ≡ all_below 32 (λ i. eqb (instance (state_in state.now) i).queued 0) }
 {
-    let mut i: u32 = 0;
-    while i < 32 {
+    for i in 0..32 {
         if queued(state, i) != 0 {
             return false;
         }
-        i += 1;
     }
     true
 }
