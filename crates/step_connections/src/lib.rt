@@ -44,10 +44,8 @@ pub fn is_named(state: &StateWords, i: u32) -> bool
     ensures { result ≡ some_connection (state_in state.now) (named_by i) }
 {
     let mut found = false;
-    let mut s: u32 = 0;
-    while s < 512 {
+    for s in 0..512 {
         found = found | names(state, i, s);
-        s += 1;
     }
     found
 }
@@ -56,8 +54,8 @@ pub fn is_named(state: &StateWords, i: u32) -> bool
 fn server_number(v: u32, p: u32) -> u32
     ensures { result ≡ cond (ltb (port_number v p) 4294967295) (server_number v p) no_server }
 {
-    let n = (v as usize) * 16 + p as usize;
-    if n < 4294967295 { n as u32 + 1 } else { 0 }
+    let n = (v as usize) * 16 + p as usize + 1;
+    u32::try_from(n).unwrap_or(0)
 }
 
 // Where no word holds the server's number, the use port is left without one.

@@ -149,8 +149,7 @@ pub fn step(
 pub fn step_count(answer: &AnswerWords) -> u32
     ensures { result ≡ min (answer_in answer.now).count 1024 }
 {
-    let n = steps(answer);
-    if n < 1024 { n } else { 1024 }
+    steps(answer).min(1024)
 }
 
 fn come_to(accepted: u32, answered: Answered) -> Passed
@@ -178,14 +177,12 @@ pub fn walk(
         (steps_of (answer_in answer.now)) }
 {
     let n = step_count(answer);
-    let mut k: u32 = 0;
-    while k < n {
+    for k in 0..n {
         let due = step_at(answer, k);
         let answered = step(default, tables, program, begun, state, due);
         if answered.refused != 0 {
             return come_to(k, answered);
         }
-        k += 1;
     }
-    come_to(k, about_none(0))
+    come_to(n, about_none(0))
 }
