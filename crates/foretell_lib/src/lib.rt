@@ -57,8 +57,7 @@ fn foretell_names(
         (program_in program.now).count (state_in state.old) }
 {
     let n = instructions(program);
-    let mut k: u32 = 0;
-    while k < n {
+    for _ in 0..n {
         let next = StepWords {
             verb: 0,
             id: 0,
@@ -72,7 +71,6 @@ fn foretell_names(
             };
         }
         keep_names(state);
-        k += 1;
     }
     Told {
         next: done(state),

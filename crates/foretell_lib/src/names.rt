@@ -13,22 +13,18 @@ use words::state::{kind, present, put_bare, put_slot};
 fn quiet_all(state: &mut StateWords)
     ensures { state_in state.new ≡ quiet_below 32 (state_in state.old) }
 {
-    let mut i: u32 = 0;
-    while i < 32 {
+    for i in 0..32 {
         let here = present(state, i);
         let k = kind(state, i);
         put_bare(state, i, here, k, 0);
-        i += 1;
     }
 }
 
 fn zero_queues(state: &mut StateWords)
     ensures { state_in state.new ≡ with_queue (state_in state.old) (zeroed (state_in state.old).queue 0 256) }
 {
-    let mut n: usize = 0;
-    while n < 256 {
+    for n in 0..256 {
         put_slot(state, n, 0);
-        n += 1;
     }
 }
 

@@ -34,12 +34,10 @@ fn queue_lawful(default: u32, tables: &TableWords, state: &StateWords, i: u32) -
     if depth_of(default, tables) < n {
         return false;
     }
-    let mut r: u32 = 0;
-    while r < n {
+    for r in 0..n {
         if !queued_lawful(tables, state, i, r) {
             return false;
         }
-        r += 1;
     }
     true
 }
@@ -68,12 +66,10 @@ fn instance_lawful(default: u32, tables: &TableWords, state: &StateWords, i: u32
 fn instances_lawful(default: u32, tables: &TableWords, state: &StateWords) -> bool
     ensures { result ≡ all_below 32 (instance_lawful default (tables_in tables.now) (state_in state.now)) }
 {
-    let mut i: u32 = 0;
-    while i < 32 {
+    for i in 0..32 {
         if !instance_lawful(default, tables, state, i) {
             return false;
         }
-        i += 1;
     }
     true
 }
@@ -107,12 +103,10 @@ fn connections_lawful(tables: &TableWords, state: &StateWords) -> bool
     if many {
         return false;
     }
-    let mut s: u32 = 0;
-    while s < 512 {
+    for s in 0..512 {
         if !connection_lawful(tables, state, s) {
             return false;
         }
-        s += 1;
     }
     true
 }

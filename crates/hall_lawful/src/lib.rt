@@ -60,12 +60,10 @@ pub fn program_lawful(n: u32, program: &ProgramWords) -> bool
     if 256 < count {
         return false;
     }
-    let mut j: u32 = 0;
-    while j < count {
+    for j in 0..count {
         if !instruction_lawful(n, program, j) {
             return false;
         }
-        j += 1;
     }
     true
 }

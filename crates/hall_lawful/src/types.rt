@@ -63,12 +63,10 @@ fn parts_lawful(part: Part, tables: &TableWords, k: u32, n: u32, limit: u32) -> 
     if limit < n {
         return false;
     }
-    let mut x: u32 = 0;
-    while x < n {
+    for x in 0..n {
         if !part_lawful(part, tables, k, x) {
             return false;
         }
-        x += 1;
     }
     true
 }
@@ -89,12 +87,10 @@ fn type_lawful(tables: &TableWords, k: u32) -> bool
 pub fn types_lawful(tables: &TableWords, n: u32) -> bool
     ensures { result ≡ all_below n (type_lawful (tables_in tables.now)) }
 {
-    let mut k: u32 = 0;
-    while k < n {
+    for k in 0..n {
         if !type_lawful(tables, k) {
             return false;
         }
-        k += 1;
     }
     true
 }

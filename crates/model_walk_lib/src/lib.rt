@@ -53,17 +53,15 @@ fn model_steps(
         ≡ model_reached default_depth (tables_in tables.now) (program_from program.now begun.now)
         (state_in state.old)) }
 {
-    let mut k: u32 = 0;
-    while k < MOST_STEPS {
+    for k in 0..MOST_STEPS {
         let at = turn(tables, program, begun, state);
         if ORDERED <= at {
             return k;
         }
         let s = ordered(at);
         put_step(answer, k, s.verb, s.id, s.number);
-        k += 1;
     }
-    k
+    MOST_STEPS
 }
 
 fn no_model(refused: u8, text: Text, line: usize) -> Modelled

@@ -59,14 +59,12 @@ pub(crate) fn turn(
         × (state_in state.new ≡ after_turn (tables_in tables.now) (program_from program.now begun.now)
         (state_in state.old) (turn_at result)) }
 {
-    let mut k: u32 = 0;
-    while k < ORDERED {
+    for k in 0..ORDERED {
         let due = ordered(k);
         let answered = step(DEFAULT_DEPTH as u32, tables, program, begun, state, due);
         if answered.refused == 0 {
             return k;
         }
-        k += 1;
     }
-    k
+    ORDERED
 }

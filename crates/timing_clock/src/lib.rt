@@ -54,10 +54,8 @@ fn note_at(noted: &mut [usize], clock: usize, id: u32, xs: u32, x: u32)
 fn note(noted: &mut [usize], clock: usize, id: u32, xs: u32)
     ensures { noted.new ≡ notes clock id xs 32 noted.old }
 {
-    let mut x: u32 = 0;
-    while x < 32 {
+    for x in 0..32 {
         note_at(noted, clock, id, xs, x);
-        x += 1;
     }
 }
 
@@ -119,8 +117,7 @@ pub fn walk_timed(
     let n = step_count(answer);
     let mut noted = [0usize; 1024];
     let mut clock: usize = 0;
-    let mut k: u32 = 0;
-    while k < n {
+    for k in 0..n {
         let due = step_at(answer, k);
         let verb = due.verb;
         let id = due.id;
@@ -139,10 +136,9 @@ pub fn walk_timed(
         }
         let xs = without(running(state, id), before);
         clock = tick(seconds, &mut noted, clock, xs, verb, id, number);
-        k += 1;
     }
     let passed = Passed {
-        accepted: k,
+        accepted: n,
         refused: 0,
         port: Concerned::NoPort,
     };

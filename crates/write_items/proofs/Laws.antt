@@ -1,6 +1,6 @@
 -- Laws of `Written`: nothing written, a byte, one writer after another, a writer in the free part, and where all has room.
 -- Assumes nothing.
-use Prim.Native.Nat.{ℕ, zero, suc, ◌+◌, ◌-◌, ◌≤◌, ◌<◌, min}
+use Prim.Native.Nat.{ℕ, zero, suc, ◌+◌, ◌-◌, ◌≤◌, ◌<◌}
 use mathlib.Core.Path.{◌≡◌, ap, sym, ◌∙◌, subst}
 use mathlib.Core.List.{List, [], ◌∷◌, ◌++◌, append_assoc, append-nil}
 use mathlib.Core.Logic.{by_cases}
@@ -38,19 +38,6 @@ none old a = record { to_is = omega arith; new_is = rw (take-nil {A = ℕ} (leng
 
 pub all_past : (old bytes : List ℕ) (a : ℕ) → length old ≤ a → Written old bytes old a a
 all_past old bytes a h = record { to_is = omega arith; new_is = sym (gone old bytes a a h (omega arith)) }
-
--- as many as have room are as good as all
-pub as_many : {old bytes new : List ℕ} {a n b : ℕ} → n ≡ min (length bytes) (length old - a) → Written old (take n bytes) new a b → Written old bytes new a b
-as_many {old} {bytes} {new} {a} {n} {b} e w =
-    by_cases (dec_lt (length bytes) (length old - a))
-    (λ h. rw (take_all n bytes (omega arith)) at w)
-    (λ h.
-    let m : n ≡ length old - a = omega arith in
-    let l : length (take n bytes) ≡ n = length-take n bytes ∙ (let f : min n (length bytes) ≡ n = omega arith in f) in
-    record {
-      to_is = w.to_is ∙ (let f : a + min (length old - a) (length (take n bytes)) ≡ a + min (length old - a) (length bytes) = omega (arith, l) in f);
-      new_is = w.new_is ∙ ap (λ (xs : List ℕ). take a old ++ xs ++ drop b old) (take_all (length old - a) (take n bytes) (omega (arith, l)) ∙ ap (λ (k : ℕ). take k bytes) m);
-    })
 
 module _ (old : List ℕ) (a b : ℕ) where
   pub byte-stored : a < length old → Written old (b ∷ []) (set old a b) a (a + 1)

@@ -19,7 +19,7 @@ pub fn write_byte(t: &mut [u8], at: usize, b: u8) -> usize
     at + 1
 }
 
-// A key, or any bytes. How many have room is asked once, so that the compiler copies several at a time.
+// A key, or any bytes: those that have room are copied at once.
 pub fn write_key(t: &mut [u8], at: usize, key: &[u8]) -> usize
     ensures { Written t.old key.now t.new at result }
 {
@@ -27,11 +27,7 @@ pub fn write_key(t: &mut [u8], at: usize, key: &[u8]) -> usize
         return at;
     }
     let n = smaller(key.len(), t.len() - at);
-    let mut i: usize = 0;
-    while i < n {
-        t[at + i] = key[i];
-        i += 1;
-    }
+    t[at..at + n].copy_from_slice(&key[..n]);
     at + n
 }
 

@@ -53,11 +53,9 @@ fn write_queue(t: &mut [u8], at: usize, state: &StateWords, i: u32) -> usize
         return write_byte(t, at, b'-');
     }
     let mut p = write_slot(t, at, slot(state, i, 0));
-    let mut s: u32 = 1;
-    while s < n {
+    for s in 1..n {
         p = write_byte(t, p, b'+');
         p = write_slot(t, p, slot(state, i, s));
-        s += 1;
     }
     p
 }
@@ -120,10 +118,8 @@ fn write_instance_lines(t: &mut [u8], state: &StateWords) -> usize
     ensures { Written t.old (in_turn (instance_at (state_in state.now)) 32) t.new 0 result }
 {
     let mut used: usize = 0;
-    let mut i: u32 = 0;
-    while i < 32 {
+    for i in 0..32 {
         used += write_present(&mut t[used..], state, i);
-        i += 1;
     }
     used
 }
@@ -135,14 +131,15 @@ fn write_connection_lines(t: &mut [u8], state: &StateWords, n: u32) -> usize
 {
     let mut used: usize = 0;
     let mut left = n;
-    let mut s: u32 = 0;
-    while 0 < left {
+    for s in 0..512 {
+        if left == 0 {
+            return used;
+        }
         let x = server(state, s);
         if x != 0 {
             used += write_connection(&mut t[used..], s, x);
             left -= 1;
         }
-        s += 1;
     }
     used
 }
@@ -152,12 +149,10 @@ fn tally(state: &StateWords) -> usize
     ensures { result ≡ tally 32 (λ i. (instance (state_in state.now) i).present) }
 {
     let mut n: usize = 0;
-    let mut i: u32 = 0;
-    while i < 32 {
+    for i in 0..32 {
         if present(state, i) {
             n += 1;
         }
-        i += 1;
     }
     n
 }

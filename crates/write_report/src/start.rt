@@ -62,10 +62,8 @@ fn write_row_lines(t: &mut [u8], first: u32, lasts: &[usize], state: &StateWords
     ensures { Written t.old (in_turn (row_at first lasts.now (state_in state.now)) 32) t.new 0 result }
 {
     let mut used: usize = 0;
-    let mut i: u32 = 0;
-    while i < 32 {
+    for i in 0..32 {
         used += write_row_at(&mut t[used..], first, lasts, state, i);
-        i += 1;
     }
     used
 }

@@ -1,54 +1,40 @@
--- A loop over lines, for their numbers.
+-- A loop over lines, for the first of their numbers.
 -- Assumes nothing.
-use Prim.Native.Nat.{ℕ, zero, suc, ◌+◌, ◌≤◌, ◌<◌}
-use mathlib.Core.Bool.{true, false, ◌&&◌}
-use mathlib.Core.Path.{◌≡◌, sym, ap, ◌∙◌}
-use mathlib.Core.Logic.{by_cases}
+use Prim.Native.Nat.{ℕ, zero, suc, ◌+◌, ◌<◌}
+use mathlib.Core.Path.{◌≡◌, refl, sym, ◌∙◌}
+use mathlib.Core.Logic.{◌≢◌, by_cases}
 use native.Mathlib.Omega.{arith}
 use native.Mathlib.Numerals.{add-one}
 use native.Mathlib.Decide.{dec_lt}
-use lib.Dec.{eqb, ltb}
-use borrow.Author.Tests.{eqb-true, eqb-false, ltb-true, ltb-false}
-use Rattle.item_spec.proofs.Tests.{by-test, and_left, and_right}
 use Rattle.rules_spec.specs.Refusal.{or_number}
 use Rattle.write_spec.specs.Texts.{first_of}
-use Rattle.write_spec.proofs.Turns.{or-zero, or_some, or_assoc}
+use Rattle.write_spec.proofs.Turns.{or-zero, or_some}
 
--- n is the first of a and of the numbers of x lines, of m in all; a loop goes on while there is none
-pub record Found (a : ℕ) (f : ℕ → ℕ) (m x n : ℕ) : Type 0 where
-  pub up : x ≤ m
-  pub first : n ≡ or_number a (first_of f x)
+-- the number n of the line of a count comes before those of the lines
+pub limit-first : (a b n : ℕ) → n ≡ a → n ≢ 0 → n ≡ or_number a b
+limit-first a b n e some = e ∙ sym (or_some a b (λ z. some (e ∙ z)))
 
-or-none : (a : ℕ) → or_number a 0 ≡ a
-or-none a = by-test (eqb a 0) (λ z. or-zero a 0 (eqb-true a 0 z) ∙ sym (eqb-true a 0 z)) (λ z. or_some a 0 (eqb-false a 0 z))
-
-pub going : (m x n : ℕ) → eqb n 0 && ltb x m ≡ true → x < m
-going m x n e = ltb-true x m (and_right (eqb n 0) (ltb x m) e)
-
-module _ (a : ℕ) (f : ℕ → ℕ) (m : ℕ) where
-  pub found_none : (n : ℕ) → n ≡ a → Found a f m 0 n
+module _ (f : ℕ → ℕ) where
+  pub first-start : first_of f 0 ≡ 0
   unfolding first_of
-  found_none n e = record { up = omega arith; first = e ∙ sym (or-none a) }
+  first-start = refl
 
-  -- one line more comes after what was found
-  further : (x : ℕ) → or_number a (first_of f (suc x)) ≡ or_number (or_number a (first_of f x)) (f x)
-  unfolding first_of
-  further x = or_assoc a (first_of f x) (f x)
+  -- the line x, whose number is k, comes after lines that have none
+  module _ (x k : ℕ) (before : first_of f x ≡ 0) (is : k ≡ f x) where
+    pub first-more : k ≡ 0 → first_of f (x + 1) ≡ 0
+    unfolding first_of
+    first-more z = rw (add-one x) (or-zero (first_of f x) (f x) before ∙ sym is ∙ z)
 
-  pub found-more : (x n k : ℕ) → Found a f m x n → eqb n 0 && ltb x m ≡ true → k ≡ f x → Found a f m (x + 1) k
-  found-more x n k h t e =
-      let z = eqb-true n 0 (and_left (eqb n 0) (ltb x m) t) in
-      record { up = omega (arith, going m x n t); first = rw (add-one x) (e ∙ sym (or-zero n (f x) z) ∙ ap (λ (i : ℕ). or_number i (f x)) h.first ∙ sym (further x)) }
+    hit : (m : ℕ) → x < m → k ≢ 0 → k ≡ first_of f m
+    unfolding first_of
+    hit zero l some = absurd (omega arith)
+    hit (suc m) l some =
+        by_cases (dec_lt x m)
+        (λ h. let e = hit m h some in e ∙ sym (or_some (first_of f m) (f m) (λ z. some (e ∙ z))))
+        (λ h. let e : x ≡ m = omega arith in is ∙ rw e (sym (or-zero (first_of f m) (f m) (rw e at before))))
 
-  pub found_all : (x n : ℕ) → Found a f m x n → eqb n 0 && ltb x m ≡ false → n ≡ or_number a (first_of f m)
-  found_all x n h t =
-      by-test (eqb n 0)
-      (λ z. let e : x ≡ m = omega (arith, h.up, ltb-false x m (rw z at t)) in rw e at h.first)
-      (λ z. sym (stays z m h.up))
-    where
-      stays : eqb n 0 ≡ false → (k : ℕ) → x ≤ k → or_number a (first_of f k) ≡ n
-      stays z zero l = let e : x ≡ 0 = omega arith in rw e at (sym h.first)
-      stays z (suc k) l =
-          by_cases (dec_lt k x)
-          (λ u. let e : x ≡ suc k = omega arith in rw e at (sym h.first))
-          (λ u. further k ∙ ap (λ (i : ℕ). or_number i (f k)) (stays z k (omega arith)) ∙ or_some n (f k) (eqb-false n 0 z))
+    pub line-first : (a n m : ℕ) → n ≡ a → n ≡ 0 → x < m → k ≢ 0 → k ≡ or_number a (first_of f m)
+    line-first a n m e z l some = hit m l some ∙ sym (or-zero a (first_of f m) (sym e ∙ z))
+
+  pub none-first : (a n m x : ℕ) → n ≡ a → n ≡ 0 → first_of f x ≡ 0 → x ≡ m → 0 ≡ or_number a (first_of f m)
+  none-first a n m x e z h l = sym (or-zero a (first_of f m) (sym e ∙ z) ∙ rw l at h)

@@ -1,5 +1,5 @@
 -- The parts of a sheet as they are written: each kind of rows after its count, the types, the program.
-use Rattle.std.specs.Prelude.{ℕ, ◌+◌, ◌*◌, List, ◌++◌, Bool, leb}
+use Rattle.std.specs.Prelude.{ℕ, List, ◌++◌, Bool}
 use Rattle.item_spec.specs.Reader.{bytes}
 use Rattle.item_spec.specs.Write.{in_turn}
 use Rattle.model.specs.declared.ComponentType.{ComponentType}

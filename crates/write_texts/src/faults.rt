@@ -52,13 +52,17 @@ fn kind_fault(tables: &TableWords, rows: Rows, i: u32) -> u8
 {
     let count = count_of(tables, rows, i);
     let known = known_of(tables, i);
-    let mut n = limit_fault(count_ok(rows, count));
-    let mut x: u32 = 0;
-    while (n == 0) & (x < count) {
-        n = row_fault(rows, known, row_at(tables, rows, i, x));
-        x += 1;
+    let limit = limit_fault(count_ok(rows, count));
+    if limit != 0 {
+        return limit;
     }
-    n
+    for x in 0..count {
+        let n = row_fault(rows, known, row_at(tables, rows, i, x));
+        if n != 0 {
+            return n;
+        }
+    }
+    0
 }
 
 fn head_fault(tables: &TableWords, i: u32) -> u8
@@ -93,13 +97,17 @@ fn part_fault(part: Part, tables: &TableWords, program: &ProgramWords) -> u8
     ensures { result ≡ part_fault part (tables_in tables.now) (program_in program.now) }
 {
     let count = part_count(part, tables, program);
-    let mut n = limit_fault(part_ok(part, count));
-    let mut i: u32 = 0;
-    while (n == 0) & (i < count) {
-        n = line_fault(part, tables, program, i);
-        i += 1;
+    let limit = limit_fault(part_ok(part, count));
+    if limit != 0 {
+        return limit;
     }
-    n
+    for i in 0..count {
+        let n = line_fault(part, tables, program, i);
+        if n != 0 {
+            return n;
+        }
+    }
+    0
 }
 
 pub(crate) fn sheet_fault(tables: &TableWords, program: &ProgramWords) -> u8
@@ -116,11 +124,15 @@ pub(crate) fn answer_fault(answer: &AnswerWords) -> u8
     ensures { result ≡ answer_fault (answer_in answer.now) }
 {
     let count = steps(answer);
-    let mut n = limit_fault(count <= 1024);
-    let mut j: u32 = 0;
-    while (n == 0) & (j < count) {
-        n = step_fault(step_at(answer, j));
-        j += 1;
+    let limit = limit_fault(count <= 1024);
+    if limit != 0 {
+        return limit;
     }
-    n
+    for j in 0..count {
+        let n = step_fault(step_at(answer, j));
+        if n != 0 {
+            return n;
+        }
+    }
+    0
 }

@@ -23,11 +23,9 @@ pub(crate) fn put_rows(t: &mut [u8], tables: &TableWords, rows: Rows, i: u32, co
     ensures { Written t.old (rows_text rows (tables_in tables.now) i count) t.new 0 result }
 {
     let mut used: usize = 0;
-    let mut x: u32 = 0;
-    while x < count {
+    for x in 0..count {
         let row = row_at(tables, rows, i, x);
         used += write_row(&mut t[used..], rows, row);
-        x += 1;
     }
     used
 }
@@ -106,10 +104,8 @@ pub(crate) fn put_lines(
         t.new 0 result }
 {
     let mut used: usize = 0;
-    let mut i: u32 = 0;
-    while i < count {
+    for i in 0..count {
         used += put_line(&mut t[used..], layout, part, tables, program, i);
-        i += 1;
     }
     used
 }
@@ -156,10 +152,8 @@ fn put_steps(t: &mut [u8], answer: &AnswerWords, count: u32) -> usize
     ensures { Written t.old (in_turn (λ j. step_text (step_row (answer_in answer.now) j)) count) t.new 0 result }
 {
     let mut used: usize = 0;
-    let mut j: u32 = 0;
-    while j < count {
+    for j in 0..count {
         used += write_step(&mut t[used..], step_at(answer, j));
-        j += 1;
     }
     used
 }

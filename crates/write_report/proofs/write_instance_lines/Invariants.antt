@@ -1,0 +1,8 @@
+-- The lines of the ids below i are written.
+use Rattle.report_spec.specs.Report.{instance_at}
+use Rattle.words.specs.Words.{state_in}
+use Rattle.write_items.proofs.Turns.{Turns}
+use Rattle.write_report.proofs.write_instance_lines.Given as goal
+
+abbrev pub invariant-loop-i : goal.invariant-loop-i
+invariant-loop-i l = Turns (instance_at (state_in l.state)) 32 l.i l.initial.t l.t l.used
