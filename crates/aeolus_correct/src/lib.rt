@@ -166,12 +166,10 @@ fn ports_hold(universe: &Universe, deployed: &Deployed, m: u32, z: u32, users: u
         (port_holds (universe_in universe.now) (configuration_in deployed.now) m z) }
 {
     let n = interfaces_of(universe, kind_of(deployed, z));
-    let mut j: u32 = 0;
-    while j < n {
+    for j in 0..n {
         if !port_holds(universe, deployed, m, z, j, users) {
             return false;
         }
-        j += 1;
     }
     true
 }
@@ -182,10 +180,8 @@ fn targets_of(universe: &Universe, deployed: &Deployed, y: u32) -> u32
 {
     let n = interfaces_of(universe, kind_of(deployed, y));
     let mut all: u32 = 0;
-    let mut j: u32 = 0;
-    while j < n {
+    for j in 0..n {
         all = sets::joined(all, bound_at(deployed, y, j));
-        j += 1;
     }
     all
 }

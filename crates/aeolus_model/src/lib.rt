@@ -96,14 +96,12 @@ pub fn place_of(universe: &Universe, k: u32, r: u32) -> u32
     ensures { result ≡ place_of (universe_in universe.now) k r }
 {
     let most = interfaces_of(universe, k);
-    let mut j: u32 = 0;
-    while j < most {
+    for j in 0..most {
         if name_of(universe, k, j) == r {
             return j;
         }
-        j = j + 1;
     }
-    j
+    most
 }
 
 pub fn lists(universe: &Universe, k: u32, r: u32) -> bool

@@ -57,7 +57,10 @@ module _ (u : Universe) (p : Plan) (c : Configuration) where
     unfolding rest run
     run_end h = rw (none_left p full i h, add-zero)
 
-    module _ (m : Acted) (within : i < min p.count 1024) (is : m ≡ act u c (action_of (step_of p i))) where
+    module _ (m : Acted) (step : Step) (within : i < min p.count 1024) (due : step ≡ step_of p i) (came : m ≡ act u c (action_of step)) where
+      is : m ≡ act u c (action_of (step_of p i))
+      is = came ∙ ap (λ (x : Step). act u c (action_of x)) due
+
       pub run-refused : m.refused ≢ 0 → rest u p i c ≡ record { accepted = i; refused = m.refused; configuration = m.configuration }
       unfolding rest run
       run-refused d = rw (one_left p full i within, run, ← is, ne_eqb m.refused 0 d, ← is, add-zero)

@@ -50,10 +50,8 @@ fn free_rows(deployed: &mut Deployed, z: u32)
     ensures { configuration_in deployed.new
         ≡ with_rows (configuration_in deployed.old) (freed z 0 (configuration_in deployed.old).bound) }
 {
-    let mut n: usize = 0;
-    while n < 512 {
+    for n in 0..512 {
         free_row(deployed, z, n);
-        n += 1;
     }
 }
 

@@ -40,10 +40,8 @@ fn joined_rows(deployed: &Deployed, z: usize) -> u32
     ensures { result ≡ 0 → EmptyRows (configuration_in deployed.now) z 16 }
 {
     let mut all: u32 = 0;
-    let mut j: usize = 0;
-    while j < 16 {
+    for j in 0..16 {
         all = sets::joined(all, bound_row(deployed, z * 16 + j));
-        j += 1;
     }
     all
 }
@@ -58,10 +56,8 @@ fn rows_size(deployed: &Deployed, z: usize) -> u32
         return 0;
     }
     let mut n: u32 = 0;
-    let mut j: usize = 0;
-    while j < 16 {
+    for j in 0..16 {
         n += row_size(deployed, z * 16 + j);
-        j += 1;
     }
     n
 }
@@ -71,10 +67,8 @@ pub fn bindings(deployed: &Deployed) -> u32
     ensures { result ≡ bindings (configuration_in deployed.now) }
 {
     let mut n: u32 = 0;
-    let mut z: usize = 0;
-    while z < 32 {
+    for z in 0..32 {
         n += rows_size(deployed, z);
-        z += 1;
     }
     n
 }

@@ -66,8 +66,7 @@ pub fn run(universe: &Universe, plan: &Plan, deployed: &mut Deployed) -> Passed
         ≡ run (universe_in universe.now) (configuration_in deployed.old) (actions_of (plan_in plan.now)) }
 {
     let n = step_count(plan);
-    let mut k: u32 = 0;
-    while k < n {
+    for k in 0..n {
         let step = step_at(plan, k as usize);
         let refused = act(universe, deployed, step);
         if refused != 0 {
@@ -76,11 +75,10 @@ pub fn run(universe: &Universe, plan: &Plan, deployed: &mut Deployed) -> Passed
                 refused,
             };
         }
-        k += 1;
     }
     let refused = last_check(universe, deployed);
     Passed {
-        accepted: k,
+        accepted: n,
         refused,
     }
 }

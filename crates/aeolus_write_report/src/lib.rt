@@ -49,10 +49,8 @@ fn write_component_lines(t: &mut [u8], deployed: &Deployed) -> usize
     ensures { Written t.old (in_turn (component_at (configuration_in deployed.now)) 32) t.new 0 result }
 {
     let mut used: usize = 0;
-    let mut z: u32 = 0;
-    while z < 32 {
+    for z in 0..32 {
         used += write_component(&mut t[used..], deployed, z);
-        z += 1;
     }
     used
 }
@@ -92,10 +90,8 @@ fn write_requirers(t: &mut [u8], universe: &Universe, deployed: &Deployed, r: u3
         (in_turn (bindings_at (universe_in universe.now) (configuration_in deployed.now) r) 32) t.new 0 result }
 {
     let mut used: usize = 0;
-    let mut z: u32 = 0;
-    while z < 32 {
+    for z in 0..32 {
         used += write_requirer(&mut t[used..], universe, deployed, r, z);
-        z += 1;
     }
     used
 }
@@ -126,10 +122,8 @@ fn next_of(universe: &Universe, deployed: &Deployed, z: u32, from: u32, best: u3
     }
     let most = interfaces_of(universe, kind_of(deployed, z));
     let mut next = best;
-    let mut j: u32 = 0;
-    while j < most {
+    for j in 0..most {
         next = nearer(universe, deployed, z, j, from, next);
-        j += 1;
     }
     next
 }
@@ -140,10 +134,8 @@ fn next_name(universe: &Universe, deployed: &Deployed, from: u32) -> u32
         (λ y i. (y < 32) × InUse (universe_in universe.now) (configuration_in deployed.now) y i) }
 {
     let mut next: u32 = 256;
-    let mut z: u32 = 0;
-    while z < 32 {
+    for z in 0..32 {
         next = next_of(universe, deployed, z, from, next);
-        z += 1;
     }
     next
 }

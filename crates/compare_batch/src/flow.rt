@@ -25,13 +25,7 @@ pub(crate) struct Flow {
 fn move_down(input: &mut [u8], at: usize, to: usize)
     requires { (at ≤ to) × (to ≤ length input.old) }
 {
-    let mut from = at;
-    let mut i: usize = 0;
-    while from < to {
-        input[i] = input[from];
-        i += 1;
-        from += 1;
-    }
+    input.copy_within(at..to, 0);
 }
 
 pub(crate) fn flush(out: &[u8], used: usize) {

@@ -213,11 +213,12 @@ fn run<R: Read>(from: &mut R, input: &mut [u8], report: &mut [u8; 16384], out: &
         used: 0,
         ended: 0,
     };
-    // A loop that is proved ends, so it counts its turns down.
-    let mut turns = u64::MAX;
-    while 0 < turns && flow.ended == 0 {
+    // A loop that is proved ends, so the cases are counted up to a number that no run reaches.
+    for _ in 0..u64::MAX {
         flow = run_case(from, input, report, out, flow);
-        turns -= 1;
+        if flow.ended != 0 {
+            break;
+        }
     }
     flush(out, flow.used);
 }

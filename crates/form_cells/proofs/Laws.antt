@@ -17,7 +17,7 @@ use Rattle.item_spec.proofs.Tests.{by-test}
 use Rattle.read_items.proofs.Laws.{from}
 use Rattle.write_items.specs.Written.{Written}
 use Rattle.write_items.proofs.Laws.{none, then}
-use Rattle.form_cells.specs.Cells.{gap, stands, first_after, commas_after, lines_from, unmarked, letter, separator_of, note_after, comma_for, plain_from, lines_of, cell_byte, cells_of}
+use Rattle.form_cells.specs.Cells.{gap, stands, first_after, commas_after, lines_from, unmarked, letter, separator_of, note_after, comma_for, plain_from, lines_by, lines_of, cell_byte, cells_of}
 
 pub one-comma : (n c : ℕ) → replicate (n + 1) c ≡ replicate n c ++ (c ∷ [])
 one-comma n c = rw (add-one n) (go n)
@@ -59,21 +59,16 @@ plain-next : (d : ℕ) (noted first : Bool) (commas c : ℕ) (s : List ℕ) → 
 unfolding lines_from plain_from
 plain-next d noted first commas c s = by-test (note_after noted c) (λ e. rw e) (λ e. rw e)
 
--- ---- the rows up to byte i
+-- ---- the rows past their mark, up to byte i
 module _ (s old : List ℕ) (d : ℕ) where
   pub record Evened (i : ℕ) (noted first : Bool) (commas at : ℕ) (new : List ℕ) : Type 0 where
     pub few : commas ≤ i
-    pub far : i ≤ length s
     pub so_far : List ℕ
     pub written : Written old so_far new 0 at
-    pub whole : so_far ++ lines_from first commas (plain_from d noted (drop i s)) ≡ lines_of s
+    pub whole : so_far ++ lines_from first commas (plain_from d noted (drop i s)) ≡ lines_by d s
 
-  pub evened-none : (i : ℕ) → i ≤ length s → drop i s ≡ unmarked s → d ≡ separator_of (take (length s - i) (drop i s)) → Evened i false true 0 0 old
-  unfolding lines_of
-  evened-none i l e q =
-      let all : take (length s - i) (drop i s) ≡ drop i s = take_all (length s - i) (drop i s) (omega (arith, length-drop i s)) in
-      let by : d ≡ separator_of (unmarked s) = q ∙ ap separator_of (all ∙ e) in
-      record { few = omega arith; far = l; so_far = []; written = none old 0; whole = rw (by, e) }
+  pub evened-none : Evened 0 false true 0 0 old
+  evened-none = record { few = omega arith; so_far = []; written = none old 0; whole = refl }
 
   pub evened-more : (i commas at : ℕ) (noted first : Bool) (new end : List ℕ) (next : ℕ) (after : Bool) (left : ℕ) (m : Bool) (b : ℕ) → Evened i noted first commas at new
       → i < length s → m ≡ note_after noted (get_or s i 0) → b ≡ comma_for d (get_or s i 0)
@@ -83,7 +78,6 @@ module _ (s old : List ℕ) (d : ℕ) where
       let c = get_or s i 0 in
       record {
         few = omega (arith, f, part-few m first commas b, w.few);
-        far = omega arith;
         so_far = w.so_far ++ part m first commas b;
         written = then w.written v;
         whole =
@@ -92,12 +86,13 @@ module _ (s old : List ℕ) (d : ℕ) where
             ∙ w.whole);
       }
 
-  pub evened-all : (i commas at : ℕ) (noted first : Bool) (new : List ℕ) → Evened i noted first commas at new → length s ≤ i → Written old (lines_of s) new 0 at
-  unfolding lines_from plain_from
-  evened-all i commas at noted first new w l =
-      let e : w.so_far ≡ lines_of s
+  pub evened-all : (i commas at : ℕ) (noted first : Bool) (new : List ℕ) → Evened i noted first commas at new → length s ≤ i → (rows : List ℕ) → s ≡ unmarked rows → d ≡ separator_of s
+      → Written old (lines_of rows) new 0 at
+  unfolding lines_from plain_from lines_of
+  evened-all i commas at noted first new w l rows r q =
+      let e : w.so_far ≡ lines_by d s
       = sym (append-nil w.so_far) ∙ ap (◌++◌ w.so_far) (sym (ap (λ (x : List ℕ). lines_from first commas (plain_from d noted x)) (drop_of_length-le s {i = i} l))) ∙ w.whole in
-      rw (← e) w.written
+      rw (← r, ← q, ← e) w.written
 
 -- ---- the separator
 pub not_on : (b : Bool) → not b ≡ true → b ≡ false
@@ -153,6 +148,9 @@ pub marked : (s : List ℕ) {u : Unit {0}} {r : List ℕ} → got u r ≡ key (2
 unfolding unmarked
 marked s e = ap (λ (x : Reply (Unit {0})). elim x [ got u r ↦ r | refused n ↦ s ]) e
 
+pub mark-off : (s : List ℕ) (k : ℕ) → k ≤ length s → drop k s ≡ unmarked s → take (length s - k) (drop k s) ≡ unmarked s
+mark-off s k l e = take_all (length s - k) (drop k s) (omega (arith, length-drop k s)) ∙ e
+
 pub not-marked : (s : List ℕ) {n : ℕ} → refused n ≡ key (239 ∷ 187 ∷ 191 ∷ []) s → s ≡ unmarked s
 unfolding unmarked
 not-marked s e = ap (λ (x : Reply (Unit {0})). elim x [ got u r ↦ r | refused n ↦ s ]) e
@@ -200,15 +198,7 @@ module _ (old : List ℕ) where
       ∙ ap (λ (n : ℕ). get_or (xs ++ (get_or old i 0 ∷ drop (i + 1) old)) n 0) (sym long)
       ∙ get_or-append_seam xs (get_or old i 0) (drop (i + 1) old) 0
 
-  -- past the end nothing is left to do
-  pub cells-past : (i n : ℕ) → i ≤ n → length old ≤ i → up_to i ≡ up_to n
-  cells-past i n a b =
-      rw (take_all i old b, take_all n old (omega arith), drop_of_length-le old {i = i} b, drop_of_length-le old {i = n} (omega arith))
-
   pub cells-turn : (text : List ℕ) (i v : ℕ) → text ≡ up_to i → i < length old → v ≡ cell_byte (get_or text i 0) → set text i v ≡ up_to (i + 1)
   cells-turn text i v e l q =
       let same : v ≡ cell_byte (get_or old i 0) = q ∙ ap (λ (xs : List ℕ). cell_byte (get_or xs i 0)) e ∙ ap cell_byte (cells_at i l) in
       rw (e, same) (cells-more i l)
-
-  pub cells-all : (i n : ℕ) → i ≤ n → n ≤ i → up_to i ≡ up_to n
-  cells-all i n a b = let e : i ≡ n = omega arith in rw e

@@ -23,10 +23,8 @@ fn write_commas(out: &mut [u8], at: usize, count: usize) -> usize
     ensures { Written out.old (replicate count 44) out.new at result }
 {
     let mut end = at;
-    let mut i: usize = 0;
-    while i < count {
+    for _ in 0..count {
         end = write_byte(out, end, b',');
-        i += 1;
     }
     end
 }
@@ -103,41 +101,27 @@ fn past_mark(rows: &[u8]) -> usize
     start
 }
 
+#[tactic(auto, unfolding(crate::specs::Cells::letter))]
 fn is_letter(c: u8) -> bool
     ensures { result ≡ letter c }
 {
-    if c < b'a' {
-        return false;
-    }
-    if b'z' < c {
-        return false;
-    }
-    true
+    c.is_ascii_lowercase()
 }
 
 // What separates cells where this byte stands after the first key.
 fn separator_at(c: u8) -> u8
     ensures { result ≡ cond (eqb c 59 || eqb c 9) c 44 }
 {
-    if c == b';' {
-        return c;
-    }
-    if c == b'\t' {
-        return c;
-    }
-    b','
+    if matches!(c, b';' | b'\t') { c } else { b',' }
 }
 
 fn separator(rows: &[u8]) -> u8
     ensures { result ≡ separator_of rows.now }
 {
-    let mut i: usize = 0;
-    while i < rows.len() {
-        let c = rows[i];
-        if !is_letter(c) {
-            return separator_at(c);
+    for c in rows {
+        if !is_letter(*c) {
+            return separator_at(*c);
         }
-        i += 1;
     }
     b','
 }
@@ -185,18 +169,17 @@ pub fn write_lines(rows: &[u8], out: &mut [u8]) -> usize
     ensures bytes { Written out.old (lines_of rows.now) out.new 0 result }
     ensures counts { IsPrefixLen result out.new }
 {
-    let mut i = past_mark(rows);
-    let separator = separator(&rows[i..]);
+    let cells = &rows[past_mark(rows)..];
+    let separator = separator(cells);
     let mut row = Row {
         first: true,
         commas: 0,
         at: 0,
     };
     let mut noted = false;
-    while i < rows.len() {
-        noted = note_after(noted, rows[i]);
-        row = take_cell(out, row, noted, comma_for(separator, rows[i]));
-        i += 1;
+    for c in cells {
+        noted = note_after(noted, *c);
+        row = take_cell(out, row, noted, comma_for(separator, *c));
     }
     row.at
 }
@@ -205,18 +188,11 @@ pub fn write_lines(rows: &[u8], out: &mut [u8]) -> usize
 pub fn looked_at(lines: &[u8]) -> usize
     ensures { result ≡ length (looked_at lines.now) }
 {
-    let mut n = lines.len();
-    while 1 < n {
-        let last = n - 1;
-        if lines[last] != b'\n' {
-            return n;
-        }
-        if lines[last - 1] != b'\n' {
-            return n;
-        }
-        n = last;
+    let mut looked = lines;
+    while looked.ends_with(b"\n\n") {
+        looked = &looked[..looked.len() - 1];
     }
-    n
+    looked.len()
 }
 
 fn cell_byte(c: u8) -> u8
@@ -229,12 +205,8 @@ fn cell_byte(c: u8) -> u8
 pub fn put_cells(text: &mut [u8], count: usize)
     ensures { text.new ≡ cells_of (take count text.old) ++ drop count text.old }
 {
-    let mut i: usize = 0;
-    while i < count {
-        if text.len() <= i {
-            return;
-        }
-        text[i] = cell_byte(text[i]);
-        i += 1;
+    let end = count.min(text.len());
+    for c in &mut text[..end] {
+        *c = cell_byte(*c);
     }
 }

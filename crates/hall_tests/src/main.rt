@@ -109,10 +109,8 @@ fn take_byte(line: Line, b: u8, name: &mut [u8; 64], bytes: &mut [u8; BYTES]) ->
 
 fn take_block(line: Line, block: &[u8], name: &mut [u8; 64], bytes: &mut [u8; BYTES]) -> Line {
     let mut next = line;
-    let mut i: usize = 0;
-    while i < block.len() {
-        next = take_byte(next, block[i], name, bytes);
-        i += 1;
+    for b in block {
+        next = take_byte(next, *b, name, bytes);
     }
     next
 }
@@ -126,16 +124,14 @@ fn read_block(line: Line, name: &mut [u8; 64], bytes: &mut [u8; BYTES]) -> Line 
     take_block(line, &block[..n], name, bytes)
 }
 
-// Nothing says that the input ends, so the blocks are counted down from a number that no run uses up.
+// Nothing says that the input ends, so the blocks are counted up to a number that no run reaches.
 fn read_all(name: &mut [u8; 64], bytes: &mut [u8; BYTES]) -> Line {
     let mut line = fresh();
-    let mut turns = u64::MAX;
-    while turns > 0 {
+    for _ in 0..u64::MAX {
         line = read_block(line, name, bytes);
         if is_over(line) {
             return line;
         }
-        turns -= 1;
     }
     line
 }

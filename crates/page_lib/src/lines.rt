@@ -82,10 +82,8 @@ pub(crate) fn write_lines(t: &mut [u8], at: usize, answer: &[u8], hit: usize) ->
     ensures { Written t.old (page_text (line_rows answer.now hit)) t.new at result }
 {
     let mut p = at;
-    let mut i: usize = 0;
-    while i < 10 {
+    for i in 0..10 {
         p = write_if_there(t, p, answer, hit, i);
-        i += 1;
     }
     p
 }

@@ -47,10 +47,8 @@ pub(crate) fn write_rows(t: &mut [u8], at: usize, report: &[u8]) -> usize
     ensures { Written t.old (page_text (report_rows report.now)) t.new at result }
 {
     let mut p = at;
-    let mut i: usize = 0;
-    while i < report.len() {
-        p = write_report_byte(t, p, begins_line(report, i), report[i]);
-        i += 1;
+    for (i, b) in report.iter().enumerate() {
+        p = write_report_byte(t, p, begins_line(report, i), *b);
     }
     p
 }

@@ -28,10 +28,8 @@ fn write_rules(t: &mut [u8], at: usize) -> usize
     ensures { Written t.old (page_text (each filter_rule groups)) t.new at result }
 {
     let mut p = at;
-    let mut k: usize = 0;
-    while k < GROUPS {
+    for k in 0..GROUPS {
         p = write_rule(t, p, k);
-        k += 1;
     }
     p
 }
@@ -126,10 +124,8 @@ fn write_count_rows(t: &mut [u8], at: usize, numbers: &[usize; 41]) -> usize
     ensures { Written t.old (page_text (each (λ k. count_row k (get_or numbers.now k 0)) groups)) t.new at result }
 {
     let mut p = at;
-    let mut k: usize = 0;
-    while k < GROUPS {
-        p = write_count(t, p, k, numbers[k]);
-        k += 1;
+    for (k, n) in numbers.iter().enumerate() {
+        p = write_count(t, p, k, *n);
     }
     p
 }

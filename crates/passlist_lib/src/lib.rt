@@ -155,14 +155,12 @@ fn name_size(row: &[u8]) -> usize
     ensures within { result ≤ length row.now }
     ensures cell { take result row.now ≡ name_cell row.now }
 {
-    let mut i: usize = 0;
-    while i < row.len() {
-        if row[i] == b',' {
+    for (i, b) in row.iter().enumerate() {
+        if *b == b',' {
             return i;
         }
-        i += 1;
     }
-    i
+    row.len()
 }
 
 // `candidate=` and the name as the register shows it.

@@ -26,74 +26,44 @@ pub enum Among {
 }
 
 // From the exclamation mark to the tilde, the backslash aside.
+#[tactic(auto, unfolding(crate::specs::Shown::plain))]
 fn is_plain(b: u8) -> bool
     ensures { result ≡ plain b }
 {
-    if b < b'!' {
-        return false;
-    }
-    if b'~' < b {
-        return false;
-    }
-    b != b'\\'
+    matches!(b, b'!'..=b'~') && b != b'\\'
 }
 
+#[tactic(auto, unfolding(crate::specs::Shown::quote))]
 fn is_quote(b: u8) -> bool
     ensures { result ≡ quote b }
 {
-    if b == b'"' {
-        return true;
-    }
-    b == b'\''
+    matches!(b, b'"' | b'\'')
 }
 
 // A byte that a browser may take for more than itself.
+#[tactic(auto, unfolding(crate::specs::Shown::markup))]
 fn is_markup(b: u8) -> bool
     ensures { result ≡ markup b }
 {
-    if b == b'&' {
-        return true;
-    }
-    if b == b'<' {
-        return true;
-    }
-    if b == b'>' {
-        return true;
-    }
-    is_quote(b)
+    matches!(b, b'&' | b'<' | b'>') || is_quote(b)
 }
 
+#[tactic(auto, unfolding(crate::specs::Shown::separator))]
 fn is_separator(b: u8) -> bool
     ensures { result ≡ separator b }
 {
-    if b == b',' {
-        return true;
-    }
-    if b == b';' {
-        return true;
-    }
-    is_markup(b)
+    matches!(b, b',' | b';') || is_markup(b)
 }
 
 // A byte with which a cell begins that a spreadsheet would work out.
+#[tactic(auto, unfolding(crate::specs::Shown::formula))]
 fn is_formula(b: u8) -> bool
     ensures { result ≡ formula b }
 {
-    if b == b'=' {
-        return true;
-    }
-    if b == b'+' {
-        return true;
-    }
-    if b == b'-' {
-        return true;
-    }
-    if b == b'@' {
-        return true;
-    }
-    is_separator(b)
+    matches!(b, b'=' | b'+' | b'-' | b'@') || is_separator(b)
 }
 
+#[tactic(auto, unfolding(crate::specs::Shown::more))]
 fn means_more(among: Among, b: u8) -> bool
     ensures { result ≡ more among b }
 {
@@ -106,23 +76,19 @@ fn means_more(among: Among, b: u8) -> bool
 }
 
 // A byte that stands for itself there.
+#[tactic(auto, unfolding(crate::specs::Shown::itself))]
 fn stands(among: Among, b: u8) -> bool
     ensures { result ≡ itself among b }
 {
-    if is_plain(b) {
-        return !means_more(among, b);
-    }
-    false
+    is_plain(b) && !means_more(among, b)
 }
 
+#[tactic(auto, unfolding(crate::specs::Shown::hex_digit))]
 fn hex_digit(d: u8) -> u8
     requires { d < 16 }
     ensures { result ≡ hex_digit d }
 {
-    if d < 10 {
-        return b'0' + d;
-    }
-    b'a' + (d - 10)
+    if d < 10 { b'0' + d } else { b'a' + (d - 10) }
 }
 
 fn show_byte(t: &mut [u8], at: usize, among: Among, b: u8) -> usize
@@ -141,10 +107,8 @@ pub fn show(t: &mut [u8], at: usize, among: Among, text: &[u8]) -> usize
     ensures { Written t.old (shown among text.now) t.new at result }
 {
     let mut p = at;
-    let mut i: usize = 0;
-    while i < text.len() {
-        p = show_byte(t, p, among, text[i]);
-        i += 1;
+    for b in text {
+        p = show_byte(t, p, among, *b);
     }
     p
 }

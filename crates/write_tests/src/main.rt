@@ -79,21 +79,9 @@ fn same_text(name: &[u8], text: &[u8]) -> bool {
     same_answer(text)
 }
 
-fn one_if(test: bool) -> usize
-    ensures { result ≤ 1 }
-{
-    if test { 1 } else { 0 }
-}
-
 // Bytes that no writer writes stand in the buffer first; how many of them are there yet from a place on.
 fn untouched(out: &[u8], from: usize) -> usize {
-    let mut n: usize = 0;
-    let mut i = from;
-    while i < out.len() {
-        n += one_if(out[i] == b'~');
-        i += 1;
-    }
-    n
+    out.iter().skip(from).filter(|b| **b == b'~').count()
 }
 
 fn show(key: &[u8], n: usize) {

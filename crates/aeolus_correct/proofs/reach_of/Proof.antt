@@ -1,6 +1,5 @@
 -- The targets of those that are behind stand in the table.
 use mathlib.Core.Path.{refl}
-use mathlib.Core.Bool.{true, false}
 use native.Mathlib.Omega.{arith}
 use Rattle.sets.proofs.Members.{Rest, rest-start, rest-later, left, left_less, least_lt}
 use Rattle.aeolus_model.specs.Words.{universe_in, configuration_in}

@@ -1,6 +1,4 @@
-use Prim.Native.Nat.{◌<◌}
 use native.Mathlib.Omega.{arith}
-use lib.ListN.{length}
 use borrow.Author.Rules.{rules}
 use Rattle.write_items.proofs.Laws.{none, then, length-written}
 use Rattle.sitting_shown.proofs.Pieces.{cell-none, cell-first}
