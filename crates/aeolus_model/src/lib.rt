@@ -9,7 +9,8 @@ ghost use Rattle.aeolus_model.specs.Model.{with_present, with_kind, with_state, 
 ghost use Rattle.aeolus_model.specs.Action.{no_plan, step_of, with_step, with_steps};
 ghost use Rattle.aeolus_model.specs.Words.{universe_in, plan_in, configuration_in};
 
-use areas::{in_area, put_in_area, put_word};
+use areas::{in_area, put_in_area};
+use model::put_at;
 
 // The words of a universe, of a plan and of a configuration.
 pub type Universe = [u32; 12881];
@@ -139,7 +140,7 @@ pub fn clear_universe(universe: &mut Universe)
 pub fn put_types(universe: &mut Universe, n: u32)
     ensures { universe_in universe.new ≡ with_count (universe_in universe.old) n }
 {
-    put_word(universe, 12880, n);
+    put_at(universe, 12880, n);
 }
 
 pub fn put_states(universe: &mut Universe, k: u32, n: u32)
@@ -222,7 +223,7 @@ pub fn clear_plan(plan: &mut Plan)
 pub fn put_steps(plan: &mut Plan, n: u32)
     ensures { plan_in plan.new ≡ with_steps (plan_in plan.old) n }
 {
-    put_word(plan, 4096, n);
+    put_at(plan, 4096, n);
 }
 
 pub fn put_step(plan: &mut Plan, n: usize, step: Step)
@@ -276,7 +277,7 @@ pub fn clear_deployed(deployed: &mut Deployed)
 pub fn put_present(deployed: &mut Deployed, m: u32)
     ensures { configuration_in deployed.new ≡ with_present (configuration_in deployed.old) m }
 {
-    put_word(deployed, 576, m);
+    put_at(deployed, 576, m);
 }
 
 pub fn put_kind(deployed: &mut Deployed, z: u32, k: u32)

@@ -5,23 +5,14 @@
 ghost use Rattle.std.specs.Prelude.{◌≡◌, get_or, set};
 ghost use Rattle.areas.specs.Area.{area, put_in};
 
-use model::mask_at;
-
-// A word past the last takes nothing.
-pub fn put_word(words: &mut [u32], at: usize, x: u32)
-    ensures { words.new ≡ set words.old at x }
-{
-    if at < words.len() {
-        words[at] = x;
-    }
-}
+use model::{at_or, put_at};
 
 // Word k of the area of n words from `at` on.
 pub fn in_area(words: &[u32], at: u32, n: u32, k: usize) -> u32
     ensures { result ≡ get_or (area words.now at n) k 0 }
 {
     if k < n as usize {
-        mask_at(words, at as usize + k)
+        at_or(words, at as usize + k, 0)
     } else {
         0
     }
@@ -31,6 +22,6 @@ pub fn put_in_area(words: &mut [u32], at: u32, n: u32, k: usize, x: u32)
     ensures { words.new ≡ put_in words.old at n k x }
 {
     if k < n as usize {
-        put_word(words, at as usize + k, x);
+        put_at(words, at as usize + k, x);
     }
 }

@@ -3,7 +3,7 @@
 // Promised: each reader answers what stands at a place of its table, and 0 past its end.
 #![tactic(auto)]
 
-ghost use Rattle.std.specs.Prelude.{◌≡◌, ◌≤◌, ◌<◌, min, get_or};
+ghost use Rattle.std.specs.Prelude.{◌≡◌, ◌≤◌, ◌<◌, min, get_or, set};
 
 // How many places a type has, which are initial, and how many transitions, behaviors and ports it has.
 #[derive(Clone, Copy)]
@@ -150,26 +150,28 @@ pub fn wide(x: u8) -> usize
     ensures value { result ≡ x }
     ensures small { result < 256 }
 {
-    x as usize
+    usize::from(x)
 }
 
-// What stands at place i of a table, and 0 past its end.
-pub fn number_at(a: &[u8], i: usize) -> usize
-    ensures value { result ≡ get_or a.now i 0 }
-    ensures small { result < 256 }
+// What stands at place i of a table, and what is said for none past its end.
+pub fn at_or<T: Copy>(a: &[T], i: usize, none: T) -> T
+    ensures { result ≡ get_or a.now i none }
 {
-    if i < a.len() { wide(a[i]) } else { 0 }
+    a.get(i).copied().unwrap_or(none)
 }
 
-pub fn mask_at(a: &[u32], i: usize) -> u32
-    ensures { result ≡ get_or a.now i 0 }
+// A place past the last takes nothing.
+pub fn put_at<T: Copy>(a: &mut [T], i: usize, x: T)
+    ensures { a.new ≡ set a.old i x }
 {
-    if i < a.len() { a[i] } else { 0 }
+    if i < a.len() {
+        a[i] = x;
+    }
 }
 
 pub fn smaller(a: usize, b: usize) -> usize
     ensures value { result ≡ min a b }
     ensures small { result ≤ b }
 {
-    if a < b { a } else { b }
+    a.min(b)
 }

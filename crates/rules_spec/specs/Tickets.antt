@@ -1,6 +1,6 @@
 -- "On one instance tickets must rise from push to push since its `add`." What was pushed to an instance since its `add` is read off the instructions
 -- done, and off what the paper starts with, so that no configuration keeps it. A push is what its slot holds; its stamp is one more than its ticket.
-use Rattle.std.specs.Prelude.{Bool, true, false, ◌&&◌, ◌||◌, cond, ◌≢◌, List, [], ◌∷◌, ◌++◌, ℕ, zero, suc, ◌+◌, ◌*◌, ◌<◌, eqb, leb, get_or}
+use Rattle.std.specs.Prelude.{Bool, false, ◌&&◌, ◌||◌, cond, ◌≢◌, List, [], ◌∷◌, ◌++◌, ℕ, zero, suc, ◌+◌, ◌*◌, ◌<◌, eqb, leb, get_or}
 use Rattle.model.specs.declared.Instruction.{Instruction}
 use Rattle.model.specs.declared.Program.{Program}
 use Rattle.model.specs.Empty.{no_instruction}

@@ -3,8 +3,7 @@
 // Promised: the number that a test gives.
 #![tactic(auto)]
 
-ghost use Rattle.std.specs.Prelude.{◌≡◌};
-ghost use Rattle.rules_spec.specs.Refusal.{◌⇒◌∣◌};
+ghost use Rattle.std.specs.Prelude.{◌≡◌, cond};
 
 pub const NO_INSTRUCTION_LEFT: u32 = 10;
 
@@ -54,9 +53,9 @@ pub const TOO_EARLY: u32 = 37;
 
 pub const UNCONNECTED: u32 = 38;
 
-// The first test that holds gives its number, else what follows.
-pub fn refuse_if(test: bool, n: u32, rest: u32) -> u32
-    ensures { result ≡ (test ⇒ n ∣ rest) }
+// The first test that holds gives its number, else what follows, as in specs/Refusal.
+pub fn refuse_if<T: Drop>(test: bool, n: T, rest: T) -> T
+    ensures { result ≡ cond test n rest }
 {
     if test { n } else { rest }
 }

@@ -8,21 +8,8 @@ ghost use Rattle.write_lines.specs.Rows.{row_fault};
 
 use item_spec::{BAD_CLAUSE, BAD_FORM, BEYOND_LIMIT};
 use read_sheet_lines::{Known, Row, Rows};
-use sets::overlaps;
-
-// All members of the set lie below n, whatever n is.
-fn mask_ok(n: u32, m: u32) -> bool
-    ensures { result ≡ mask_ok n m }
-{
-    if n < 32 { m < 1 << n } else { true }
-}
-
-// A row of checks, as in rules_spec/specs/Refusal: where the test holds its number, else what follows.
-pub fn refuse_if(test: bool, number: u8, rest: u8) -> u8
-    ensures { result ≡ (test ⇒ number ∣ rest) }
-{
-    if test { number } else { rest }
-}
+use rules_spec::refuse_if;
+use sets::{mask_ok, overlaps};
 
 pub fn limit_fault(ok: bool) -> u8
     ensures { result ≡ limit_fault ok }

@@ -11,7 +11,7 @@ ghost use Rattle.write_lines.specs.Numbers.{numbers_text};
 ghost use Rattle.write_verbs.specs.Verbs.{as_instruction, as_step, numbers_ok, Says, edition_of, is_foreign};
 
 use item_spec::{BAD_FORM, BEYOND_LIMIT};
-use write_lines::faults::refuse_if;
+use rules_spec::refuse_if;
 use write_lines::write_line;
 
 // What a line says: a verb's code, then id, number, provider and provideport, 0 for those that it has not.

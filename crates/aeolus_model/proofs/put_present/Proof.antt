@@ -4,7 +4,7 @@ use Rattle.aeolus_model.proofs.put_present.Statement.{statement}
 use Rattle.aeolus_model.proofs.put_present.Tie as tie
 
 returns : tie.Need-returns
-returns c = rw c.put_word.ensures (present-put _ c.put_word-arg-1.given.0.1 _)
+returns c = rw c.put_at.ensures (present-put _ c.put_at-arg-1.given.0.1 _)
 
 pub put_present_spec : {M : Type 1} → statement M
 put_present_spec = tie.close (tie.spec

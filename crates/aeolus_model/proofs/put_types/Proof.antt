@@ -4,7 +4,7 @@ use Rattle.aeolus_model.proofs.put_types.Statement.{statement}
 use Rattle.aeolus_model.proofs.put_types.Tie as tie
 
 returns : tie.Need-returns
-returns c = rw c.put_word.ensures (count-put _ c.put_word-arg-1.given.0.1 _)
+returns c = rw c.put_at.ensures (count-put _ c.put_at-arg-1.given.0.1 _)
 
 pub put_types_spec : {M : Type 1} → statement M
 put_types_spec = tie.close (tie.spec

@@ -6,7 +6,7 @@ use Rattle.areas.proofs.in_area.Statement.{statement}
 use Rattle.areas.proofs.in_area.Tie as tie
 
 returns : tie.Need-returns-then-k-n
-returns c = c.mask_at.ensures ∙ sym (list_at _ _ 0 _ c.if-k-n.true)
+returns c = c.at_or.ensures ∙ sym (list_at _ _ 0 _ c.if-k-n.true)
 
 returns-2 : tie.Need-returns-else-k-n
 returns-2 c = sym (list-past _ _ 0 _ c.if-k-n.false)

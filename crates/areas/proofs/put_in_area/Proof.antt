@@ -4,7 +4,7 @@ use Rattle.areas.proofs.put_in_area.Statement.{statement}
 use Rattle.areas.proofs.put_in_area.Tie as tie
 
 returns : tie.Need-returns-then-k-n
-returns c = rw (lt-ltb _ _ c.if-k-n.true) c.put_word.ensures
+returns c = rw (lt-ltb _ _ c.if-k-n.true) c.put_at.ensures
 
 returns-2 : tie.Need-returns-else-k-n
 returns-2 c = rw (le-ltb _ _ c.if-k-n.false)
