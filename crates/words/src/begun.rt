@@ -4,32 +4,45 @@ ghost use Rattle.model.specs.Empty.{none_begun};
 ghost use Rattle.words.specs.Words.{begun_in};
 ghost use Rattle.words.specs.Parts.{with_begun_slot, with_last};
 
-use crate::{BegunWords, cell, put_row};
+use crate::{BegunWords, RowsAt, cell, put_row};
+
+// Where the queue slots and the last tickets stand.
+const QUEUE: RowsAt = RowsAt {
+    at: 0,
+    count: 256,
+    width: 1,
+};
+
+const LASTS: RowsAt = RowsAt {
+    at: 256,
+    count: 32,
+    width: 1,
+};
 
 // Queue slot n of all: 0 past the last.
 pub fn begun_slot(begun: &[u32], n: usize) -> u32
     ensures { result ≡ get_or (begun_in begun.now).queue n 0 }
 {
-    cell(begun, 0, 256, 1, n, 0)
+    cell(begun, QUEUE, n, 0)
 }
 
 // The last ticket of instance i, one more than it, and 0 for none.
 pub fn begun_last(begun: &[u32], i: u32) -> u32
     ensures { result ≡ get_or (begun_in begun.now).last i 0 }
 {
-    cell(begun, 256, 32, 1, i as usize, 0)
+    cell(begun, LASTS, i as usize, 0)
 }
 
 pub fn put_begun_slot(begun: &mut BegunWords, n: usize, x: u32)
     ensures { begun_in begun.new ≡ with_begun_slot (begun_in begun.old) n x }
 {
-    put_row(begun, 0, 256, 1, n, 0, &[x]);
+    put_row(begun, QUEUE, n, 0, &[x]);
 }
 
 pub fn put_begun_last(begun: &mut BegunWords, i: u32, x: u32)
     ensures { begun_in begun.new ≡ with_last (begun_in begun.old) i x }
 {
-    put_row(begun, 256, 32, 1, i as usize, 0, &[x]);
+    put_row(begun, LASTS, i as usize, 0, &[x]);
 }
 
 // Nothing had been pushed.

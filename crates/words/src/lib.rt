@@ -8,10 +8,10 @@ pub mod program;
 pub mod state;
 pub mod tables;
 
-ghost use Rattle.std.specs.Prelude.{◌≡◌, ◌-◌, ◌<◌, set};
+ghost use Rattle.std.specs.Prelude.{◌≡◌, ◌-◌, ◌<◌};
 ghost use Rattle.words.specs.Rows.{word, row_at, puts_in, puts, Laid, Stands};
 
-use model::mask_at;
+use model::{at_or, put_at};
 
 pub type TableWords = [u32; 2002];
 
@@ -23,33 +23,32 @@ pub type AnswerWords = [u32; 3073];
 
 pub type StateWords = [u32; 930];
 
-// Where word f of row k stands, where n rows of w words each stand from `at` on.
-fn place(at: usize, n: usize, w: usize, k: usize, f: usize) -> usize
-    requires laid { Laid at n w f }
-    requires k_lt_n { k < n }
-    ensures { Stands at w k f result }
+// RowsAt of words, one after the other: where the first stands, how many there are, and how many words each has.
+#[derive(Clone, Copy)]
+struct RowsAt {
+    at: usize,
+    count: usize,
+    width: usize,
+}
+
+// Where word f of row k stands.
+fn place(rows: RowsAt, k: usize, f: usize) -> usize
+    requires laid { Laid rows.at rows.count rows.width f }
+    requires k_lt_n { k < rows.count }
+    ensures { Stands rows.at rows.width k f result }
 {
-    at + k * w + f
+    rows.at + k * rows.width + f
 }
 
 // That word, and 0 past the last row.
-fn cell(words: &[u32], at: usize, n: usize, w: usize, k: usize, f: usize) -> u32
-    requires { Laid at n w f }
-    ensures { result ≡ word (row_at words.now at n w k) f }
+fn cell(words: &[u32], rows: RowsAt, k: usize, f: usize) -> u32
+    requires { Laid rows.at rows.count rows.width f }
+    ensures { result ≡ word (row_at words.now rows.at rows.count rows.width k) f }
 {
-    if k < n {
-        mask_at(words, place(at, n, w, k, f))
+    if k < rows.count {
+        at_or(words, place(rows, k, f), 0)
     } else {
         0
-    }
-}
-
-// A word past the last takes nothing.
-pub fn put_word(words: &mut [u32], at: usize, x: u32)
-    ensures { words.new ≡ set words.old at x }
-{
-    if at < words.len() {
-        words[at] = x;
     }
 }
 
@@ -59,17 +58,17 @@ fn put_words(words: &mut [u32], at: usize, xs: &[u32])
     ensures { words.new ≡ puts words.old at xs.now }
 {
     for (k, x) in xs.iter().enumerate() {
-        put_word(words, at + k, *x);
+        put_at(words, at + k, *x);
     }
 }
 
 // The words xs into row k from its word f on: past the last row nothing is put.
-fn put_row(words: &mut [u32], at: usize, n: usize, w: usize, k: usize, f: usize, xs: &[u32])
-    requires { Laid at n w f }
-    ensures { words.new ≡ puts_in words.old at n w k f xs.now }
+fn put_row(words: &mut [u32], rows: RowsAt, k: usize, f: usize, xs: &[u32])
+    requires { Laid rows.at rows.count rows.width f }
+    ensures { words.new ≡ puts_in words.old rows.at rows.count rows.width k f xs.now }
 {
-    if k < n {
-        put_words(words, place(at, n, w, k, f), xs);
+    if k < rows.count {
+        put_words(words, place(rows, k, f), xs);
     }
 }
 

@@ -5,7 +5,19 @@ ghost use Rattle.read_spec.specs.Fill.{program_of, with_instruction};
 ghost use Rattle.words.specs.Words.{program_in};
 ghost use Rattle.words.specs.Parts.{instruction_of, said, with_instructions, with_edition};
 
-use crate::{ProgramWords, cell, put_row, put_word};
+use crate::{ProgramWords, RowsAt, cell, put_row};
+use model::put_at;
+
+// Where the rows of the instructions stand, and the two words after them.
+const INSTRUCTIONS: RowsAt = RowsAt {
+    at: 0,
+    count: 256,
+    width: 5,
+};
+
+const COUNT: usize = 1280;
+
+const EDITION: usize = 1281;
 
 // An instruction by its words.
 #[derive(Clone, Copy)]
@@ -22,25 +34,25 @@ pub fn instruction(program: &ProgramWords, n: u32) -> InstructionWords
 {
     let row = n as usize;
     InstructionWords {
-        verb: cell(program, 0, 256, 5, row, 0),
-        id: cell(program, 0, 256, 5, row, 1),
-        number: cell(program, 0, 256, 5, row, 2),
-        provider: cell(program, 0, 256, 5, row, 3),
-        provideport: cell(program, 0, 256, 5, row, 4),
+        verb: cell(program, INSTRUCTIONS, row, 0),
+        id: cell(program, INSTRUCTIONS, row, 1),
+        number: cell(program, INSTRUCTIONS, row, 2),
+        provider: cell(program, INSTRUCTIONS, row, 3),
+        provideport: cell(program, INSTRUCTIONS, row, 4),
     }
 }
 
 pub fn instructions(program: &ProgramWords) -> u32
     ensures { result ≡ (program_in program.now).count }
 {
-    program[1280]
+    program[COUNT]
 }
 
 // The number that the sheet opens with.
 pub fn edition(program: &ProgramWords) -> u32
     ensures { result ≡ (program_in program.now).edition }
 {
-    program[1281]
+    program[EDITION]
 }
 
 // Instruction n; past the last nothing changes.
@@ -58,9 +70,7 @@ pub fn put_instruction(
 {
     put_row(
         program,
-        0,
-        256,
-        5,
+        INSTRUCTIONS,
         n as usize,
         0,
         &[verb, id, number, provider, provideport],
@@ -78,13 +88,13 @@ pub fn clear_program(program: &mut ProgramWords)
 pub fn put_instructions(program: &mut ProgramWords, count: u32)
     ensures { program_in program.new ≡ with_instructions (program_in program.old) count }
 {
-    put_word(program, 1280, count);
+    put_at(program, COUNT, count);
 }
 
 pub fn put_edition(program: &mut ProgramWords, edition: u32)
     ensures { program_in program.new ≡ with_edition (program_in program.old) edition }
 {
-    put_word(program, 1281, edition);
+    put_at(program, EDITION, edition);
 }
 
 // No instructions yet, whatever the words held before.

@@ -8,13 +8,37 @@ ghost use Rattle.rules_spec.specs.Standing.{standing};
 ghost use Rattle.words.specs.Words.{state_in};
 ghost use Rattle.words.specs.Parts.{with_sets, bare, with_slot, server_of, with_server, changed};
 
-use crate::{StateWords, cell, fewer, put_row, put_word};
+use crate::{RowsAt, StateWords, cell, fewer, put_row};
+use model::put_at;
+
+// Where the rows of the instances, the queue slots and the servers stand; the first word says who is present, the last how much is done.
+const INSTANCES: RowsAt = RowsAt {
+    at: 1,
+    count: 32,
+    width: 5,
+};
+
+const QUEUE: RowsAt = RowsAt {
+    at: 161,
+    count: 256,
+    width: 1,
+};
+
+const SERVERS: RowsAt = RowsAt {
+    at: 417,
+    count: 512,
+    width: 1,
+};
+
+const PRESENT: usize = 0;
+
+const DONE: usize = 929;
 
 pub fn present(state: &StateWords, i: u32) -> bool
     ensures { result ≡ (instance (state_in state.now) i).present }
 {
     if i < 32 {
-        sets::member(state[0], i)
+        sets::member(state[PRESENT], i)
     } else {
         false
     }
@@ -23,38 +47,38 @@ pub fn present(state: &StateWords, i: u32) -> bool
 pub fn kind(state: &StateWords, i: u32) -> u32
     ensures { result ≡ (instance (state_in state.now) i).kind }
 {
-    cell(state, 1, 32, 5, i as usize, 0)
+    cell(state, INSTANCES, i as usize, 0)
 }
 
 pub fn marked(state: &StateWords, i: u32) -> u32
     ensures { result ≡ (instance (state_in state.now) i).marked }
 {
-    cell(state, 1, 32, 5, i as usize, 1)
+    cell(state, INSTANCES, i as usize, 1)
 }
 
 pub fn running(state: &StateWords, i: u32) -> u32
     ensures { result ≡ (instance (state_in state.now) i).running }
 {
-    cell(state, 1, 32, 5, i as usize, 2)
+    cell(state, INSTANCES, i as usize, 2)
 }
 
 pub fn ended(state: &StateWords, i: u32) -> u32
     ensures { result ≡ (instance (state_in state.now) i).ended }
 {
-    cell(state, 1, 32, 5, i as usize, 3)
+    cell(state, INSTANCES, i as usize, 3)
 }
 
 pub fn queued(state: &StateWords, i: u32) -> u32
     ensures { result ≡ (instance (state_in state.now) i).queued }
 {
-    cell(state, 1, 32, 5, i as usize, 4)
+    cell(state, INSTANCES, i as usize, 4)
 }
 
 // Queue slot n of all, and slot r of instance i, whose head is slot 0: 0 past the last.
 pub fn slot_at(state: &StateWords, n: usize) -> u32
     ensures { result ≡ get_or (state_in state.now).queue n 0 }
 {
-    cell(state, 161, 256, 1, n, 0)
+    cell(state, QUEUE, n, 0)
 }
 
 pub fn slot(state: &StateWords, i: u32, r: u32) -> u32
@@ -67,7 +91,7 @@ pub fn slot(state: &StateWords, i: u32, r: u32) -> u32
 pub fn server(state: &StateWords, s: u32) -> u32
     ensures { result ≡ server (state_in state.now).servers s }
 {
-    cell(state, 417, 512, 1, s as usize, 0)
+    cell(state, SERVERS, s as usize, 0)
 }
 
 // Who serves use port q of instance i.
@@ -75,7 +99,7 @@ pub fn server_of(state: &StateWords, i: u32, q: u32) -> u32
     ensures { result ≡ server_of (state_in state.now) i q }
 {
     if q < 16 {
-        cell(state, 417, 512, 1, (i as usize) * 16 + q as usize, 0)
+        cell(state, SERVERS, (i as usize) * 16 + q as usize, 0)
     } else {
         0
     }
@@ -111,7 +135,7 @@ pub fn entries(state: &StateWords) -> u32
 pub fn done(state: &StateWords) -> u32
     ensures { result ≡ (state_in state.now).done }
 {
-    state[929]
+    state[DONE]
 }
 
 // The sets of instance i, and how many behaviors it has queued; past the last instance nothing changes.
@@ -119,14 +143,14 @@ pub fn put_sets(state: &mut StateWords, i: u32, marked: u32, running: u32, ended
     ensures { state_in state.new
         ≡ put (state_in state.old) i (with_sets (instance (state_in state.old) i) marked running ended) }
 {
-    put_row(state, 1, 32, 5, i as usize, 1, &[marked, running, ended]);
+    put_row(state, INSTANCES, i as usize, 1, &[marked, running, ended]);
 }
 
 pub fn put_queued(state: &mut StateWords, i: u32, n: u32)
     ensures { state_in state.new
         ≡ put (state_in state.old) i (with_queued (instance (state_in state.old) i) n) }
 {
-    put_row(state, 1, 32, 5, i as usize, 4, &[n]);
+    put_row(state, INSTANCES, i as usize, 4, &[n]);
 }
 
 // The set m with i in it, or without it.
@@ -144,28 +168,28 @@ fn changed(m: u32, i: u32, here: bool) -> u32
 pub fn put_bare(state: &mut StateWords, i: u32, present: bool, kind: u32, marked: u32)
     ensures { state_in state.new ≡ put (state_in state.old) i (bare present kind marked) }
 {
-    let m = changed(state[0], i, present);
-    put_word(state, 0, m);
-    put_row(state, 1, 32, 5, i as usize, 0, &[kind, marked, 0, 0, 0]);
+    let m = changed(state[PRESENT], i, present);
+    put_at(state, PRESENT, m);
+    put_row(state, INSTANCES, i as usize, 0, &[kind, marked, 0, 0, 0]);
 }
 
 // A slot past the last takes nothing, and so does a use port.
 pub fn put_slot(state: &mut StateWords, n: usize, x: u32)
     ensures { state_in state.new ≡ with_slot (state_in state.old) n x }
 {
-    put_row(state, 161, 256, 1, n, 0, &[x]);
+    put_row(state, QUEUE, n, 0, &[x]);
 }
 
 pub fn put_server(state: &mut StateWords, s: usize, x: u32)
     ensures { state_in state.new ≡ with_server (state_in state.old) s x }
 {
-    put_row(state, 417, 512, 1, s, 0, &[x]);
+    put_row(state, SERVERS, s, 0, &[x]);
 }
 
 pub fn put_done(state: &mut StateWords, n: u32)
     ensures { state_in state.new ≡ with_done (state_in state.old) n }
 {
-    put_word(state, 929, n);
+    put_at(state, DONE, n);
 }
 
 // Nothing is up, and nothing is done.

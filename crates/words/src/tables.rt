@@ -6,43 +6,73 @@ ghost use Rattle.read_spec.specs.Fill.{headed};
 ghost use Rattle.words.specs.Words.{tables_in};
 ghost use Rattle.words.specs.Parts.{with_head, with_ends, with_behavior, with_group, with_kind, type_of_words};
 
-use crate::{TableWords, cell, put_row, put_word};
+use crate::{RowsAt, TableWords, cell, put_row};
+use model::put_at;
+
+// Where the rows of transitions, ports, behaviors and types stand, each counted over all types, and the two words after them.
+const TRANSITIONS: RowsAt = RowsAt {
+    at: 0,
+    count: 512,
+    width: 2,
+};
+
+const PORTS: RowsAt = RowsAt {
+    at: 1024,
+    count: 256,
+    width: 3,
+};
+
+const BEHAVIORS: RowsAt = RowsAt {
+    at: 1792,
+    count: 128,
+    width: 1,
+};
+
+const TYPES: RowsAt = RowsAt {
+    at: 1920,
+    count: 16,
+    width: 5,
+};
+
+const DEPTH: usize = 2000;
+
+const COUNT: usize = 2001;
 
 // Of type k: the ends of transition x, the set of behavior b, the kind and the group of port q.
 pub fn source(tables: &TableWords, k: u32, x: u32) -> u32
     ensures { result ≡ source (tables_in tables.now) k x }
 {
-    cell(tables, 0, 512, 2, (k as usize) * 32 + x as usize, 0)
+    cell(tables, TRANSITIONS, (k as usize) * 32 + x as usize, 0)
 }
 
 pub fn destination(tables: &TableWords, k: u32, x: u32) -> u32
     ensures { result ≡ destination (tables_in tables.now) k x }
 {
-    cell(tables, 0, 512, 2, (k as usize) * 32 + x as usize, 1)
+    cell(tables, TRANSITIONS, (k as usize) * 32 + x as usize, 1)
 }
 
 pub fn behavior_of(tables: &TableWords, k: u32, b: u32) -> u32
     ensures { result ≡ behavior_of (tables_in tables.now) k b }
 {
-    cell(tables, 1792, 128, 1, (k as usize) * 8 + b as usize, 0)
+    cell(tables, BEHAVIORS, (k as usize) * 8 + b as usize, 0)
 }
 
 pub fn group_places(tables: &TableWords, k: u32, q: u32) -> u32
     ensures { result ≡ group_places (tables_in tables.now) k q }
 {
-    cell(tables, 1024, 256, 3, (k as usize) * 16 + q as usize, 1)
+    cell(tables, PORTS, (k as usize) * 16 + q as usize, 1)
 }
 
 pub fn group_transitions(tables: &TableWords, k: u32, q: u32) -> u32
     ensures { result ≡ group_transitions (tables_in tables.now) k q }
 {
-    cell(tables, 1024, 256, 3, (k as usize) * 16 + q as usize, 2)
+    cell(tables, PORTS, (k as usize) * 16 + q as usize, 2)
 }
 
 pub fn port_kind(tables: &TableWords, k: u32, q: u32) -> u32
     ensures { result ≡ port_kind (tables_in tables.now) k q }
 {
-    cell(tables, 1024, 256, 3, (k as usize) * 16 + q as usize, 0)
+    cell(tables, PORTS, (k as usize) * 16 + q as usize, 0)
 }
 
 pub fn is_use(tables: &TableWords, k: u32, q: u32) -> bool
@@ -55,70 +85,62 @@ pub fn is_use(tables: &TableWords, k: u32, q: u32) -> bool
 pub fn places_of(tables: &TableWords, k: u32) -> u32
     ensures { result ≡ (type_of (tables_in tables.now) k).places }
 {
-    cell(tables, 1920, 16, 5, k as usize, 0)
+    cell(tables, TYPES, k as usize, 0)
 }
 
 pub fn initial_of(tables: &TableWords, k: u32) -> u32
     ensures { result ≡ (type_of (tables_in tables.now) k).initial }
 {
-    cell(tables, 1920, 16, 5, k as usize, 1)
+    cell(tables, TYPES, k as usize, 1)
 }
 
 pub fn transitions_of(tables: &TableWords, k: u32) -> u32
     ensures { result ≡ (type_of (tables_in tables.now) k).transitions }
 {
-    cell(tables, 1920, 16, 5, k as usize, 2)
+    cell(tables, TYPES, k as usize, 2)
 }
 
 pub fn behaviors_of(tables: &TableWords, k: u32) -> u32
     ensures { result ≡ (type_of (tables_in tables.now) k).behaviors }
 {
-    cell(tables, 1920, 16, 5, k as usize, 3)
+    cell(tables, TYPES, k as usize, 3)
 }
 
 pub fn ports_of(tables: &TableWords, k: u32) -> u32
     ensures { result ≡ (type_of (tables_in tables.now) k).ports }
 {
-    cell(tables, 1920, 16, 5, k as usize, 4)
+    cell(tables, TYPES, k as usize, 4)
 }
 
 pub fn depth(tables: &TableWords) -> u32
     ensures { result ≡ (tables_in tables.now).depth }
 {
-    tables[2000]
+    tables[DEPTH]
 }
 
 pub fn types(tables: &TableWords) -> u32
     ensures { result ≡ (tables_in tables.now).count }
 {
-    tables[2001]
+    tables[COUNT]
 }
 
 // Transition j, behavior j, port j, each counted over all types; past the last nothing changes.
 pub fn put_ends(tables: &mut TableWords, j: u32, source: u32, destination: u32)
     ensures { tables_in tables.new ≡ with_ends (tables_in tables.old) j source destination }
 {
-    put_row(tables, 0, 512, 2, j as usize, 0, &[source, destination]);
+    put_row(tables, TRANSITIONS, j as usize, 0, &[source, destination]);
 }
 
 pub fn put_behavior(tables: &mut TableWords, j: u32, transitions: u32)
     ensures { tables_in tables.new ≡ with_behavior (tables_in tables.old) j transitions }
 {
-    put_row(tables, 1792, 128, 1, j as usize, 0, &[transitions]);
+    put_row(tables, BEHAVIORS, j as usize, 0, &[transitions]);
 }
 
 pub fn put_port(tables: &mut TableWords, j: u32, uses: u32, places: u32, transitions: u32)
     ensures { tables_in tables.new ≡ with_group (tables_in tables.old) j uses places transitions }
 {
-    put_row(
-        tables,
-        1024,
-        256,
-        3,
-        j as usize,
-        0,
-        &[uses, places, transitions],
-    );
+    put_row(tables, PORTS, j as usize, 0, &[uses, places, transitions]);
 }
 
 // What is known of type k; past the last nothing changes.
@@ -136,9 +158,7 @@ pub fn put_type(
 {
     put_row(
         tables,
-        1920,
-        16,
-        5,
+        TYPES,
         k as usize,
         0,
         &[places, initial, transitions, behaviors, ports],
@@ -156,8 +176,8 @@ pub fn clear_tables(tables: &mut TableWords)
 pub fn put_head(tables: &mut TableWords, depth: u32, count: u32)
     ensures { tables_in tables.new ≡ with_head (tables_in tables.old) depth count }
 {
-    put_word(tables, 2000, depth);
-    put_word(tables, 2001, count);
+    put_at(tables, DEPTH, depth);
+    put_at(tables, COUNT, count);
 }
 
 // No rows yet, whatever the words held before.

@@ -9,4 +9,4 @@ pub loop-k-preserved : goal.loop-k-preserved
 loop-k-preserved c =
     let l = c.loop-k in
     let a = c.args in
-    c.put_word.ensures ∙ puts-step a.words.now a.at a.xs.now _ l.k c.loop-k-test.true l.invariant
+    c.put_at.ensures ∙ puts-step a.words.now a.at a.xs.now _ l.k c.loop-k-test.true l.invariant

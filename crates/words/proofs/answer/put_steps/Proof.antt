@@ -4,7 +4,7 @@ use Rattle.words.proofs.answer.put_steps.Statement.{statement}
 use Rattle.words.proofs.answer.put_steps.Tie as tie
 
 returns : tie.Need-returns
-returns c = rw c.put_word.ensures (answer-count _ _ c.put_word-arg-1.given.0.1)
+returns c = rw c.put_at.ensures (answer-count _ _ c.put_at-arg-1.given.0.1)
 
 pub put_steps_spec : {M : Type 1} → statement M
 put_steps_spec = tie.close (tie.spec

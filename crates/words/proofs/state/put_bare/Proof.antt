@@ -7,8 +7,8 @@ returns : tie.Need-returns
 returns c =
     let p = c in
     let s = c.args in
-    rw (c.put_row.ensures, p.put_word.ensures, p.changed-m.ensures)
-    (instance-put s.state.now s.i s.kind s.marked s.present p.put_word-arg-1.given.0.1)
+    rw (c.put_row.ensures, p.put_at.ensures, p.changed-m.ensures)
+    (instance-put s.state.now s.i s.kind s.marked s.present p.put_at-arg-1.given.0.1)
 
 pub put_bare_spec : {M : Type 1} → statement M
 put_bare_spec = tie.close (tie.spec

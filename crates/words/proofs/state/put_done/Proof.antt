@@ -4,7 +4,7 @@ use Rattle.words.proofs.state.put_done.Statement.{statement}
 use Rattle.words.proofs.state.put_done.Tie as tie
 
 returns : tie.Need-returns
-returns c = rw c.put_word.ensures (done-put _ c.put_word-arg-1.given.0.1 _)
+returns c = rw c.put_at.ensures (done-put _ c.put_at-arg-1.given.0.1 _)
 
 pub put_done_spec : {M : Type 1} → statement M
 put_done_spec = tie.close (tie.spec

@@ -4,7 +4,7 @@ use Rattle.words.proofs.tables.put_head.Statement.{statement}
 use Rattle.words.proofs.tables.put_head.Tie as tie
 
 returns : tie.Need-returns
-returns c = let d = c in rw (c.put_word-2.ensures, d.put_word.ensures) (tables-head _ _ _ d.put_word-arg-1.given.0.1)
+returns c = let d = c in rw (c.put_at-2.ensures, d.put_at.ensures) (tables-head _ _ _ d.put_at-arg-1.given.0.1)
 
 pub put_head_spec : {M : Type 1} → statement M
 put_head_spec = tie.close (tie.spec
