@@ -4,7 +4,7 @@ ghost use Rattle.write_items.specs.Written.{Written};
 ghost use Rattle.page_spec.specs.Piece.{piece_text, page_text};
 ghost use Rattle.page_spec.specs.Page.{begins, cell_piece, report_byte, report_rows};
 
-use model::number_at;
+use model::at_or;
 use sitting_shown::Among;
 use write_items::write_key;
 
@@ -14,7 +14,7 @@ fn begins_line(report: &[u8], i: usize) -> bool
     if i == 0 {
         return true;
     }
-    number_at(report, i - 1) == 10
+    at_or(report, i - 1, 0) == b'\n'
 }
 
 fn write_cell(t: &mut [u8], at: usize, b: u8) -> usize

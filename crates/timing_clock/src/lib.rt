@@ -14,7 +14,7 @@ ghost use Rattle.timing_clock.specs.Once.{Promised, times_in};
 ghost use Rattle.timing_clock.specs.Paced.{clock_at, InTime, Ticks};
 
 use judge_spec::DEFAULT_DEPTH;
-use model::{Concerned, mask_at};
+use model::{Concerned, at_or, put_at};
 use sets::{member, without};
 use step_walk::{Passed, step, step_count};
 use timing_mark::{later, mark};
@@ -45,9 +45,7 @@ fn note_at(noted: &mut [usize], clock: usize, id: u32, xs: u32, x: u32)
 {
     let slot = pair_slot(id, x);
     if member(xs, x) {
-        if slot < noted.len() {
-            noted[slot] = clock;
-        }
+        put_at(noted, slot, clock);
     }
 }
 
@@ -59,21 +57,14 @@ fn note(noted: &mut [usize], clock: usize, id: u32, xs: u32)
     }
 }
 
-fn noted_at(noted: &[usize], slot: usize) -> usize
-    ensures { result ≡ get_or noted.now slot 0 }
-{
-    if slot < noted.len() { noted[slot] } else { 0 }
-}
-
 // The later of the clock and the noted time plus the seconds, both 0 past their tables.
 fn end_at(seconds: &[u32], noted: &[usize], clock: usize, slot: usize) -> usize
     requires { InTime (clock_at clock noted.now) }
     ensures { result ≡ max clock (get_or noted.now slot 0 + get_or seconds.now slot 0) }
 {
-    later(
-        clock,
-        noted_at(noted, slot) + mask_at(seconds, slot) as usize,
-    )
+    let noted = at_or(noted, slot, 0);
+    let seconds = at_or(seconds, slot, 0);
+    later(clock, noted + seconds as usize)
 }
 
 // The clock after an allowed step, in which component `id` starts the transitions xs.

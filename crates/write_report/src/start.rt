@@ -10,17 +10,10 @@ ghost use Rattle.words.specs.Words.{state_in};
 ghost use Rattle.write_report.specs.Lines.{rows_part};
 
 use crate::{tally, write_connections, write_count, write_fields};
+use model::at_or;
 use words::StateWords;
 use words::state::present;
 use write_items::{write_byte, write_key, write_number};
-
-// What stands at place i, and 0 past the last.
-fn stamp_at(lasts: &[usize], i: u32) -> usize
-    ensures { result ≡ get_or lasts.now i 0 }
-{
-    let at = i as usize;
-    if at < lasts.len() { lasts[at] } else { 0 }
-}
 
 // "the last ticket pushed to each instance, `-` for none", by its stamp, in a sheet that opens with this number.
 fn write_last(t: &mut [u8], at: usize, first: u32, stamp: usize) -> usize
@@ -51,7 +44,7 @@ fn write_row_at(t: &mut [u8], first: u32, lasts: &[usize], state: &StateWords, i
     ensures { Written t.old (row_at first lasts.now (state_in state.now) i) t.new 0 result }
 {
     if present(state, i) {
-        write_row(t, first, stamp_at(lasts, i), state, i)
+        write_row(t, first, at_or(lasts, i as usize, 0), state, i)
     } else {
         0
     }

@@ -1,10 +1,9 @@
 // The words and the room that a case lends: those of the tables, of the program, of an answer, then the room, and 1 where an answer is to be written.
 ghost use Rattle.std.specs.Prelude.{◌≤◌};
 
-use model::mask_at;
+use model::{at_or, put_at};
 use read_items::Digits;
 use read_items::numbers::{Limits, Numbers, numbers_within};
-use words::put_word;
 
 // A word by its halves.
 fn word_of(high: u32, low: u32) -> u32 {
@@ -19,7 +18,7 @@ pub(crate) fn read_words(text: &[u8], all: &mut [u32; 6358]) {
         let Numbers::Got(n, next) = line else {
             return;
         };
-        put_word(all, n.first as usize, word_of(n.second, n.third));
+        put_at(all, n.first as usize, word_of(n.second, n.third));
         at = next;
     }
 }
@@ -29,13 +28,13 @@ pub(crate) fn lend(all: &[u32; 6358], start: usize, count: usize, words: &mut [u
     requires count_bound { count ≤ 6358 }
 {
     for i in 0..count {
-        put_word(words, i, mask_at(all, start + i));
+        put_at(words, i, at_or(all, start + i, 0));
     }
 }
 
 pub(crate) fn room_of(all: &[u32; 6358]) -> usize
     ensures { result ≤ 40000 }
 {
-    let room = mask_at(all, 6356) as usize;
+    let room = at_or(all, 6356, 0) as usize;
     if room < 40000 { room } else { 40000 }
 }

@@ -10,4 +10,4 @@ begins_line_spec =
     tie.close
     (tie.spec
     (λ c. rw (eq-eqb _ _ c.if-i-eq0.true, begins)) (λ c. search rules) (λ c κs. search rules)
-    (λ c. rw (ne_eqb _ _ c.if-i-eq0.false, begins, c.number_at.ensures.0)))
+    (λ c. rw (ne_eqb _ _ c.if-i-eq0.false, begins, c.at_or.ensures)))

@@ -14,5 +14,5 @@ write_row_at_spec =
     (λ c.
     let row = c in
     let here = c in
-    line-there (sym here.present.ensures ∙ here.if-present.true) (rw row.stamp_at.ensures at row.write_row.ensures))
+    line-there (sym here.present.ensures ∙ here.if-present.true) (rw row.at_or.ensures at row.write_row.ensures))
     (λ c. line-absent _ (sym c.present.ensures ∙ c.if-present.false)))
