@@ -38,10 +38,8 @@ fn zero_slots(state: &mut StateWords, i: u32)
     ensures { state_in state.new ≡ with_queue (state_in state.old) (zeroed (state_in state.old).queue (i * 8) 8) }
 {
     let at = (i as usize) * 8;
-    let mut r: usize = 0;
-    while r < 8 {
+    for r in 0..8 {
         put_slot(state, at + r, 0);
-        r += 1;
     }
 }
 
@@ -109,7 +107,7 @@ pub fn pushb_check(
 fn one_more(n: u32) -> u32
     ensures { result ≡ cond (ltb n 4294967295) (suc n) n }
 {
-    if n < 4294967295 { n + 1 } else { n }
+    n.saturating_add(1)
 }
 
 // Where a word counts them no longer, nothing changes.
@@ -181,10 +179,8 @@ fn is_queued(state: &StateWords, i: u32, stamp: usize) -> bool
 {
     let n = queued(state, i);
     let mut found = false;
-    let mut r: u32 = 0;
-    while r < n {
+    for r in 0..n {
         found = found | ((slot(state, i, r) / 8) as usize == stamp);
-        r += 1;
     }
     found
 }

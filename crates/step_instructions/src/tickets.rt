@@ -57,14 +57,12 @@ fn begun_tail(begun: &[u32], i: u32) -> u32
     ensures { (program : List ℕ) → result ≡ last_stamp (begun_to (program_from program begun.now) i) }
 {
     let mut last = begun_last(begun, i);
-    let mut r: u32 = 0;
-    while r < 8 {
+    for r in 0..8 {
         let stamp = begun_stamp(begun, i, r);
         if stamp == 0 {
             return last;
         }
         last = stamp;
-        r += 1;
     }
     last
 }
@@ -76,8 +74,7 @@ fn begun_with(begun: &[u32], i: u32, ticket: u32) -> bool
     if begun_stamp(begun, i, 0) == 0 {
         return begun_last(begun, i) as usize == (ticket as usize) + 1;
     }
-    let mut r: u32 = 0;
-    while r < 8 {
+    for r in 0..8 {
         let stamp = begun_stamp(begun, i, r);
         if stamp == 0 {
             return false;
@@ -85,7 +82,6 @@ fn begun_with(begun: &[u32], i: u32, ticket: u32) -> bool
         if stamp as usize == (ticket as usize) + 1 {
             return true;
         }
-        r += 1;
     }
     false
 }
@@ -94,9 +90,7 @@ fn begun_with(begun: &[u32], i: u32, ticket: u32) -> bool
 pub fn last_stamp(program: &ProgramWords, begun: &[u32], i: u32, n: u32) -> usize
     ensures { result ≡ last_stamp (pushed_to (program_from program.now begun.now) i n) }
 {
-    let mut k = n;
-    while 0 < k {
-        let at = k - 1;
+    for at in (0..n).rev() {
         let line = instruction(program, at);
         if adds(line, i) {
             return 0;
@@ -104,7 +98,6 @@ pub fn last_stamp(program: &ProgramWords, begun: &[u32], i: u32, n: u32) -> usiz
         if pushes(line, i) {
             return stamp_of(line);
         }
-        k = at;
     }
     begun_tail(begun, i) as usize
 }
@@ -122,9 +115,7 @@ fn was_pushed(program: &ProgramWords, begun: &[u32], i: u32, n: u32, ticket: u32
     ensures { result ≡ has_stamp (ticket + 1) (pushed_to (program_from program.now begun.now) i n) }
 {
     let stamp = (ticket as usize) + 1;
-    let mut k = n;
-    while 0 < k {
-        let at = k - 1;
+    for at in (0..n).rev() {
         let line = instruction(program, at);
         if adds(line, i) {
             return false;
@@ -132,7 +123,6 @@ fn was_pushed(program: &ProgramWords, begun: &[u32], i: u32, n: u32, ticket: u32
         if pushes(line, i) & (stamp_of(line) == stamp) {
             return true;
         }
-        k = at;
     }
     begun_with(begun, i, ticket)
 }
