@@ -44,10 +44,8 @@ pub fn is_named(state: &StateWords, i: u32) -> bool
     ensures { result ≡ some_connection (state_in state.now) (named_by i) }
 {
     let mut found = false;
-    let mut s: u32 = 0;
-    while s < 512 {
+    for s in 0..512 {
         found = found | names(state, i, s);
-        s += 1;
     }
     found
 }
