@@ -163,12 +163,10 @@ fn close_slots(state: &mut StateWords, at: usize, end: usize)
 {
     let last = less(end, 1);
     let n = less(last, at);
-    let mut k: usize = 0;
-    while k < n {
+    for k in 0..n {
         let to = at + k;
         let x = slot_at(state, to + 1);
         put_slot(state, to, x);
-        k += 1;
     }
     put_slot(state, last, 0);
 }
