@@ -162,9 +162,7 @@ fn close_slots(state: &mut StateWords, at: usize, end: usize)
     ensures { state_in state.new ≡ with_queue (state_in state.old) (closed 0 (state_in state.old).queue at end) }
 {
     let last = less(end, 1);
-    let n = less(last, at);
-    for k in 0..n {
-        let to = at + k;
+    for to in at..last {
         let x = slot_at(state, to + 1);
         put_slot(state, to, x);
     }
