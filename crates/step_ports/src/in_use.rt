@@ -28,12 +28,10 @@ fn uses_of(state: &StateWords, u: u32, i: u32) -> u32
     ensures { result ≡ uses_of (state_in state.now).servers u i }
 {
     let mut ports: u32 = 0;
-    let mut q: u32 = 0;
-    while q < 16 {
+    for q in 0..16 {
         if is_served_by(state, u, q, i) {
             ports = sets::with(ports, q + 1);
         }
-        q += 1;
     }
     ports
 }
@@ -71,10 +69,8 @@ pub(crate) fn in_use(tables: &TableWords, state: &StateWords, i: u32) -> u32
     ensures { result ≡ in_use (tables_in tables.now) (standing (state_in state.now)) (state_in state.now) i }
 {
     let mut all: u32 = 0;
-    let mut u: u32 = 0;
-    while u < 32 {
+    for u in 0..32 {
         all = with_user(all, tables, state, i, u);
-        u += 1;
     }
     all
 }

@@ -105,8 +105,7 @@ fn first_refusal(tables: &TableWords, state: &StateWords, i: u32, next: Sets) ->
     let n = ports_of(tables, k);
     let mut refuses = false;
     let mut ending: u32 = 0;
-    let mut q: u32 = 0;
-    while q < n {
+    for q in 0..n {
         let x = port_refusal(tables, state, i, k, was, next, q);
         if x == UNCONNECTED {
             return about(UNCONNECTED, q);
@@ -118,7 +117,6 @@ fn first_refusal(tables: &TableWords, state: &StateWords, i: u32, next: Sets) ->
         if x == SERVICE_IN_USE {
             ending = sets::with(ending, q);
         }
-        q += 1;
     }
     if refuses {
         return about_none(PROVIDER_REFUSING);
@@ -154,12 +152,10 @@ fn lowest_unconnected(tables: &TableWords, state: &StateWords, i: u32, next: Set
 {
     let k = kind(state, i);
     let n = ports_of(tables, k);
-    let mut q: u32 = 0;
-    while q < n {
+    for q in 0..n {
         if is_unconnected(tables, state, i, k, next, q) {
             return q;
         }
-        q += 1;
     }
     n
 }
