@@ -58,10 +58,8 @@ fn put_words(words: &mut [u32], at: usize, xs: &[u32])
     requires { at < 65536 }
     ensures { words.new ≡ puts words.old at xs.now }
 {
-    let mut k: usize = 0;
-    while k < xs.len() {
-        put_word(words, at + k, xs[k]);
-        k += 1;
+    for (k, x) in xs.iter().enumerate() {
+        put_word(words, at + k, *x);
     }
 }
 
@@ -79,11 +77,11 @@ fn put_row(words: &mut [u32], at: usize, n: usize, w: usize, k: usize, f: usize,
 pub fn less(a: usize, b: usize) -> usize
     ensures { result ≡ a - b }
 {
-    if b < a { a - b } else { 0 }
+    a.saturating_sub(b)
 }
 
 pub fn fewer(a: u32, b: u32) -> u32
     ensures { result ≡ a - b }
 {
-    if b < a { a - b } else { 0 }
+    a.saturating_sub(b)
 }

@@ -100,12 +100,10 @@ pub fn entries(state: &StateWords) -> u32
     ensures small { result ≤ 512 }
 {
     let mut free: u32 = 0;
-    let mut s: u32 = 0;
-    while s < 512 {
+    for s in 0..512 {
         if server(state, s) == 0 {
             free += 1;
         }
-        s += 1;
     }
     512 - free
 }
