@@ -15,12 +15,7 @@ use words::{ProgramWords, StateWords};
 fn queues_empty(state: &StateWords) -> bool
     ensures { result ≡ all_below 32 (λ i. eqb (instance (state_in state.now) i).queued 0) }
 {
-    for i in 0..32 {
-        if queued(state, i) != 0 {
-            return false;
-        }
-    }
-    true
+    (0..32).all(|i| queued(state, i) == 0)
 }
 
 // The program is at its end, and all queues are empty.

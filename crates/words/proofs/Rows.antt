@@ -9,7 +9,7 @@ use native.Mathlib.Numerals.{add-one}
 use native.Mathlib.Nat.{mul-le-mul_right}
 use native.Mathlib.Decide.{dec_lt}
 use lib.ListN.{length, get_or, set, take, replicate, length-set}
-use lib.Seq.{get_or-set_same, get_or-set_other, set_out, take-suc, take_all, length-take-le}
+use lib.Seq.{get_or-set_same, get_or-set_other, set_out, take-suc, length-take-le}
 use borrow.Author.Tests.{lt-ltb, le-ltb}
 use Rattle.model.specs.View.{list_of}
 use Rattle.model.proofs.View.{past_end, list_at, list_same, length-list}
@@ -164,6 +164,3 @@ module _ (ws : List ℕ) (p : ℕ) (xs : List ℕ) where
       ap (λ (us : List ℕ). set us (p + k) (get_or xs k 0)) e
       ∙ ap (λ (n : ℕ). set (puts ws p (take k xs)) (p + n) (get_or xs k 0)) (sym (length-take-le k xs (omega arith)))
       ∙ sym (ap (puts ws p) (ap (λ (n : ℕ). take n xs) (add-one k) ∙ take-suc xs k 0 h) ∙ puts-more (take k xs) ws p (get_or xs k 0))
-
-  pub puts-end : (vs : List ℕ) (k : ℕ) → length xs ≤ k → vs ≡ puts ws p (take k xs) → vs ≡ puts ws p xs
-  puts-end vs k h e = e ∙ ap (puts ws p) (take_all k xs h)
