@@ -149,12 +149,7 @@ pub fn some_leaves(tables: &TableWords, state: &StateWords, i: u32, any: bool, q
 fn some_enters(tables: &TableWords, state: &StateWords, i: u32, m: u32, q: u32) -> bool
     ensures { result ≡ any_below 16 (would_enter (tables_in tables.now) (instance (state_in state.now) i) m q) }
 {
-    for p in 0..16 {
-        if would_enter(tables, state, i, m, q, p) {
-            return true;
-        }
-    }
-    false
+    (0..16).any(|p| would_enter(tables, state, i, m, q, p))
 }
 
 // Provide port q of instance i refuses. Where no transition has ended no place can be entered, so that few look at the places twice.

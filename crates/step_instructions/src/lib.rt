@@ -177,12 +177,7 @@ pub fn wait_check(state: &StateWords, i: u32) -> u32
 fn is_queued(state: &StateWords, i: u32, stamp: usize) -> bool
     ensures { result ≡ is_queued (state_in state.now) i stamp }
 {
-    let n = queued(state, i);
-    let mut found = false;
-    for r in 0..n {
-        found = found | ((slot(state, i, r) / 8) as usize == stamp);
-    }
-    found
+    (0..queued(state, i)).any(|r| (slot(state, i, r) / 8) as usize == stamp)
 }
 
 // A wait for the push of this ticket, which was made or not.

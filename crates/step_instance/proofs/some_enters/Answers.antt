@@ -1,12 +1,14 @@
-use Rattle.std.proofs.Common.{sym, ◌∙◌}
-use Rattle.sets.proofs.Laws.{any-start, any-more, any-hit}
+use Rattle.std.proofs.Common.{refl, ◌∙◌, rules, tests}
+use Rattle.std.proofs.lemmas.Iterator.{YieldsList-from_range}
+use Rattle.std.proofs.lemmas.Iterator.Search.{any_from_yields_List}
+use Rattle.sets.proofs.Ranges.{any-range}
+use Rattle.model.specs.View.{instance}
+use Rattle.words.specs.Words.{tables_in, state_in}
+use Rattle.rules_spec.specs.Ports.{would_enter}
 use Rattle.step_instance.proofs.some_enters.Goals as goal
 
-pub loop-p-init : goal.loop-p-init
-loop-p-init c = any-start _
-
-pub returns-then-would_enter : goal.returns-then-would_enter
-returns-then-would_enter c = sym (any-hit _ _ c.loop-p.p c.loop-p-test.true (sym c.would_enter.ensures ∙ c.if-would_enter.true))
-
-pub loop-p-preserved : goal.loop-p-preserved
-loop-p-preserved c = any-more _ _ c.loop-p.invariant (sym c.would_enter.ensures ∙ c.if-would_enter.false)
+pub returns : goal.returns
+returns c =
+    let a = c.args in
+    any_from_yields_List (would_enter (tables_in a.tables.now) (instance (state_in a.state.now) a.i) a.m a.q) _ _ c.any.result c.any.ensures.ran (YieldsList-from_range 0 16 16 refl refl) (λ x b q k. search (rules, tests))
+    ∙ any-range 16 _
