@@ -81,8 +81,8 @@ loop-q-preserved c =
       passes = any-more _ _ i.passes (rw (own x, ne_eqb _ _ c.if-x-eq-UNCONNECTED.false, ne_eqb _ _ c.if-x-eq-UNSERVED.false));
       refused = ap₂ ◌||◌ i.refused (sym (told x provider_refusing _ refl)) ∙ sym (any_next c.loop-q.q (gets (tables_in a.tables.now) (state_in a.state.now) a.i a.next provider_refusing));
       ends = elim c.if-x-eq-SERVICE_IN_USE.branch [
-        goal.then-x-eq-SERVICE_IN_USE w ↦ w.ending-is ∙ w.with-ending.ensures ∙ ap (with c.loop-q.q) i.ends ∙ below_in _ c.loop-q.q (told x service_in_use true (eq-eqb _ _ w.if-x-eq-SERVICE_IN_USE.true))
-      | goal.else-x-eq-SERVICE_IN_USE w ↦ w.ending-is ∙ i.ends ∙ below_out _ c.loop-q.q (told x service_in_use false (ne_eqb _ _ w.if-x-eq-SERVICE_IN_USE.false))
+        | goal.then-x-eq-SERVICE_IN_USE w ↦ w.ending-is ∙ w.with-ending.ensures ∙ ap (with c.loop-q.q) i.ends ∙ below_in _ c.loop-q.q (told x service_in_use true (eq-eqb _ _ w.if-x-eq-SERVICE_IN_USE.true))
+        | goal.else-x-eq-SERVICE_IN_USE w ↦ w.ending-is ∙ i.ends ∙ below_out _ c.loop-q.q (told x service_in_use false (ne_eqb _ _ w.if-x-eq-SERVICE_IN_USE.false))
       ];
     }
 

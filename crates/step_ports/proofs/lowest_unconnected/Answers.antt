@@ -1,4 +1,4 @@
-use Rattle.std.proofs.Common.{◌≡◌, ℕ, Bool, sym, ap, ◌∙◌, arith}
+use Rattle.std.proofs.Common.{◌≡◌, ℕ, sym, ap, ◌∙◌, arith}
 use Rattle.sets.specs.Test.{lowest}
 use Rattle.sets.proofs.Laws.{any-start, any-more, any_none}
 use Rattle.sets.proofs.Lowest.{lowest-is, lowest-none}

@@ -1,4 +1,4 @@
-use Rattle.std.proofs.Common.{◌≡◌, ℕ, Bool, true, false, ltb, sym, ap, ◌∙◌, rules, le-ltb, lt-ltb}
+use Rattle.std.proofs.Common.{◌≡◌, ℕ, Bool, true, ltb, sym, ap, ◌∙◌, rules, le-ltb, lt-ltb}
 use Rattle.sets.specs.Test.{any_below, lowest}
 use Rattle.sets.proofs.Lowest.{lowest-holds}
 use Rattle.model.specs.View.{instance, type_of}

@@ -1,4 +1,4 @@
-use Rattle.std.proofs.Common.{sym, ap, ◌∙◌, arith}
+use Rattle.std.proofs.Common.{sym, ap, ◌∙◌}
 use Rattle.words.specs.Words.{program_from}
 use Rattle.step_instructions.proofs.Begun.{from-none, from_more, from_end, last_from, last_more, slots, tail-is}
 use Rattle.step_instructions.proofs.tickets.begun_tail.Goals as goal

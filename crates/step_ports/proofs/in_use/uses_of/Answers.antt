@@ -22,8 +22,8 @@ loop-q-preserved c =
     let l = c.loop-q in
     let s = (goal.at.loop-q-preserved c).After-is_served_by in
     elim c.if-is_served_by.branch [
-      goal.then-is_served_by w ↦ w.ports-is ∙ w.with-ports.ensures ∙ ap (with (l.q + 1)) l.invariant ∙ gather-in (l.q + 1) _ (omega arith) (own s true w.if-is_served_by.true)
-    | goal.else-is_served_by w ↦ w.ports-is ∙ l.invariant ∙ gather-out (l.q + 1) _ (own s false w.if-is_served_by.false)
+      | goal.then-is_served_by w ↦ w.ports-is ∙ w.with-ports.ensures ∙ ap (with (l.q + 1)) l.invariant ∙ gather-in (l.q + 1) _ (omega arith) (own s true w.if-is_served_by.true)
+      | goal.else-is_served_by w ↦ w.ports-is ∙ l.invariant ∙ gather-out (l.q + 1) _ (own s false w.if-is_served_by.false)
     ]
 
 pub returns : goal.returns

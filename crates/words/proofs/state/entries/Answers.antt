@@ -16,8 +16,8 @@ loop-s-preserved c =
     let l = c.loop-s in
     let read = c.server.ensures in
     elim c.if-server-eq0.branch [
-      goal.then-server-eq0 w ↦ record { few = omega (arith, w.free-is); counted = w.free-is ∙ rw l.invariant.counted (sym (tally-in _ _ (rw (← read, eq-eqb _ _ w.if-server-eq0.true)))) }
-    | goal.else-server-eq0 w ↦ record { few = omega (arith, w.free-is); counted = w.free-is ∙ rw l.invariant.counted (sym (tally-out _ _ (rw (← read, ne_eqb _ _ w.if-server-eq0.false)))) }
+      | goal.then-server-eq0 w ↦ record { few = omega (arith, w.free-is); counted = w.free-is ∙ rw l.invariant.counted (sym (tally-in _ _ (rw (← read, eq-eqb _ _ w.if-server-eq0.true)))) }
+      | goal.else-server-eq0 w ↦ record { few = omega (arith, w.free-is); counted = w.free-is ∙ rw l.invariant.counted (sym (tally-out _ _ (rw (← read, ne_eqb _ _ w.if-server-eq0.false)))) }
     ]
 
 pub returns : goal.returns
