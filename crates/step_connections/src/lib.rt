@@ -54,8 +54,8 @@ pub fn is_named(state: &StateWords, i: u32) -> bool
 fn server_number(v: u32, p: u32) -> u32
     ensures { result ≡ cond (ltb (port_number v p) 4294967295) (server_number v p) no_server }
 {
-    let n = (v as usize) * 16 + p as usize;
-    if n < 4294967295 { n as u32 + 1 } else { 0 }
+    let n = (v as usize) * 16 + p as usize + 1;
+    u32::try_from(n).unwrap_or(0)
 }
 
 // Where no word holds the server's number, the use port is left without one.

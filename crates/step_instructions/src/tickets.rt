@@ -42,7 +42,7 @@ fn ticket_push(line: InstructionWords) -> u32
     ensures { result ≡ in_word (ticket_push (said line)) }
 {
     let s = ((line.provider as usize) + 1) * 8 + line.number as usize;
-    if s < 4294967296 { s as u32 } else { 0 }
+    u32::try_from(s).unwrap_or(0)
 }
 
 // The stamp of queue slot r that instance i starts with.
