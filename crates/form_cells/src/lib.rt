@@ -3,7 +3,9 @@
 #![tactic(auto)]
 
 ghost use Rattle.std.specs.Prelude.{◌≡◌, cond, ◌||◌, eqb, [], ◌∷◌, ◌++◌, ◌≤◌, ◌<◌, length, take, drop, replicate};
+ghost use Rattle.std.specs.List.{ends_with};
 ghost use Rattle.io.specs.Counts.{IsPrefixLen};
+ghost use Rattle.item_spec.specs.Reader.{bytes};
 ghost use Rattle.write_items.specs.Written.{Written};
 ghost use Rattle.form_cells.specs.Cells.{gap, stands, first_after, commas_after, unmarked, letter, separator_of, note_after, comma_for};
 ghost use Rattle.form_cells.specs.Cells.{lines_of, looked_at, cell_byte, cells_of};
@@ -184,12 +186,19 @@ pub fn write_lines(rows: &[u8], out: &mut [u8]) -> usize
     row.at
 }
 
+// Whether an empty line comes last.
+fn ends_empty(lines: &[u8]) -> bool
+    ensures { result ≡ ends_with eqb lines.now (bytes "\n\n") }
+{
+    lines.ends_with(b"\n\n")
+}
+
 // How many bytes of lines are looked at: all but empty lines at the end.
 pub fn looked_at(lines: &[u8]) -> usize
     ensures { result ≡ length (looked_at lines.now) }
 {
     let mut looked = lines;
-    while looked.ends_with(b"\n\n") {
+    while ends_empty(looked) {
         looked = &looked[..looked.len() - 1];
     }
     looked.len()
