@@ -15,7 +15,7 @@ fn run_case(rt: &HostRuntime, i: usize) {
     let mut name = [0u8; 64];
     let k = program_io::read_argument(rt, i, &mut name);
     let mut form = [0u8; 32769];
-    let n = program_io::read_named(rt, &name[..k], &mut form).size;
+    let n = program_io::read_named(rt, &name[..k], &mut form).unwrap_or(0);
     let mut sheet = [0u8; 32768];
     let drafted = form_lib::write_draft(Draft::Sheet, &form[..n], &mut sheet);
     io::write_all(STDOUT_FILENO, &name[..k]);

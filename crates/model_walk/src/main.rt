@@ -47,9 +47,9 @@ fn main(rt: HostRuntime) {
     let n = program_io::read_as_far(&rt, b"sheet.txt", &mut sheet);
     let mut start = [0u8; 8193];
     let begun = program_io::read_start(&rt, b"start.txt", &mut start);
-    let k = begun.size;
+    let k = begun.unwrap_or(0);
     let mut out = [0u8; 17428];
-    let done = model_walk_lib::model_walk(&sheet[..n], begun.given, &start[..k], &mut out);
+    let done = model_walk_lib::model_walk(&sheet[..n], begun.is_some(), &start[..k], &mut out);
     let text = done.text;
     if done.refused != 0 {
         say_refused(&rt, text, done.line, done.refused);

@@ -118,11 +118,11 @@ fn run_case(rt: &HostRuntime, i: usize) {
     let l = sitting_shown::path_of(&mut path, &name[..k], b".start");
     let mut start = [0u8; 8193];
     let begun = program_io::read_start(rt, &path[..l], &mut start);
-    let b = begun.size;
+    let b = begun.unwrap_or(0);
     io::write_all(STDOUT_FILENO, b"case=");
     io::write_all(STDOUT_FILENO, &name[..k]);
     io::write_all(STDOUT_FILENO, b"\n");
-    run_paper(&sheet[..n], begun.given, &start[..b]);
+    run_paper(&sheet[..n], begun.is_some(), &start[..b]);
 }
 
 fn main(rt: HostRuntime) {

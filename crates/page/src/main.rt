@@ -103,11 +103,9 @@ fn run_answer(
 ) -> Sat {
     let path = listed.name;
     let mut answer = [0u8; 32769];
-    let read = program_io::read_named(rt, listed.path, &mut answer);
-    let size = read.size;
-    if read.failed {
+    let Ok(size) = program_io::read_named(rt, listed.path, &mut answer) else {
         return run_unreadable(block, counts, sat, path);
-    }
+    };
     let row = register_lib::row_of(
         paper.sheet,
         sat.given,
@@ -265,19 +263,19 @@ fn main(rt: HostRuntime) {
     let mut path = [0u8; 4096];
     let mut sheet = [0u8; 32769];
     let k = argument(&rt, 2, &mut path);
-    let n = program_io::read_named(&rt, &path[..k], &mut sheet).size;
+    let n = program_io::read_named(&rt, &path[..k], &mut sheet).unwrap_or(0);
     let mut start = [0u8; 8193];
     let l = argument(&rt, 3, &mut path);
     let begun = program_io::read_start(&rt, &path[..l], &mut start);
-    let b = begun.size;
+    let b = begun.unwrap_or(0);
     let mut times = [0u8; 32769];
     let m = argument(&rt, 4, &mut path);
     let timed = program_io::read_start(&rt, &path[..m], &mut times);
-    let t = timed.size;
+    let t = timed.unwrap_or(0);
     let paper = Paper {
         sheet: &sheet[..n],
         start: &start[..b],
         times: &times[..t],
     };
-    run(&rt, &mut block, paper, begun.given, timed.given);
+    run(&rt, &mut block, paper, begun.is_some(), timed.is_some());
 }

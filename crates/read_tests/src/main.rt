@@ -55,7 +55,7 @@ fn run_case(rt: &HostRuntime, i: usize) {
     let mut name = [0u8; 64];
     let k = program_io::read_argument(rt, i, &mut name);
     let mut buffer = [0u8; 32769];
-    let n = program_io::read_named(rt, &name[..k], &mut buffer).size;
+    let n = program_io::read_named(rt, &name[..k], &mut buffer).unwrap_or(0);
     read_text(&name[..k], &buffer[..n]);
 }
 

@@ -48,11 +48,9 @@ fn run_unreadable(block: &mut [u8], path: &[u8]) -> Went {
 fn run_answer(rt: &HostRuntime, block: &mut [u8], paper: Paper<'_>, listed: Listed<'_>) -> Went {
     let path = listed.name;
     let mut answer = [0u8; 32769];
-    let read = program_io::read_named(rt, listed.path, &mut answer);
-    let size = read.size;
-    if read.failed {
+    let Ok(size) = program_io::read_named(rt, listed.path, &mut answer) else {
         return run_unreadable(block, path);
-    }
+    };
     let row = row_of(
         paper.sheet,
         paper.given,
@@ -151,20 +149,20 @@ fn main(rt: HostRuntime) {
     let mut path = [0u8; 4096];
     let mut sheet = [0u8; 32769];
     let k = argument(&rt, 2, &mut path);
-    let n = program_io::read_named(&rt, &path[..k], &mut sheet).size;
+    let n = program_io::read_named(&rt, &path[..k], &mut sheet).unwrap_or(0);
     let mut start = [0u8; 8193];
     let l = argument(&rt, 3, &mut path);
     let begun = program_io::read_start(&rt, &path[..l], &mut start);
-    let b = begun.size;
+    let b = begun.unwrap_or(0);
     let mut times = [0u8; 32769];
     let m = argument(&rt, 4, &mut path);
     let timed = program_io::read_start(&rt, &path[..m], &mut times);
-    let t = timed.size;
+    let t = timed.unwrap_or(0);
     let paper = Paper {
         sheet: &sheet[..n],
-        given: begun.given,
+        given: begun.is_some(),
         start: &start[..b],
-        marked: timed.given,
+        marked: timed.is_some(),
         times: &times[..t],
     };
     run(&rt, &mut block, paper);

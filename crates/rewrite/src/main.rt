@@ -27,7 +27,7 @@ fn say_refused(rt: &HostRuntime, line: usize, refused: u8) {
 fn main(rt: HostRuntime) {
     let mut sheet = [0u8; 32769];
     // A missing file counts as empty, as one does whose read fails midway.
-    let n = program_io::read_named(&rt, b"sheet.txt", &mut sheet).size;
+    let n = program_io::read_named(&rt, b"sheet.txt", &mut sheet).unwrap_or(0);
     let mut out = [0u8; LONGEST];
     let done = rewrite_lib::rewrite(&sheet[..n], &mut out);
     if done.refused != 0 {

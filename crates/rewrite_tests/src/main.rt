@@ -57,11 +57,11 @@ fn run_case(rt: &HostRuntime, first: usize, second: usize) {
     let mut name = [0u8; 64];
     let k = program_io::read_argument(rt, first, &mut name);
     let mut sheet = [0u8; 32769];
-    let n = program_io::read_named(rt, &name[..k], &mut sheet).size;
+    let n = program_io::read_named(rt, &name[..k], &mut sheet).unwrap_or(0);
     let mut other = [0u8; 64];
     let l = program_io::read_argument(rt, second, &mut other);
     let mut answer = [0u8; 32769];
-    let m = program_io::read_named(rt, &other[..l], &mut answer).size;
+    let m = program_io::read_named(rt, &other[..l], &mut answer).unwrap_or(0);
     io::write_all(STDOUT_FILENO, b"case=");
     io::write_all(STDOUT_FILENO, &name[..k]);
     io::write_all(STDOUT_FILENO, b",");

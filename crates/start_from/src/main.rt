@@ -44,26 +44,26 @@ fn main(rt: HostRuntime) {
     let n = program_io::read_as_far(&rt, b"sheet.txt", &mut sheet);
     let mut start = [0u8; 8193];
     let begun = program_io::read_start(&rt, b"start.txt", &mut start);
-    let k = begun.size;
+    let k = begun.unwrap_or(0);
     let mut answer = [0u8; 32769];
     let mut input = rt.stdin();
     let read = program_io::read_answer(&mut input, &mut answer, b"start-from: standard input");
-    let m = read.size;
+    let m = read.unwrap_or(0);
     let mut out = [0u8; LENT_BYTES];
     let next = judge_lib::next::next_start(
         &sheet[..n],
-        begun.given,
+        begun.is_some(),
         &start[..k],
         &answer[..m],
         &mut out,
     );
     if next.refused != 0 {
         say_refused(next);
-        tell(&rt, read.failed, true);
+        tell(&rt, read.is_none(), true);
         return;
     }
     let used = next.used;
     if io::write_all(STDOUT_FILENO, &out[..used]) {
-        tell(&rt, read.failed, false);
+        tell(&rt, read.is_none(), false);
     }
 }

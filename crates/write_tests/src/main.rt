@@ -158,7 +158,7 @@ fn run_text(rt: &HostRuntime, i: usize) {
     let mut name = [0u8; 64];
     let k = program_io::read_argument(rt, i, &mut name);
     let mut buffer = [0u8; 70000];
-    let n = program_io::read_named(rt, &name[..k], &mut buffer).size;
+    let n = program_io::read_named(rt, &name[..k], &mut buffer).unwrap_or(0);
     io::write_all(STDOUT_FILENO, &name[..k]);
     if ends_in(&name[..k], b".words") {
         write_words(&buffer[..n]);
