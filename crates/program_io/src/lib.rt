@@ -166,19 +166,35 @@ pub fn tell_of(unread: bool, refused: bool) {
     io::write_all(HEARD, told);
 }
 
-// What a program prints, and then that all of it was written, where a script hears: its report says what is refused.
-pub fn finish<E: Env>(rt: &E, out: &[u8], unread: bool) {
-    if io::write_all(STDOUT_FILENO, out) && has_argument(rt, 1) {
-        tell_of(unread, false);
+// The same, where a script hears: it has called the program with an argument.
+pub fn tell<E: Env>(rt: &E, unread: bool, refused: bool) {
+    if has_argument(rt, 1) {
+        tell_of(unread, refused);
     }
+}
+
+// What a program prints, and then that all of it was written: its report says what is refused.
+pub fn finish<E: Env>(rt: &E, out: &[u8], unread: bool) {
+    if io::write_all(STDOUT_FILENO, out) {
+        tell(rt, unread, false);
+    }
+}
+
+// A key and a number, on standard output or on standard error.
+pub fn show_number(to: i32, key: &[u8], n: usize) {
+    io::write_all(to, key);
+    io::print_decimal(to, n as u64);
+}
+
+// The same as a line.
+pub fn show_count(to: i32, key: &[u8], n: usize) {
+    show_number(to, key, n);
+    io::write_all(to, b"\n");
 }
 
 // On standard error: the text that is refused, the line at fault, and the number.
 pub fn say_fault(text: &[u8], line: usize, refused: u8) {
     io::write_all(STDERR_FILENO, text);
-    io::write_all(STDERR_FILENO, b"line=");
-    io::print_decimal(STDERR_FILENO, line as u64);
-    io::write_all(STDERR_FILENO, b"\nrefused=");
-    io::print_decimal(STDERR_FILENO, refused as u64);
-    io::write_all(STDERR_FILENO, b"\n");
+    show_count(STDERR_FILENO, b"line=", line);
+    show_count(STDERR_FILENO, b"refused=", refused as usize);
 }
