@@ -13,8 +13,8 @@ fn main(rt: HostRuntime) {
     let mut answer = [0u8; 32769];
     let mut input = rt.stdin();
     let read = program_io::read_answer(&mut input, &mut answer, b"aeolus: standard input");
-    let m = read.size;
+    let m = read.unwrap_or(0);
     let mut out = [0u8; LENT_BYTES];
     let used = aeolus_lib::print(&sheet[..n], &answer[..m], &mut out);
-    program_io::finish(&rt, &out[..used], read.failed);
+    program_io::finish(&rt, &out[..used], read.is_none());
 }

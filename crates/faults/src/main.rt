@@ -13,16 +13,16 @@ fn main(rt: HostRuntime) {
     let n = program_io::read_as_far(&rt, b"sheet.txt", &mut sheet);
     let mut start = [0u8; 8193];
     let begun = program_io::read_start(&rt, b"start.txt", &mut start);
-    let k = begun.size;
+    let k = begun.unwrap_or(0);
     let mut times = [0u8; 32769];
     let timed = program_io::read_start(&rt, b"times.txt", &mut times);
-    let m = timed.size;
+    let m = timed.unwrap_or(0);
     let mut out = [0u8; FAULTS_BYTES];
     let used = faults_lib::faults_print(
         &sheet[..n],
-        begun.given,
+        begun.is_some(),
         &start[..k],
-        timed.given,
+        timed.is_some(),
         &times[..m],
         &mut out,
     );

@@ -12,8 +12,8 @@ fn main(rt: HostRuntime) {
     let n = program_io::read_as_far(&rt, b"sheet.txt", &mut sheet);
     let mut start = [0u8; 8193];
     let begun = program_io::read_start(&rt, b"start.txt", &mut start);
-    let k = begun.size;
+    let k = begun.unwrap_or(0);
     let mut out = [0u8; FORESEEN_BYTES];
-    let used = foretell_lib::foretell_print(&sheet[..n], begun.given, &start[..k], &mut out);
+    let used = foretell_lib::foretell_print(&sheet[..n], begun.is_some(), &start[..k], &mut out);
     program_io::finish(&rt, &out[..used], false);
 }

@@ -146,7 +146,7 @@ pub fn run<R: Input + Env>(rt: &R, draft: Draft, input: &[u8], refused_text: &[u
     let mut text = [0u8; 32769];
     let mut reader = rt.reader();
     let read = program_io::read_answer(&mut reader, &mut text, input);
-    let n = read.size;
+    let n = read.unwrap_or(0);
     let mut out = [0u8; 32768];
     let drafted = write_draft(draft, &text[..n], &mut out);
     let used = drafted.bytes;
@@ -155,7 +155,7 @@ pub fn run<R: Input + Env>(rt: &R, draft: Draft, input: &[u8], refused_text: &[u
     if refused {
         program_io::say_fault(refused_text, drafted.line, drafted.refused);
     }
-    if done & program_io::has_argument(rt, 1) {
-        program_io::tell_of(read.failed, refused);
+    if done {
+        program_io::tell(rt, read.is_none(), refused);
     }
 }

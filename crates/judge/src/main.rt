@@ -12,18 +12,18 @@ fn main(rt: HostRuntime) {
     let n = program_io::read_as_far(&rt, b"sheet.txt", &mut sheet);
     let mut start = [0u8; 8193];
     let begun = program_io::read_start(&rt, b"start.txt", &mut start);
-    let k = begun.size;
+    let k = begun.unwrap_or(0);
     let mut answer = [0u8; 32769];
     let mut input = rt.stdin();
     let read = program_io::read_answer(&mut input, &mut answer, b"judge: standard input");
-    let m = read.size;
+    let m = read.unwrap_or(0);
     let mut out = [0u8; LENT_BYTES];
     let used = judge_lib::print(
         &sheet[..n],
-        begun.given,
+        begun.is_some(),
         &start[..k],
         &answer[..m],
         &mut out,
     );
-    program_io::finish(&rt, &out[..used], read.failed);
+    program_io::finish(&rt, &out[..used], read.is_none());
 }

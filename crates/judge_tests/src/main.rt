@@ -22,8 +22,8 @@ fn run_started(rt: &HostRuntime, name: &[u8], sheet: &[u8], answer: &[u8]) {
     let l = sitting_shown::path_of(&mut path, name, b".start");
     let mut start = [0u8; 8193];
     let begun = program_io::read_start(rt, &path[..l], &mut start);
-    let b = begun.size;
-    print_case(name, sheet, begun.given, &start[..b], answer);
+    let b = begun.unwrap_or(0);
+    print_case(name, sheet, begun.is_some(), &start[..b], answer);
 }
 
 fn run_case(rt: &HostRuntime, i: usize) {

@@ -2,9 +2,10 @@
 // Promised: a count within the lent buffer, and no more. What a file holds and whether a call succeeds no contract can say.
 #![tactic(auto)]
 
-ghost use Rattle.std.specs.Prelude.{◌≤◌, length, IfOk};
+ghost use Rattle.std.specs.Prelude.{◌≤◌, length, IfOk, IfSome};
 ghost use Rattle.io.specs.Counts.{IsPrefixLen};
 
+use std::env::FillError;
 use std::fs::File;
 use std::io::{Error, ErrorKind, Write};
 use std::rt::{Env, Files};
@@ -20,40 +21,15 @@ const HEARD: i32 = 3;
 // Room for what the system says of an error, and its number.
 const SAID: usize = 256;
 
-// A read that failed, or how many bytes it gave.
-#[derive(Clone, Copy)]
-pub struct Read {
-    pub failed: bool,
-    pub size: usize,
-}
-
-// What failed gave no bytes.
-fn read_of(got: std::io::Result<usize>, text: &[u8]) -> Read
-    requires { IfOk got (λ n. IsPrefixLen n text.now) }
-    ensures { IsPrefixLen result.size text.now }
+// One read: how many bytes it gave, or none where it failed.
+pub fn read_some<R: std::io::Read>(file: &mut R, free: &mut [u8]) -> Option<usize>
+    ensures { IfSome result (λ n. IsPrefixLen n free.new) }
 {
-    match got {
-        Ok(size) => Read {
-            failed: false,
-            size,
-        },
-        Err(_) => Read {
-            failed: true,
-            size: 0,
-        },
-    }
+    file.read(free).ok()
 }
 
-// One read.
-pub fn read_some<R: std::io::Read>(file: &mut R, free: &mut [u8]) -> Read
-    ensures { IsPrefixLen result.size free.new }
-{
-    let got = file.read(free);
-    read_of(got, free)
-}
-
-// What a file holds, up to the buffer's length, or the first error.
-fn read_all<R: std::io::Read>(file: &mut R, text: &mut [u8]) -> std::io::Result<usize>
+// What a file holds, up to the buffer's length. One read that fails, as the first of a folder does, makes it unreadable.
+pub fn read_text<R: std::io::Read>(file: &mut R, text: &mut [u8]) -> std::io::Result<usize>
     ensures { IfOk result (λ n. IsPrefixLen n text.new) }
 {
     let mut size: usize = 0;
@@ -67,14 +43,6 @@ fn read_all<R: std::io::Read>(file: &mut R, text: &mut [u8]) -> std::io::Result<
     Ok(size)
 }
 
-// What a file holds, up to the buffer's length. One read that fails, as the first of a folder does, makes it unreadable.
-pub fn read_text<R: std::io::Read>(file: &mut R, text: &mut [u8]) -> Read
-    ensures { IsPrefixLen result.size text.new }
-{
-    let got = read_all(file, text);
-    read_of(got, text)
-}
-
 // A name is text for the system that opens it, so bytes that are none name no file.
 fn open_named<R: Files>(rt: &R, name: &[u8]) -> std::io::Result<R::File> {
     match from_utf8(name) {
@@ -84,16 +52,11 @@ fn open_named<R: Files>(rt: &R, name: &[u8]) -> std::io::Result<R::File> {
 }
 
 // What a named file holds.
-pub fn read_named<R: Files>(rt: &R, name: &[u8], text: &mut [u8]) -> Read
-    ensures { IsPrefixLen result.size text.new }
+pub fn read_named<R: Files>(rt: &R, name: &[u8], text: &mut [u8]) -> std::io::Result<usize>
+    ensures { IfOk result (λ n. IsPrefixLen n text.new) }
 {
-    match open_named(rt, name) {
-        Ok(mut file) => read_text(&mut file, text),
-        Err(_) => Read {
-            failed: true,
-            size: 0,
-        },
-    }
+    let mut file = open_named(rt, name)?;
+    read_text(&mut file, text)
 }
 
 // As many bytes of a named file as come before its end or before a read that fails: a file that can't be opened has none.
@@ -111,37 +74,23 @@ fn read_until_failed<R: std::io::Read>(file: &mut R, text: &mut [u8]) -> usize
 {
     let mut size: usize = 0;
     while size < text.len() {
-        let more = read_some(file, &mut text[size..]);
-        if more.size == 0 {
+        let more = read_some(file, &mut text[size..]).unwrap_or(0);
+        if more == 0 {
             break;
         }
-        size += more.size;
+        size += more;
     }
     size
 }
 
-// A start: whether there is one, and how many bytes of it. "no file: nothing up": one that can't be opened counts as empty.
-#[derive(Clone, Copy)]
-pub struct Start {
-    pub given: bool,
-    pub size: usize,
-}
-
-pub fn read_start<R: Files>(rt: &R, name: &[u8], text: &mut [u8]) -> Start
-    ensures { IsPrefixLen result.size text.new }
+// How many bytes a start has, or none where there is no start. "no file: nothing up": one that can't be opened or read counts as empty.
+pub fn read_start<R: Files>(rt: &R, name: &[u8], text: &mut [u8]) -> Option<usize>
+    ensures { IfSome result (λ n. IsPrefixLen n text.new) }
 {
     match open_named(rt, name) {
-        Ok(mut file) => {
-            let read = read_text(&mut file, text);
-            Start {
-                given: true,
-                size: read.size,
-            }
-        }
-        Err(error) => Start {
-            given: error.kind() != ErrorKind::NotFound,
-            size: 0,
-        },
+        Ok(mut file) => Some(read_text(&mut file, text).unwrap_or(0)),
+        Err(error) if error.kind() == ErrorKind::NotFound => None,
+        Err(_) => Some(0),
     }
 }
 
@@ -149,13 +98,10 @@ pub fn read_start<R: Files>(rt: &R, name: &[u8], text: &mut [u8]) -> Start
 fn said_by_system(said: &[u8]) -> usize
     ensures { IsPrefixLen result said.now }
 {
-    let mut end = said.len();
-    for (i, byte) in said.iter().enumerate() {
-        if *byte == b'(' && 0 < i {
-            end = i - 1;
-        }
+    match said.iter().rposition(|byte| *byte == b'(') {
+        Some(i) if 0 < i => i - 1,
+        _ => said.len(),
     }
-    end
 }
 
 // A line on standard error: what failed, a colon and what the system says of it.
@@ -171,73 +117,84 @@ pub fn say_failed(what: &[u8], error: Error) {
     io::write_all(STDERR_FILENO, b"\n");
 }
 
-// The answer, from standard input; `unread` says on standard error that it could not be read.
-pub fn read_answer<R: std::io::Read>(input: &mut R, answer: &mut [u8], unread: &[u8]) -> Read
-    ensures { IsPrefixLen result.size answer.new }
+// The size of the answer, from standard input; where it could not be read, `unread` says so on standard error, and there is none.
+pub fn read_answer<R: std::io::Read>(
+    input: &mut R,
+    answer: &mut [u8],
+    unread: &[u8],
+) -> Option<usize>
+    ensures { IfSome result (λ n. IsPrefixLen n answer.new) }
 {
-    let got = read_all(input, answer);
-    if let Err(error) = &got {
-        say_failed(unread, *error);
+    match read_text(input, answer) {
+        Ok(size) => Some(size),
+        Err(error) => {
+            say_failed(unread, error);
+            None
+        }
     }
-    read_of(got, answer)
 }
 
 // Whether there is an argument i; the program's own name is the first, by number 0.
 pub fn has_argument<E: Env>(rt: &E, i: usize) -> bool {
-    match rt.arg(i, &mut []) {
-        Ok(_) => true,
-        Err(std::env::FillError::TooLong) => true,
-        Err(std::env::FillError::NotPresent) => false,
-    }
+    !matches!(rt.arg(i, &mut []), Err(FillError::NotPresent))
 }
 
 // How many arguments the program was started with, its own name among them.
 pub fn argument_count<E: Env>(rt: &E) -> usize {
-    for i in 0..usize::MAX {
-        if !has_argument(rt, i) {
-            return i;
-        }
-    }
-    usize::MAX
+    (0..usize::MAX)
+        .find(|i| !has_argument(rt, *i))
+        .unwrap_or(usize::MAX)
 }
 
 // The size of argument i, which then stands in the lent bytes: 0 where there is none, or where it is longer than they are.
 pub fn read_argument<E: Env>(rt: &E, i: usize, word: &mut [u8]) -> usize
     ensures { IsPrefixLen result word.new }
 {
-    match rt.arg(i, word) {
-        Ok(size) => size,
-        Err(_) => 0,
-    }
+    rt.arg(i, word).unwrap_or(0)
 }
 
 // What the script ends with: 0, 3 where something could not be read, or 4 where what was read is refused. A program that could not write all of its report
 // tells nothing.
 pub fn tell_of(unread: bool, refused: bool) {
-    if unread {
-        io::write_all(HEARD, b"3");
+    let told = if unread {
+        b"3"
     } else if refused {
-        io::write_all(HEARD, b"4");
+        b"4"
     } else {
-        io::write_all(HEARD, b"0");
+        b"0"
+    };
+    io::write_all(HEARD, told);
+}
+
+// The same, where a script hears: it has called the program with an argument.
+pub fn tell<E: Env>(rt: &E, unread: bool, refused: bool) {
+    if has_argument(rt, 1) {
+        tell_of(unread, refused);
     }
 }
 
-// What a program prints, and then that all of it was written, where a script hears: its report says what is refused.
+// What a program prints, and then that all of it was written: its report says what is refused.
 pub fn finish<E: Env>(rt: &E, out: &[u8], unread: bool) {
     if io::write_all(STDOUT_FILENO, out) {
-        if has_argument(rt, 1) {
-            tell_of(unread, false);
-        }
+        tell(rt, unread, false);
     }
+}
+
+// A key and a number, on standard output or on standard error.
+pub fn show_number(to: i32, key: &[u8], n: usize) {
+    io::write_all(to, key);
+    io::print_decimal(to, n as u64);
+}
+
+// The same as a line.
+pub fn show_count(to: i32, key: &[u8], n: usize) {
+    show_number(to, key, n);
+    io::write_all(to, b"\n");
 }
 
 // On standard error: the text that is refused, the line at fault, and the number.
 pub fn say_fault(text: &[u8], line: usize, refused: u8) {
     io::write_all(STDERR_FILENO, text);
-    io::write_all(STDERR_FILENO, b"line=");
-    io::print_decimal(STDERR_FILENO, line as u64);
-    io::write_all(STDERR_FILENO, b"\nrefused=");
-    io::print_decimal(STDERR_FILENO, refused as u64);
-    io::write_all(STDERR_FILENO, b"\n");
+    show_count(STDERR_FILENO, b"line=", line);
+    show_count(STDERR_FILENO, b"refused=", refused as usize);
 }

@@ -7,24 +7,14 @@
 use judge_lib::next::Next;
 use judge_spec::LENT_BYTES;
 use model::Text;
-
-const STDOUT_FILENO: i32 = 1;
+use program_io::show_count;
 
 const STDERR_FILENO: i32 = 2;
 
-fn tell(rt: &HostRuntime, unread: bool, refused: bool) {
-    if program_io::has_argument(rt, 1) {
-        program_io::tell_of(unread, refused);
-    }
-}
-
 // After a refused step: how many were allowed before it, and the number.
 fn say_step(accepted: usize, refused: u8) {
-    io::write_all(STDERR_FILENO, b"accepted=");
-    io::print_decimal(STDERR_FILENO, accepted as u64);
-    io::write_all(STDERR_FILENO, b"\nrefused=");
-    io::print_decimal(STDERR_FILENO, refused as u64);
-    io::write_all(STDERR_FILENO, b"\n");
+    show_count(STDERR_FILENO, b"accepted=", accepted);
+    show_count(STDERR_FILENO, b"refused=", refused as usize);
 }
 
 fn say_refused(next: Next) {
@@ -44,26 +34,24 @@ fn main(rt: HostRuntime) {
     let n = program_io::read_as_far(&rt, b"sheet.txt", &mut sheet);
     let mut start = [0u8; 8193];
     let begun = program_io::read_start(&rt, b"start.txt", &mut start);
-    let k = begun.size;
+    let k = begun.unwrap_or(0);
     let mut answer = [0u8; 32769];
     let mut input = rt.stdin();
     let read = program_io::read_answer(&mut input, &mut answer, b"start-from: standard input");
-    let m = read.size;
+    let m = read.unwrap_or(0);
     let mut out = [0u8; LENT_BYTES];
     let next = judge_lib::next::next_start(
         &sheet[..n],
-        begun.given,
+        begun.is_some(),
         &start[..k],
         &answer[..m],
         &mut out,
     );
     if next.refused != 0 {
         say_refused(next);
-        tell(&rt, read.failed, true);
+        program_io::tell(&rt, read.is_none(), true);
         return;
     }
     let used = next.used;
-    if io::write_all(STDOUT_FILENO, &out[..used]) {
-        tell(&rt, read.failed, false);
-    }
+    program_io::finish(&rt, &out[..used], read.is_none());
 }

@@ -14,19 +14,19 @@ fn main(rt: HostRuntime) {
     let k = program_io::read_as_far(&rt, b"times.txt", &mut times);
     let mut start = [0u8; 8193];
     let begun = program_io::read_start(&rt, b"start.txt", &mut start);
-    let b = begun.size;
+    let b = begun.unwrap_or(0);
     let mut answer = [0u8; 32769];
     let mut input = rt.stdin();
     let read = program_io::read_answer(&mut input, &mut answer, b"timing: standard input");
-    let m = read.size;
+    let m = read.unwrap_or(0);
     let mut out = [0u8; LENT_BYTES];
     let used = timing_lib::timed_print(
         &sheet[..n],
-        begun.given,
+        begun.is_some(),
         &start[..b],
         &answer[..m],
         &times[..k],
         &mut out,
     );
-    program_io::finish(&rt, &out[..used], read.failed);
+    program_io::finish(&rt, &out[..used], read.is_none());
 }

@@ -21,8 +21,8 @@ fn run_started(rt: &HostRuntime, name: &[u8], sheet: &[u8], answer: &[u8], times
     let l = sitting_shown::path_of(&mut path, name, b".start");
     let mut start = [0u8; 8193];
     let begun = program_io::read_start(rt, &path[..l], &mut start);
-    let b = begun.size;
-    print_case(sheet, begun.given, &start[..b], answer, times);
+    let b = begun.unwrap_or(0);
+    print_case(sheet, begun.is_some(), &start[..b], answer, times);
 }
 
 fn run_case(rt: &HostRuntime, i: usize) {

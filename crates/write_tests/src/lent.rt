@@ -35,6 +35,5 @@ pub(crate) fn lend(all: &[u32; 6358], start: usize, count: usize, words: &mut [u
 pub(crate) fn room_of(all: &[u32; 6358]) -> usize
     ensures { result ≤ 40000 }
 {
-    let room = at_or(all, 6356, 0) as usize;
-    if room < 40000 { room } else { 40000 }
+    (at_or(all, 6356, 0) as usize).min(40000)
 }

@@ -1,5 +1,5 @@
 use Rattle.std.proofs.Common.{length, ◌-◌, ◌≤◌}
-use Rattle.program_io.proofs.read_all.Given as goal
+use Rattle.program_io.proofs.read_text.Given as goal
 
 abbrev pub invariant-loop-size : goal.invariant-loop-size
 invariant-loop-size g l = l.size ≤ length l.text
