@@ -5,7 +5,6 @@
 
 mod lent;
 
-ghost use Rattle.std.specs.Prelude.{◌≤◌};
 ghost use Rattle.io.specs.Counts.{IsPrefixLen};
 
 use lent::{lend, read_words, room_of};
