@@ -6,21 +6,21 @@ use lib.ListN.{length-replicate}
 use Rattle.model.specs.declared.Answer.{Answer}
 use Rattle.model.specs.Empty.{no_answer}
 use Rattle.read_items.specs.Reads.{past, fault, NoOther}
-use Rattle.read_items.proofs.Once.{no_other}
+use Rattle.read_items.proofs.Once.{no_other, refusal_by, refusal-back}
 use Rattle.read_spec.specs.Texts.{answer}
 use Rattle.read_chain.specs.Whole.{Whole}
 use Rattle.read_chain.proofs.Chain.{nothing-beside}
 use Rattle.words.proofs.InTexts.{no_answer_is}
 use Rattle.words.proofs.Whole.{answer-words}
-use Rattle.read_answer.specs.declared.StepLine.TheVariants as line
 use Rattle.read_answer.specs.Says.{step_says}
 use Rattle.read_answer.specs.Answer.{NoOtherAnswer, NoWordsLeft}
+use Rattle.std.specs.declared.result.Result.TheVariants.{Ok, Err}
 
 pub step-once : NoOther step_says
 step-once =
     no_other step_says
-    (elim [ past x n ↦ line.Got x.verb x.id x.number n | fault k ↦ line.Refused k ])
-    (elim [ line.Got v a b n ↦ refl | line.Refused k ↦ refl ])
+    (elim [ past x n ↦ Ok (record { verb = x.verb; id = x.id; number = x.number }, n) | fault k ↦ Err (refusal_by k) ])
+    (elim [ Ok (x, n) ↦ refl | Err r ↦ ap Err (refusal-back r) ])
 
 pub answer-once : NoOtherAnswer
 unfolding NoOtherAnswer

@@ -1,3 +1,3 @@
--- What each case of a step line's enum says (Says), and what reading an answer answers (Answer).
+-- What a step line's answer says (Says), and what reading an answer answers (Answer).
 pub mod Says
 pub mod Answer

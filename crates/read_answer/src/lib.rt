@@ -4,24 +4,24 @@
 #![tactic(auto)]
 
 ghost use Rattle.std.specs.Prelude.{◌≡◌, drop};
-ghost use Rattle.read_items.specs.Reads.{Reads, refusal};
+ghost use Rattle.read_items.specs.Reads.{Reads};
 ghost use Rattle.model.specs.Empty.{no_answer};
 ghost use Rattle.read_spec.specs.Lines.{each};
 ghost use Rattle.read_spec.specs.Kinds.{step_line};
 ghost use Rattle.read_spec.specs.Texts.{step_at};
-ghost use Rattle.read_lines.specs.Runs.{RunsTo};
-ghost use Rattle.read_chain.specs.Chain.{After};
+ghost use Rattle.read_lines.specs.Runs.{RunsTo, came};
 ghost use Rattle.read_chain.specs.Whole.{beside};
 ghost use Rattle.words.specs.Words.{answer_in};
 ghost use Rattle.read_answer.specs.Says.{step_says, step_numbers};
 ghost use Rattle.read_answer.specs.Answer.{answer_lines, answer_read};
 
-use item_spec::BAD_FORM;
-use read_chain::{LinesRead, NumberRead, Place};
-use read_items::numbers::{Limits, Numbers, refusal};
-use read_items::{Digits, Due};
-use read_lines::{Limit, Went};
+use item_spec::Refusal;
+use read_chain::Place;
+use read_items::Digits;
+use read_items::numbers::Limits;
+use read_lines::{Limit, LineFault};
 use words::AnswerWords;
+use words::answer::StepWords;
 
 // The codes of the verbs, as in model::Step.
 const NEXT: u32 = 0;
@@ -34,100 +34,94 @@ const ENTER: u32 = 3;
 
 const FINISH: u32 = 4;
 
-// Verb, id and number, 0 for those that the line has not, and the bytes that the line used; or the number of the refusal.
-#[derive(Clone, Copy)]
-pub enum StepLine {
-    Got(u32, u32, u32, usize),
-    Refused(u8),
-}
-
-// What follows the verb of a `step` line: one number or two.
-fn step_numbers(s: &[u8], at: usize, verb: u32, limits: Limits) -> StepLine
+// What follows the verb of a `step` line: one number or two. A number that the line has not is 0.
+fn step_numbers(
+    s: &[u8],
+    at: usize,
+    verb: u32,
+    limits: Limits,
+) -> Result<(StepWords, usize), Refusal>
     ensures { Reads s.now (step_says result) (step_numbers verb limits (drop at s.now)) }
 {
-    let line = read_items::numbers::numbers_within(s, at, Digits::Five, limits);
-    let Numbers::Got(n, used) = line else {
-        return StepLine::Refused(refusal(line));
+    let (n, used) = read_items::numbers::numbers_within(s, at, Digits::Five, limits)?;
+    let step = StepWords {
+        verb,
+        id: n.first,
+        number: n.second,
     };
-    StepLine::Got(verb, n.first, n.second, used)
+    Ok((step, used))
 }
 
-// `step=`
-pub fn step_line(s: &[u8]) -> StepLine
+// `step=`: the step, and the bytes that the line used.
+pub fn step_line(s: &[u8]) -> Result<(StepWords, usize), Refusal>
     ensures { Reads s.now (step_says result) (step_line s.now) }
 {
-    if let Due::Past(used) = read_items::past_key(s, 0, b"step=next\n") {
-        return StepLine::Got(NEXT, 0, 0, used);
+    if let Some(used) = read_items::past_key(s, 0, b"step=next\n") {
+        let step = StepWords {
+            verb: NEXT,
+            id: 0,
+            number: 0,
+        };
+        return Ok((step, used));
     }
-    if let Due::Past(i) = read_items::past_key(s, 0, b"step=fire,") {
+    if let Some(i) = read_items::past_key(s, 0, b"step=fire,") {
         return step_numbers(s, i, FIRE, Limits::Two(32, 16));
     }
-    if let Due::Past(i) = read_items::past_key(s, 0, b"step=end,") {
+    if let Some(i) = read_items::past_key(s, 0, b"step=end,") {
         return step_numbers(s, i, END, Limits::Two(32, 32));
     }
-    if let Due::Past(i) = read_items::past_key(s, 0, b"step=enter,") {
+    if let Some(i) = read_items::past_key(s, 0, b"step=enter,") {
         return step_numbers(s, i, ENTER, Limits::Two(32, 16));
     }
-    if let Due::Past(i) = read_items::past_key(s, 0, b"step=finish,") {
+    if let Some(i) = read_items::past_key(s, 0, b"step=finish,") {
         return step_numbers(s, i, FINISH, Limits::One(32));
     }
-    StepLine::Refused(BAD_FORM)
-}
-
-// The number of a line's refusal, 0 where the line was read.
-pub fn step_refusal(line: StepLine) -> u8
-    ensures { result ≡ refusal (step_says line) }
-{
-    match line {
-        StepLine::Got(_, _, _, _) => 0,
-        StepLine::Refused(k) => k,
-    }
+    Err(Refusal::BadForm)
 }
 
 // Step n, from the part of the text that starts with its line.
-fn read_step(text: &[u8], start: usize, n: u32, answer: &mut AnswerWords) -> LinesRead
-    ensures { RunsTo text.now result.went result.at (answer_in answer.new)
-        (step_at n (answer_in answer.old) (drop start text.now)) }
+fn read_step(
+    text: &[u8],
+    start: usize,
+    n: u32,
+    answer: &mut AnswerWords,
+) -> Result<usize, LineFault>
+    ensures { RunsTo text.now (came result (answer_in answer.new)) (step_at n (answer_in answer.old) (drop start text.now)) }
 {
     let at = read_items::place_in(text, start);
-    let line = step_line(&text[at..]);
-    let StepLine::Got(verb, id, number, used) = line else {
-        let refused = step_refusal(line);
-        let went = Went::Stop(refused);
-        return LinesRead { went, at };
-    };
-    words::answer::put_step(answer, n, verb, id, number);
-    let next = at + used;
-    let went = Went::On;
-    LinesRead { went, at: next }
+    let (step, used) = read_chain::line_at(at, step_line(&text[at..]))?;
+    words::answer::put_step(answer, n, step.verb, step.id, step.number);
+    Ok(at + used)
 }
 
 // As many steps as the last line said.
-fn then_steps(text: &[u8], count: NumberRead, answer: &mut AnswerWords) -> LinesRead
-    ensures { After text.now count.read (each step_at count.number 0 (answer_in answer.old)) result
-        (answer_in answer.new) }
+fn read_steps(
+    text: &[u8],
+    start: usize,
+    count: u32,
+    answer: &mut AnswerWords,
+) -> Result<usize, LineFault>
+    ensures { RunsTo text.now (came result (answer_in answer.new))
+        (each step_at count 0 (answer_in answer.old) (drop start text.now)) }
 {
-    let most = count.number;
-    let mut read = read_chain::then_nothing(text, count.read);
-    let mut i: u32 = 0;
-    while (i < most) & read_chain::goes_on(read) {
-        read = read_step(text, read.at, i, answer);
-        i = i + 1;
+    let mut at = read_items::place_in(text, start);
+    for i in 0..count {
+        at = read_step(text, at, i, answer)?;
     }
-    read
+    Ok(at)
 }
 
 // The lines of an answer, up to the text's end, into words that say none.
-fn read_lines(text: &[u8], answer: &mut AnswerWords) -> LinesRead
+fn read_lines(text: &[u8], answer: &mut AnswerWords) -> Result<usize, LineFault>
     requires { answer_in answer.old ≡ no_answer }
-    ensures { RunsTo text.now result.went result.at (answer_in answer.new) (answer_lines text.now) }
+    ensures { RunsTo text.now (came result (answer_in answer.new)) (answer_lines text.now) }
 {
-    let length = read_chain::length_run(text);
-    let first = read_chain::then_due(text, length, b"answer=", 1);
-    let count = read_chain::then_number(text, first, b"steps=", Limit::Steps);
-    words::answer::put_steps(answer, count.number);
-    let steps = then_steps(text, count, answer);
-    read_chain::then_end(text, steps)
+    let at = read_chain::length_run(text)?;
+    let at = read_chain::due_run(text, at, b"answer=", 1)?;
+    let (count, steps) = read_chain::count_run(text, at, b"steps=", Limit::Steps)?;
+    words::answer::put_steps(answer, count);
+    let at = read_steps(text, steps, count, answer)?;
+    read_chain::end_run(text, at)
 }
 
 // The answer of a text of any length, in the lent words, whatever these held before; beside a refusal they are all 0.
@@ -136,10 +130,8 @@ pub fn fill_answer(text: &[u8], answer: &mut AnswerWords) -> Place
 {
     words::answer::clear_answer(answer);
     let read = read_lines(text, answer);
-    let went = read.went;
-    let Went::On = went else {
+    if read.is_err() {
         words::answer::clear_answer(answer);
-        return read_chain::came_to(read);
-    };
+    }
     read_chain::came_to(read)
 }

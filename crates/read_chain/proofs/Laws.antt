@@ -13,7 +13,7 @@ use Rattle.read_lines.proofs.Runs.{line_refused, line-read, run-refused, run-see
 
 -- one line m, read at the part from `at` on, and its value put
 module _ {A B : Type 0} (m : Reader A) (put : A → B) (s : List ℕ) (start at : ℕ) (e : at ≡ min start (length s)) where
-  abbrev putting : Run B
+  abbrev pub putting : Run B
   putting = run_on (line m (drop start s)) (λ x. hand_on (put x))
 
   pub put-line : {x : A} {used : ℕ} → Reads (part s at) (past x used) (m (part s at)) → RunsTo s (onto (put x) (at + used)) putting

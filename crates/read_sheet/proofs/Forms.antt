@@ -1,5 +1,6 @@
 -- Lines that are counted, and the limits of their counts.
 -- Assumes nothing.
+use mir.Val.{bool_byte}
 use Prim.Native.Nat.{ℕ, suc, ◌+◌, ◌*◌, ◌≤◌, ◌<◌, min}
 use mathlib.Core.List.{List}
 use mathlib.Core.Bool.{Bool, true, false, not, ◌&&◌, ◌||◌, cond, true≢false}
@@ -12,7 +13,12 @@ use borrow.Author.Tests.{leb-true, le-leb}
 use Rattle.item_spec.specs.Reader.{Reply, got, refused, byte, bytes}
 use Rattle.item_spec.specs.Read.{key}
 use Rattle.item_spec.proofs.Tests.{by-test, and_right}
+use Rattle.read_items.specs.Reads.{Reads}
+use Rattle.read_items.specs.Says.{due_says}
 use Rattle.read_items.proofs.Laws.{from}
+use Rattle.std.specs.Option.{is_some}
+use Rattle.std.specs.declared.option.Option.{Option}
+use Rattle.std.specs.declared.option.Option.TheVariants.{Some, None}
 use Rattle.model.specs.declared.Tables.{Tables}
 use Rattle.model.specs.declared.Program.{Program}
 use Rattle.read_spec.specs.Limits.{depth_ok, types_ok, places_ok, transitions_ok, behaviors_ok, ports_ok, program_ok}
@@ -20,14 +26,11 @@ use Rattle.read_spec.specs.Lines.{Run, on, stop, Lines, run_on, hand_on, line, e
 use Rattle.read_spec.specs.Kinds.{edition_line, count_line, initial_line}
 use Rattle.read_spec.specs.Fill.{headed, program_of}
 use Rattle.read_spec.specs.Texts.{instruction_at}
-use Rattle.read_lines.specs.declared.Went.{Went}
-use Rattle.read_lines.specs.declared.Went.TheVariants.{On, Stop}
 use Rattle.read_lines.specs.Counts.{in_range}
-use Rattle.read_lines.specs.Runs.{RunsTo, run}
+use Rattle.read_lines.specs.Runs.{Came, onto, number_came, RunsTo}
 use Rattle.read_lines.proofs.Runs.{stopped, went_on, next-same}
 use Rattle.read_lines.proofs.Lines.{same_rest}
-use Rattle.read_chain.specs.declared.LinesRead.{LinesRead}
-use Rattle.read_chain.specs.Chain.{After, nothing, short, shortly}
+use Rattle.read_chain.specs.Chain.{Few, short, shortly}
 use Rattle.words.specs.Parts.{with_kind, type_of_words}
 use Rattle.read_sheet_lines.specs.declared.Rows.TheVariants as rows
 use Rattle.read_sheet.specs.Rows.{row}
@@ -35,11 +38,9 @@ use Rattle.read_sheet.specs.Form.{begins, lines_with, counted, known_as, type_fo
 use Rattle.read_sheet.specs.Counted.{counted_run}
 
 -- ---- a key at a line's start
-pub begun : (k s : List ℕ) {u : Unit {0}} {r : List ℕ} → got u r ≡ key k s → true ≡ begins k s
-begun k s e = ap (λ (x : Reply (Unit {0})). elim x [ got u r ↦ true | refused n ↦ false ]) e
-
-pub not-begun : (k s : List ℕ) {n : ℕ} → refused n ≡ key k s → false ≡ begins k s
-not-begun k s e = ap (λ (x : Reply (Unit {0})). elim x [ got u r ↦ true | refused n ↦ false ]) e
+pub begun-some : (k s : List ℕ) (t : List ℕ) (r : Option ℕ) → Reads t (due_says r) (key k s) → is_some r ≡ begins k s
+begun-some k s t (Some n) h = ap (λ (x : Reply (Unit {0})). elim x [ got u r ↦ true | refused n ↦ false ]) h.same
+begun-some k s t None h = ap (λ (x : Reply (Unit {0})). elim x [ got u r ↦ true | refused n ↦ false ]) h.same
 
 -- ---- the lines counted so far
 -- what one byte adds, where x is what the rest adds
@@ -54,6 +55,15 @@ turn true true all x e = omega arith
 turn true false true x e = omega arith
 turn true false false x e = absurd (true≢false e)
 turn false found all x e = omega arith
+
+-- a line that begins here and has the key counts as one
+one-is : (b : Bool) → bool_byte b ≡ cond b 1 0
+one-is true = refl
+one-is false = refl
+
+pub one-few : (b : Bool) → bool_byte b ≤ 1
+one-few true = omega arith
+one-few false = omega arith
 
 module _ (all : Bool) (k s : List ℕ) (start : ℕ) where
   pub record Counting (i count : ℕ) (fresh : Bool) : Type 0 where
@@ -74,8 +84,10 @@ module _ (all : Bool) (k s : List ℕ) (start : ℕ) where
     pub counting-halt : (fresh && not (found || all)) ≡ true → count ≡ lines_with all k true (drop start s)
     counting-halt e = let z = here ∙ halt fresh found all rest e in omega (arith, w.same)
 
-    pub counting-turn : (fresh && not (found || all)) ≡ false → (one : ℕ) → one ≡ cond (fresh && found) 1 0 → one ≤ 1 → Counting (i + 1) (count + one) (eqb (get_or s i 0) (byte "\n"))
-    counting-turn e one o small = record { few = omega (arith, w.few); same = let z = here ∙ turn fresh found all rest e in omega (arith, w.same, o) }
+    pub counting-turn : (fresh && not (found || all)) ≡ false → (one : ℕ) → one ≡ bool_byte (fresh && found) → Counting (i + 1) (count + one) (eqb (get_or s i 0) (byte "\n"))
+    counting-turn e one o =
+        let few = one-few (fresh && found) in
+        record { few = omega (arith, w.few, few, o); same = let z = here ∙ turn fresh found all rest e in omega (arith, w.same, o, one-is (fresh && found)) }
 
   pub counting-end : (i count : ℕ) (fresh : Bool) → Counting i count fresh → length s ≤ i → count ≡ lines_with all k true (drop start s)
   unfolding lines_with
@@ -83,7 +95,7 @@ module _ (all : Bool) (k s : List ℕ) (start : ℕ) where
 
 -- ---- a count and its limit
 module _ (all : Bool) (k s : List ℕ) (at start n least greatest : ℕ) (e : at ≡ min start (length s)) (is : n ≡ lines_with all k true (drop at s)) where
-  pub counted-run : RunsTo s (counted_run at n least greatest).read.went (counted_run at n least greatest).read.at (counted_run at n least greatest).number (counted all k (in_range least greatest) (drop start s))
+  pub counted-run : RunsTo s (number_came (counted_run at n least greatest)) (counted all k (in_range least greatest) (drop start s))
   unfolding counted
   counted-run =
       let q = same_rest s start at e in
@@ -92,9 +104,9 @@ module _ (all : Bool) (k s : List ℕ) (at start n least greatest : ℕ) (e : at
       (λ h. rw h (went_on (omega arith) (rw (z, h, counted) (ap₂ (λ (a : ℕ) (l : List ℕ). on a l) z (sym q)))))
       (λ h. rw h (stopped (omega arith) (rw (z, h, counted) (ap (λ (l : List ℕ). stop 3 l) (sym q)))))
 
-pub counted-few : (at n least greatest : ℕ) → (counted_run at n least greatest).number ≤ greatest
+pub counted-few : (at n least greatest : ℕ) → Few greatest (counted_run at n least greatest)
 counted-few at n least greatest =
-    by-test (in_range least greatest n) (λ h. rw h (leb-true n greatest (and_right (leb least n) (leb n greatest) h))) (λ h. rw h (omega arith))
+    by-test (in_range least greatest n) (λ h. rw h (leb-true n greatest (and_right (leb least n) (leb n greatest) h))) (λ h. rw h tt)
 
 -- a limit from 0 on asks only for the greatest
 pub from-none : (g n : ℕ) → in_range 0 g n ≡ leb n g
@@ -157,21 +169,10 @@ unfolding shortly
 form-shortly s = next-same (short s) _ _ (λ _ t. form-counted t)
 
 -- ---- the number that a form opens with
-not_on : {A : Type 0} {n : ℕ} {a : A} {s r : List ℕ} → stop n s ≡ on a r → ⊥
-not_on {n = n} {a = a} {s = s} {r = r} e = let z : ◌≡◌ {A = ℕ} 0 1 = cc in omega arith
+pub edition-said : {c : Came ℕ} (s t : List ℕ) → begins (bytes "sheet=") t ≡ true → RunsTo s c (line edition_line t) → RunsTo s c (edition_form t)
+unfolding edition_form
+edition-said s t b h = rw b h
 
-on-rest : {A : Type 0} {a b : A} {s r : List ℕ} → on a s ≡ on b r → s ≡ r
-on-rest {a = a} {b = b} {s = s} {r = r} e = cc
-
-unsaid : (w : Went) (x y : List ℕ) → run {A = Unit {0}} w tt x ≡ on tt y → run {A = ℕ} w 1 x ≡ on 1 y
-unsaid On x y e = ap (on 1) (on-rest e)
-unsaid (Stop k) x y e = absurd (not_on e)
-
-module _ {s : List ℕ} {a r : LinesRead} where
-  pub edition-said : {n : ℕ} → begins (bytes "sheet=") (drop a.at s) ≡ true → After s a (line edition_line) r n → After s a edition_form r n
-  unfolding edition_form
-  edition-said b h = record { went = λ e. rw b (h.went e); stopped = h.stopped }
-
-  pub edition-unsaid : begins (bytes "sheet=") (drop a.at s) ≡ false → After s a nothing r tt → After s a edition_form r 1
-  unfolding edition_form
-  edition-unsaid b h = record { went = λ e. rw b (record { within = (h.went e).within; same = unsaid r.went _ _ (h.went e).same }); stopped = h.stopped }
+pub edition-unsaid : (s : List ℕ) (start at : ℕ) → at ≡ min start (length s) → begins (bytes "sheet=") (drop start s) ≡ false → RunsTo s (onto 1 at) (edition_form (drop start s))
+unfolding edition_form
+edition-unsaid s start at e b = rw b (went_on (omega arith) (ap (on 1) (sym (same_rest s start at e))))

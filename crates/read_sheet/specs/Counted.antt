@@ -1,9 +1,10 @@
 -- What a count of lines comes to, at the place where they begin.
-use Rattle.std.specs.Prelude.{ℕ, Bool, true, false, cond}
-use Rattle.read_lines.specs.declared.Went.TheVariants.{On, Stop}
+use Rattle.std.specs.Prelude.{ℕ, cond}
+use Rattle.item_spec.specs.declared.Refusal.TheVariants.{BeyondLimit}
+use Rattle.read_lines.specs.declared.LineFault.{LineFault}
 use Rattle.read_lines.specs.Counts.{in_range}
-use Rattle.read_chain.specs.declared.NumberRead.{NumberRead}
+use Rattle.std.specs.declared.result.Result.{Result}
+use Rattle.std.specs.declared.result.Result.TheVariants.{Ok, Err}
 
-abbrev pub counted_run : ℕ → ℕ → ℕ → ℕ → NumberRead
-counted_run at n least greatest =
-    cond (in_range least greatest n) (record { read = record { went = On; at = at }; number = n }) (record { read = record { went = Stop 3; at = at }; number = 0 })
+abbrev pub counted_run : ℕ → ℕ → ℕ → ℕ → Result (ℕ × ℕ) LineFault
+counted_run at n least greatest = cond (in_range least greatest n) (Ok (n, at)) (Err (record { refusal = BeyondLimit; at = at }))

@@ -5,10 +5,10 @@ use Rattle.model.specs.declared.Program.{Program}
 use Rattle.model.specs.Empty.{no_tables, no_program}
 use Rattle.read_spec.specs.Lines.{Lines}
 use Rattle.read_spec.specs.Texts.{sheet}
-use Rattle.read_lines.specs.Runs.{refusal_of}
-use Rattle.read_chain.specs.declared.LinesRead.{LinesRead}
+use Rattle.read_lines.specs.declared.LineFault.{LineFault}
+use Rattle.std.specs.declared.result.Result.{Result}
 use Rattle.read_chain.specs.declared.Place.{Place}
-use Rattle.read_chain.specs.Whole.{Whole, whole, beside, kept}
+use Rattle.read_chain.specs.Whole.{Whole, whole, beside, place_of, kept}
 use Rattle.words.specs.Words.{tables_in, program_in}
 
 -- the number of the refusal, or 0, the place, the tables and the program: none beside a refusal
@@ -16,8 +16,8 @@ abbrev pub sheet_read : List ℕ → Whole (Tables × Program)
 sheet_read s = whole (no_tables, no_program) sheet s
 
 -- what a reading comes to whose words say v: none beside a refusal
-abbrev pub handed_out : LinesRead → Tables × Program → Whole (Tables × Program)
-handed_out x v = record { refused = refusal_of x.went; place = x.at; value = kept (no_tables, no_program) x.went v }
+abbrev pub handed_out : Result ℕ LineFault → Tables × Program → Whole (Tables × Program)
+handed_out x v = beside (place_of x) (kept (no_tables, no_program) x v)
 
 -- what r and the words of tables and program say together is what reading the text s by m answers
 abbrev pub ReadsBy : Lines (Tables × Program) → List ℕ → Place → List ℕ → List ℕ → Type 0

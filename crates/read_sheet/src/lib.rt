@@ -10,50 +10,56 @@ mod types;
 ghost use Rattle.std.specs.Prelude.{◌≡◌};
 ghost use Rattle.model.specs.Empty.{no_tables, no_program};
 ghost use Rattle.read_spec.specs.Texts.{sheet};
-ghost use Rattle.read_lines.specs.Runs.{RunsTo};
+ghost use Rattle.read_lines.specs.Runs.{RunsTo, came};
 ghost use Rattle.read_chain.specs.Chain.{shortly};
 ghost use Rattle.read_chain.specs.Whole.{beside};
 ghost use Rattle.words.specs.Words.{tables_in, program_in};
 ghost use Rattle.read_sheet.specs.Sheet.{sheet_read, handed_out};
 ghost use Rattle.read_sheet.specs.Form.{form_read};
 
-use filled::{read_rows, then_types};
-use programs::then_instructions;
-use read_chain::{LinesRead, Place};
-use read_lines::{Limit, Went};
+use filled::{read_rows, read_types};
+use programs::read_instructions;
+use read_chain::Place;
+use read_lines::{Limit, LineFault};
 use words::{ProgramWords, TableWords};
 
 // The lines of a sheet, up to the text's end, into words that say none.
-fn read_lines(text: &[u8], tables: &mut TableWords, program: &mut ProgramWords) -> LinesRead
+fn read_lines(
+    text: &[u8],
+    tables: &mut TableWords,
+    program: &mut ProgramWords,
+) -> Result<usize, LineFault>
     requires tables_value { tables_in tables.old ≡ no_tables }
     requires program_value { program_in program.old ≡ no_program }
-    ensures { RunsTo text.now result.went result.at (tables_in tables.new, program_in program.new)
+    ensures { RunsTo text.now (came result (tables_in tables.new, program_in program.new))
         (shortly sheet text.now) }
 {
-    let length = read_chain::length_run(text);
-    let first = read_chain::then_edition(text, length);
-    let depth = read_chain::then_number(text, first.read, b"depth=", Limit::Depth);
-    let types = read_chain::then_number(text, depth.read, b"types=", Limit::Types);
-    words::tables::put_head(tables, depth.number, types.number);
-    let filled = then_types(text, types, false, tables);
-    let count = read_chain::then_number(text, filled, b"program=", Limit::Program);
-    words::program::put_instructions(program, count.number);
-    words::program::put_edition(program, first.number);
-    let instructions = then_instructions(text, count, first.number, types.number, program);
-    read_chain::then_end(text, instructions)
+    let at = read_chain::length_run(text)?;
+    let (edition, at) = read_chain::edition_run(text, at)?;
+    let (depth, at) = read_chain::count_run(text, at, b"depth=", Limit::Depth)?;
+    let (types, at) = read_chain::count_run(text, at, b"types=", Limit::Types)?;
+    words::tables::put_head(tables, depth, types);
+    let at = read_types(text, at, types, false, tables)?;
+    let (count, at) = read_chain::count_run(text, at, b"program=", Limit::Program)?;
+    words::program::put_instructions(program, count);
+    words::program::put_edition(program, edition);
+    let at = read_instructions(text, at, count, edition, types, program)?;
+    read_chain::end_run(text, at)
 }
 
 // What a reading comes to; beside a refusal nothing of it is handed out.
-fn handed_out(read: LinesRead, tables: &mut TableWords, program: &mut ProgramWords) -> Place
+fn handed_out(
+    read: Result<usize, LineFault>,
+    tables: &mut TableWords,
+    program: &mut ProgramWords,
+) -> Place
     ensures { beside result (tables_in tables.new, program_in program.new)
         ≡ handed_out read (tables_in tables.old, program_in program.old) }
 {
-    let went = read.went;
-    let Went::On = went else {
+    if read.is_err() {
         words::tables::clear_tables(tables);
         words::program::clear_program(program);
-        return read_chain::came_to(read);
-    };
+    }
     read_chain::came_to(read)
 }
 

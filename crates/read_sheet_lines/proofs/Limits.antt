@@ -6,14 +6,14 @@ use mathlib.Core.List.{List, [], ◌∷◌}
 use mathlib.Core.Bool.{Bool, true, false, ◌&&◌, true≢false}
 use mathlib.Core.Path.{◌≡◌, refl, sym, ap, ◌∙◌}
 use lib.Dec.{eqb, leb-suc-suc, lit<}
-use borrow.Author.Tests.{eqb-true, eqb-false}
+use borrow.Author.Tests.{eq-eqb, ne_eqb}
 use lib.ListN.{drop}
 use Rattle.sets.specs.Mask.{overlaps}
 use Rattle.sets.proofs.Laws.{none-overlaps, member-past}
 use Rattle.item_spec.specs.Refusal.{bad_clause}
 use Rattle.item_spec.specs.Reader.{Reply, got, refused, Reader, read_on, byte, bytes, give, check, ◌>>=◌, ◌>>◌}
 use Rattle.item_spec.specs.Read.{given, key, upon, digit, number_from, Set, one_form, two_form, lists_form}
-use Rattle.item_spec.proofs.Tests.{by-test, and_left, and_right}
+use Rattle.item_spec.proofs.Tests.{by-test}
 use Rattle.item_spec.proofs.Laws.{number-none, number-end, number-digit, number-other}
 use Rattle.read_items.specs.Reads.{Outcome, past, fault, refusal, Reads}
 use Rattle.read_items.specs.declared.numbers.Four.{Four as Numbers}
@@ -24,7 +24,7 @@ use Rattle.read_items.proofs.Limits.{limit-kept}
 use Rattle.read_items.proofs.Within.{in-turn, one-within, two-within, three-within, four-within}
 use Rattle.model.specs.declared.Instruction.{Instruction}
 use Rattle.model.specs.Verb.{wait_verb, push_ticket_verb, wait_ticket_verb}
-use Rattle.read_spec.specs.Limits.{five_digits, list_ok, use_ok, end_ok, ends_ok, id_ok, port_ok, type_ok, behavior_ok, ticket_ok, has_tickets}
+use Rattle.read_spec.specs.Limits.{five_digits, list_ok, use_ok, end_ok, ends_ok, id_ok, port_ok, type_ok, behavior_ok, ticket_ok}
 use Rattle.read_spec.specs.Kinds.{tran_line, group, an_instruction, do_id, do_number, do_ends, do_ticketed, do_wait, do_wait_in}
 use Rattle.read_sheet_lines.specs.Says.{do_numbers}
 use Rattle.read_sheet_lines.specs.declared.Known.{Known}
@@ -105,27 +105,24 @@ wait-alone t f = go (one_form five_digits t) (λ n e. number-fault five_digits (
     go (got a r) two f = refl
     go (refused n) two f = absurd (f (ap refused (sym (two n refl))))
 
--- the number of what was read tells whether the form was not there
-pub not-formed : {A : Type 0} {s : List ℕ} (o : Outcome A) {m : Reply A} → Reads s o m → eqb (refusal o) 2 ≡ true → m ≡ refused 2
-not-formed (past a n) h e = absurd (let z : ◌≡◌ {A = ℕ} 0 2 = eqb-true 0 2 e in omega arith)
-not-formed (fault k) h e = sym h.same ∙ ap refused (eqb-true k 2 e)
+-- what was read tells whether the form was not there
+formed : {A : Type 0} {s : List ℕ} (o : Outcome A) {m : Reply A} → Reads s o m → (refusal o ≡ 2 → ⊥) → m ≡ refused 2 → ⊥
+formed (past a n) h f q = got-refused (h.same ∙ q)
+formed (fault k) h f q = f (refused-value (h.same ∙ q))
 
-pub formed : {A : Type 0} {s : List ℕ} (o : Outcome A) {m : Reply A} → Reads s o m → eqb (refusal o) 2 ≡ false → m ≡ refused 2 → ⊥
-formed (past a n) h e q = got-refused (h.same ∙ q)
-formed (fault k) h e q = eqb-false k 2 e (refused-value (h.same ∙ q))
-
-module _ (e : ℕ) (t : List ℕ) {s : List ℕ} (o : Outcome Instruction) (h : Reads s o (do_id wait_verb t)) where
+-- what was read of an id alone, in a sheet that opens with e
+module _ (e : ℕ) (t : List ℕ) {s : List ℕ} where
   -- with a ticket
-  pub wait-read : (has_tickets e && eqb (refusal o) 2) ≡ true → {p : Outcome Instruction} → Reads s p (do_number wait_ticket_verb ticket_ok t) → Reads s p (do_wait_in e t)
-  wait-read q l =
-      rw (and_left (has_tickets e) _ q, do_wait_in) (rw (← wait-other t (not-formed o h (and_right (has_tickets e) _ q))) at l)
+  pub wait-read : e ≡ 2 → Reads s (fault 2) (do_id wait_verb t) → {p : Outcome Instruction} → Reads s p (do_number wait_ticket_verb ticket_ok t)
+      → Reads s p (do_wait_in e t)
+  wait-read q h l = rw (eq-eqb e 2 q, do_wait_in) (rw (← wait-other t (sym h.same)) at l)
 
-  -- without one
-  pub wait-kept : (has_tickets e && eqb (refusal o) 2) ≡ false → Reads s o (do_wait_in e t)
-  wait-kept q =
-      by-test (has_tickets e)
-      (λ k. rw (k, do_wait_in) (rw (← wait-alone t (formed o h (rw k at q))) at h))
-      (λ k. rw (k, do_wait_in) h)
+  -- without one, where none may stand or where the form is an id's
+  pub wait-plain : (e ≡ 2 → ⊥) → {o : Outcome Instruction} → Reads s o (do_id wait_verb t) → Reads s o (do_wait_in e t)
+  wait-plain q h = rw (ne_eqb e 2 q, do_wait_in) h
+
+  pub wait-kept : e ≡ 2 → (o : Outcome Instruction) → Reads s o (do_id wait_verb t) → (refusal o ≡ 2 → ⊥) → Reads s o (do_wait_in e t)
+  wait-kept q o h f = rw (eq-eqb e 2 q, do_wait_in) (rw (← wait-alone t (formed o h f)) at h)
 
 -- a transition's row
 abbrev pub transition_of : Numbers → Reader Row

@@ -1,17 +1,22 @@
 -- That no other answer fits a line's promise.
 -- Assumes nothing.
-use mathlib.Core.Path.{refl}
+use mathlib.Core.Path.{refl, ap}
 use Rattle.read_items.specs.Reads.{past, fault, NoOther}
-use Rattle.read_items.proofs.Once.{no_other}
+use Rattle.read_items.proofs.Once.{no_other, refusal_by, refusal-back}
 use Rattle.read_sheet_lines.specs.Says.{row_says, instruction_says}
-use Rattle.read_sheet_lines.specs.declared.RowLine.TheVariants as row
-use Rattle.read_sheet_lines.specs.declared.Do.TheVariants as instruction
+use Rattle.std.specs.declared.result.Result.TheVariants.{Ok, Err}
 
 pub row-once : NoOther row_says
-row-once = no_other row_says (elim [ past x n ↦ row.Got x n | fault k ↦ row.Refused k ]) (elim [ row.Got x n ↦ refl | row.Refused k ↦ refl ])
+row-once =
+    no_other row_says
+    (elim [ past x n ↦ Ok (x, n) | fault k ↦ Err (refusal_by k) ])
+    (elim [ Ok (x, n) ↦ refl | Err r ↦ ap Err (refusal-back r) ])
 
 pub instruction-once : NoOther instruction_says
 instruction-once =
     no_other instruction_says
-    (elim [ past x n ↦ instruction.Got x.verb x.id x.number x.provider x.provideport n | fault k ↦ instruction.Refused k ])
-    (elim [ instruction.Got v a b c d n ↦ refl | instruction.Refused k ↦ refl ])
+    (elim [
+      | past x n ↦ Ok (record { verb = x.verb; id = x.id; number = x.number; provider = x.provider; provideport = x.provideport }, n)
+      | fault k ↦ Err (refusal_by k)
+    ])
+    (elim [ Ok (x, n) ↦ refl | Err r ↦ ap Err (refusal-back r) ])

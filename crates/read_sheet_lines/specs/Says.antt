@@ -1,4 +1,4 @@
--- What each case of each enum says: the values of the line and the bytes used, or 01's number.
+-- What each case of an answer says: the values of the line and the bytes used, or 01's number.
 use Rattle.std.specs.Prelude.{ℕ}
 use Rattle.item_spec.specs.Reader.{Reader, ◌>>=◌, give}
 use Rattle.model.specs.declared.Instruction.{Instruction}
@@ -8,18 +8,23 @@ use Rattle.read_items.specs.Reads.{Outcome, past, fault}
 use Rattle.read_items.specs.declared.numbers.Limits.{Limits}
 use Rattle.read_items.specs.Within.{numbers_within}
 use Rattle.read_sheet_lines.specs.declared.Row.{Row}
-use Rattle.read_sheet_lines.specs.declared.RowLine.{RowLine}
-use Rattle.read_sheet_lines.specs.declared.RowLine.TheVariants as row
 use Rattle.read_sheet_lines.specs.declared.Do.{Do}
-use Rattle.read_sheet_lines.specs.declared.Do.TheVariants as instruction
+use Rattle.item_spec.specs.Refusal.{number_of}
+use Rattle.item_spec.specs.declared.Refusal.{Refusal}
+use Rattle.std.specs.declared.result.Result.{Result}
+use Rattle.std.specs.declared.result.Result.TheVariants.{Ok, Err}
 
-abbrev pub row_says : RowLine → Outcome Row
-row_says (row.Got x n) = past x n
-row_says (row.Refused k) = fault k
+abbrev pub row_says : Result (Row × ℕ) Refusal → Outcome Row
+row_says (Ok (x, n)) = past x n
+row_says (Err r) = fault (number_of r)
 
-abbrev pub instruction_says : Do → Outcome Instruction
-instruction_says (instruction.Got v a b c d n) = past (record { verb = v; id = a; number = b; provider = c; provideport = d }) n
-instruction_says (instruction.Refused k) = fault k
+-- a `do` line as an instruction
+abbrev pub instruction_in : Do → Instruction
+instruction_in x = record { verb = x.verb; id = x.id; number = x.number; provider = x.provider; provideport = x.provideport }
+
+abbrev pub instruction_says : Result (Do × ℕ) Refusal → Outcome Instruction
+instruction_says (Ok (x, n)) = past (instruction_in x) n
+instruction_says (Err r) = fault (number_of r)
 
 -- what follows the verb of a `do` line: so many numbers
 unfoldable pub do_numbers : ℕ → Limits → Reader Instruction

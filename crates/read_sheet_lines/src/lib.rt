@@ -3,17 +3,16 @@
 #![tactic(auto)]
 
 ghost use Rattle.std.specs.Prelude.{◌≡◌, drop};
-ghost use Rattle.read_items.specs.Reads.{Reads, refusal};
+ghost use Rattle.read_items.specs.Reads.{Reads};
 ghost use Rattle.read_lines.specs.Counts.{line_says};
 ghost use Rattle.read_spec.specs.Kinds.{initial_line, do_push_in, do_wait_in, do_line};
 ghost use Rattle.read_sheet_lines.specs.declared.Rows.TheVariants.{Transitions, Behaviors, Ports};
 ghost use Rattle.read_sheet_lines.specs.Says.{row_says, instruction_says, do_numbers};
 ghost use Rattle.read_sheet_lines.specs.Rows.{port_after, row_line};
 
-use item_spec::{BAD_CLAUSE, BAD_FORM, BEYOND_LIMIT};
-use read_items::numbers::{Limits, Numbers, refusal};
-use read_items::{Digits, Due, OneList, TwoLists};
-use read_lines::Line;
+use item_spec::Refusal;
+use read_items::Digits;
+use read_items::numbers::Limits;
 
 // The rows that a type has.
 #[derive(Clone, Copy)]
@@ -42,51 +41,45 @@ pub struct Known {
     pub transitions: u32,
 }
 
+// The numbers that a `do` line has, and 0 for those that it has not.
 #[derive(Clone, Copy)]
-pub enum RowLine {
-    Got(Row, usize),
-    Refused(u8),
-}
-
-// Verb, id, number, provider and provideport, 0 for those that the line has not.
-#[derive(Clone, Copy)]
-pub enum Do {
-    Got(u32, u32, u32, u32, u32, usize),
-    Refused(u8),
+pub struct Do {
+    pub verb: u32,
+    pub id: u32,
+    pub number: u32,
+    pub provider: u32,
+    pub provideport: u32,
 }
 
 // `initial=` list, in a type of so many places.
-pub fn initial_line(s: &[u8], places: u32) -> Line
+pub fn initial_line(s: &[u8], places: u32) -> Result<(u32, usize), Refusal>
     ensures { Reads s.now (line_says result) (initial_line places s.now) }
 {
-    let OneList::Got(mask, top, used) = read_items::list_line(s, b"initial=", Digits::Five) else {
-        return Line::Refused(BAD_FORM);
+    let Some((list, used)) = read_items::list_line(s, b"initial=", Digits::Five) else {
+        return Err(Refusal::BadForm);
     };
-    let beyond = places < top;
+    let beyond = places < list.top;
     if beyond {
-        return Line::Refused(BEYOND_LIMIT);
+        return Err(Refusal::BeyondLimit);
     }
-    let empty = top == 0;
+    let empty = list.top == 0;
     if empty {
-        return Line::Refused(BAD_CLAUSE);
+        return Err(Refusal::BadClause);
     }
-    Line::Got(mask, used)
+    Ok((list.mask, used))
 }
 
 // `tran=source,destination`, in a type of which so much is known.
-fn tran_line(s: &[u8], known: Known) -> RowLine
+fn tran_line(s: &[u8], known: Known) -> Result<(Row, usize), Refusal>
     ensures { Reads s.now (row_says result) (row_line Transitions known s.now) }
 {
-    let Due::Past(i) = read_items::past_key(s, 0, b"tran=") else {
-        return RowLine::Refused(BAD_FORM);
+    let Some(i) = read_items::past_key(s, 0, b"tran=") else {
+        return Err(Refusal::BadForm);
     };
     let limits = Limits::Two(known.places, known.places);
-    let line = read_items::numbers::numbers_within(s, i, Digits::Five, limits);
-    let Numbers::Got(n, used) = line else {
-        return RowLine::Refused(refusal(line));
-    };
+    let (n, used) = read_items::numbers::numbers_within(s, i, Digits::Five, limits)?;
     if n.first == n.second {
-        return RowLine::Refused(BAD_CLAUSE);
+        return Err(Refusal::BadClause);
     }
     let row = Row {
         source: n.first,
@@ -95,68 +88,73 @@ fn tran_line(s: &[u8], known: Known) -> RowLine
         places: 0,
         transitions: 0,
     };
-    RowLine::Got(row, used)
+    Ok((row, used))
 }
 
 // `behavior=` list of transitions.
-fn behavior_line(s: &[u8], known: Known) -> RowLine
+fn behavior_line(s: &[u8], known: Known) -> Result<(Row, usize), Refusal>
     ensures { Reads s.now (row_says result) (row_line Behaviors known s.now) }
 {
-    let OneList::Got(mask, top, used) = read_items::list_line(s, b"behavior=", Digits::Five) else {
-        return RowLine::Refused(BAD_FORM);
+    let Some((list, used)) = read_items::list_line(s, b"behavior=", Digits::Five) else {
+        return Err(Refusal::BadForm);
     };
-    if known.transitions < top {
-        return RowLine::Refused(BEYOND_LIMIT);
+    if known.transitions < list.top {
+        return Err(Refusal::BeyondLimit);
     }
     let row = Row {
         source: 0,
         destination: 0,
         uses: 0,
         places: 0,
-        transitions: mask,
+        transitions: list.mask,
     };
-    RowLine::Got(row, used)
+    Ok((row, used))
 }
 
 // What follows `port=use,` or `port=provide,`. A provide port may have initial places: it is held to none of them.
-fn port_after(s: &[u8], at: usize, uses: u32, known: Known, initial: u32) -> RowLine
+fn port_after(
+    s: &[u8],
+    at: usize,
+    uses: u32,
+    known: Known,
+    initial: u32,
+) -> Result<(Row, usize), Refusal>
     ensures { Reads s.now (row_says result) (port_after uses known.places known.transitions initial (drop at s.now)) }
 {
-    let TwoLists::Got(places, m, transitions, n, used) = read_items::two_lists(s, at, Digits::Five)
-    else {
-        return RowLine::Refused(BAD_FORM);
+    let Some((places, transitions, used)) = read_items::two_lists(s, at, Digits::Five) else {
+        return Err(Refusal::BadForm);
     };
-    if (m <= known.places) & (n <= known.transitions) {
-        if sets::overlaps(initial, places) {
-            return RowLine::Refused(BAD_CLAUSE);
+    if (places.top <= known.places) & (transitions.top <= known.transitions) {
+        if sets::overlaps(initial, places.mask) {
+            return Err(Refusal::BadClause);
         }
         let row = Row {
             source: 0,
             destination: 0,
             uses,
-            places,
-            transitions,
+            places: places.mask,
+            transitions: transitions.mask,
         };
-        return RowLine::Got(row, used);
+        return Ok((row, used));
     }
-    RowLine::Refused(BEYOND_LIMIT)
+    Err(Refusal::BeyondLimit)
 }
 
 // `port=`
-fn port_line(s: &[u8], known: Known) -> RowLine
+fn port_line(s: &[u8], known: Known) -> Result<(Row, usize), Refusal>
     ensures { Reads s.now (row_says result) (row_line Ports known s.now) }
 {
-    if let Due::Past(i) = read_items::past_key(s, 0, b"port=use,") {
+    if let Some(i) = read_items::past_key(s, 0, b"port=use,") {
         return port_after(s, i, 1, known, known.initial);
     }
-    if let Due::Past(i) = read_items::past_key(s, 0, b"port=provide,") {
+    if let Some(i) = read_items::past_key(s, 0, b"port=provide,") {
         return port_after(s, i, 0, known, 0);
     }
-    RowLine::Refused(BAD_FORM)
+    Err(Refusal::BadForm)
 }
 
 // The line of a row, in a type of which so much is known.
-pub fn row_line(s: &[u8], rows: Rows, known: Known) -> RowLine
+pub fn row_line(s: &[u8], rows: Rows, known: Known) -> Result<(Row, usize), Refusal>
     ensures { Reads s.now (row_says result) (row_line rows known s.now) }
 {
     match rows {
@@ -167,18 +165,22 @@ pub fn row_line(s: &[u8], rows: Rows, known: Known) -> RowLine
 }
 
 // What follows the verb of a `do` line.
-fn do_numbers(s: &[u8], at: usize, verb: u32, limits: Limits) -> Do
+fn do_numbers(s: &[u8], at: usize, verb: u32, limits: Limits) -> Result<(Do, usize), Refusal>
     ensures { Reads s.now (instruction_says result) (do_numbers verb limits (drop at s.now)) }
 {
-    let line = read_items::numbers::numbers_within(s, at, Digits::Five, limits);
-    let Numbers::Got(n, used) = line else {
-        return Do::Refused(refusal(line));
+    let (n, used) = read_items::numbers::numbers_within(s, at, Digits::Five, limits)?;
+    let line = Do {
+        verb,
+        id: n.first,
+        number: n.second,
+        provider: n.third,
+        provideport: n.fourth,
     };
-    Do::Got(verb, n.first, n.second, n.third, n.fourth, used)
+    Ok((line, used))
 }
 
 // What follows `pushb,` in a sheet that opens with this number: in one with tickets each push has one.
-fn push_after(s: &[u8], at: usize, edition: u32) -> Do
+fn push_after(s: &[u8], at: usize, edition: u32) -> Result<(Do, usize), Refusal>
     ensures { Reads s.now (instruction_says result) (do_push_in edition (drop at s.now)) }
 {
     if edition == 2 {
@@ -188,56 +190,40 @@ fn push_after(s: &[u8], at: usize, edition: u32) -> Do
 }
 
 // What follows `wait,`: where a ticket may stand, an id alone, or an id and a ticket.
-fn wait_after(s: &[u8], at: usize, edition: u32) -> Do
+fn wait_after(s: &[u8], at: usize, edition: u32) -> Result<(Do, usize), Refusal>
     ensures { Reads s.now (instruction_says result) (do_wait_in edition (drop at s.now)) }
 {
     let alone = do_numbers(s, at, 5, Limits::One(32));
-    if (edition == 2) & (do_refusal(alone) == BAD_FORM) {
-        return do_numbers(s, at, 7, Limits::Two(32, 256));
+    if edition != 2 {
+        return alone;
     }
-    alone
+    let Err(Refusal::BadForm) = alone else {
+        return alone;
+    };
+    do_numbers(s, at, 7, Limits::Two(32, 256))
 }
 
 // `do=`, in a sheet of so many types that opens with this number.
-pub fn do_line(s: &[u8], edition: u32, types: u32) -> Do
+pub fn do_line(s: &[u8], edition: u32, types: u32) -> Result<(Do, usize), Refusal>
     ensures { Reads s.now (instruction_says result) (do_line edition types s.now) }
 {
-    if let Due::Past(i) = read_items::past_key(s, 0, b"do=add,") {
+    if let Some(i) = read_items::past_key(s, 0, b"do=add,") {
         return do_numbers(s, i, 0, Limits::Two(32, types));
     }
-    if let Due::Past(i) = read_items::past_key(s, 0, b"do=del,") {
+    if let Some(i) = read_items::past_key(s, 0, b"do=del,") {
         return do_numbers(s, i, 1, Limits::One(32));
     }
-    if let Due::Past(i) = read_items::past_key(s, 0, b"do=pushb,") {
+    if let Some(i) = read_items::past_key(s, 0, b"do=pushb,") {
         return push_after(s, i, edition);
     }
-    if let Due::Past(i) = read_items::past_key(s, 0, b"do=con,") {
+    if let Some(i) = read_items::past_key(s, 0, b"do=con,") {
         return do_numbers(s, i, 3, Limits::Four(32, 16, 32, 16));
     }
-    if let Due::Past(i) = read_items::past_key(s, 0, b"do=dcon,") {
+    if let Some(i) = read_items::past_key(s, 0, b"do=dcon,") {
         return do_numbers(s, i, 4, Limits::Four(32, 16, 32, 16));
     }
-    if let Due::Past(i) = read_items::past_key(s, 0, b"do=wait,") {
+    if let Some(i) = read_items::past_key(s, 0, b"do=wait,") {
         return wait_after(s, i, edition);
     }
-    Do::Refused(BAD_FORM)
-}
-
-// The number of a line's refusal, 0 where the line was read.
-pub fn row_refusal(line: RowLine) -> u8
-    ensures { result ≡ refusal (row_says line) }
-{
-    match line {
-        RowLine::Got(_, _) => 0,
-        RowLine::Refused(k) => k,
-    }
-}
-
-pub fn do_refusal(line: Do) -> u8
-    ensures { result ≡ refusal (instruction_says line) }
-{
-    match line {
-        Do::Got(_, _, _, _, _, _) => 0,
-        Do::Refused(k) => k,
-    }
+    Err(Refusal::BadForm)
 }

@@ -1,5 +1,5 @@
 -- The line of a verb: its key, how many of four numbers follow, and the limits that they lie below.
-use Rattle.std.specs.Prelude.{ℕ, ◌≤◌, List, ◌++◌, Bool, true, not, ◌&&◌, ◌||◌, cond, ◌≡◌, eqb, ltb, length, take, get_or}
+use Rattle.std.specs.Prelude.{ℕ, List, ◌++◌, Bool, true, not, ◌&&◌, ◌||◌, cond, ◌≡◌, eqb, ltb, get_or}
 use Rattle.rules_spec.specs.Refusal.{◌⇒◌∣◌}
 use Rattle.model.specs.Verb.{pushb_verb, push_ticket_verb, wait_ticket_verb}
 use Rattle.read_spec.specs.Limits.{has_tickets}
@@ -25,9 +25,8 @@ numbers_ok n l a b c d =
 
 -- what a verb's row of the table stands for: the text and the number of the line, for all numbers
 pub record Says (v : Verb) (text : ℕ → ℕ → ℕ → ℕ → List ℕ) (fault : ℕ → ℕ → ℕ → ℕ → ℕ) : Type 0 where
-  pub short : v.1 ≤ length v.0
-  pub text-is : (a b c d : ℕ) → take v.1 v.0 ++ numbers_text v.2 a b c d ≡ text a b c d
-  pub fault-is : (a b c d : ℕ) → (not (numbers_ok v.2 v.3 a b c d) ⇒ 3 ∣ v.4) ≡ fault a b c d
+  pub text-is : (a b c d : ℕ) → v.0.now ++ numbers_text v.1 a b c d ≡ text a b c d
+  pub fault-is : (a b c d : ℕ) → (not (numbers_ok v.1 v.2 a b c d) ⇒ 3 ∣ v.3) ≡ fault a b c d
 
 -- the number that a sheet opens with in which the verb is said
 abbrev pub edition_of : ℕ → ℕ

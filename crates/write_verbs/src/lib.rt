@@ -18,24 +18,24 @@ use write_lines::write_line;
 #[derive(Clone, Copy)]
 pub struct Said(pub u32, pub u32, pub u32, pub u32, pub u32);
 
-// The key, how many bytes of it count, how many numbers follow, what each lies below, and the number of a line where they do.
+// The key, how many numbers follow, what each lies below, and the number of a line where they do.
 #[derive(Drop)]
-struct Verb([u8; 12], usize, u32, [u32; 4], u8);
+struct Verb(&'static [u8], u32, [u32; 4], u8);
 
 // In a sheet of so many types, one with tickets for the verbs that have one. A code that no line says has no word.
 fn do_verb(types: u32, verb: u32) -> Verb
     ensures { Says result (λ a b c d. do_text (an_instruction verb a b c d)) (λ a b c d. do_fault (edition_of verb) types (an_instruction verb a b c d)) }
 {
     match verb {
-        0 => Verb(*b"do=add,     ", 7, 2, [32, types, 0, 0], 0),
-        1 => Verb(*b"do=del,     ", 7, 1, [32, 0, 0, 0], 0),
-        2 => Verb(*b"do=pushb,   ", 9, 2, [32, 8, 0, 0], 0),
-        3 => Verb(*b"do=con,     ", 7, 4, [32, 16, 32, 16], 0),
-        4 => Verb(*b"do=dcon,    ", 8, 4, [32, 16, 32, 16], 0),
-        5 => Verb(*b"do=wait,    ", 8, 1, [32, 0, 0, 0], 0),
-        6 => Verb(*b"do=pushb,   ", 9, 3, [32, 8, 256, 0], 0),
-        7 => Verb(*b"do=wait,    ", 8, 2, [32, 256, 0, 0], 0),
-        _ => Verb(*b"do=\n        ", 4, 0, [0; 4], BAD_FORM),
+        0 => Verb(b"do=add,", 2, [32, types, 0, 0], 0),
+        1 => Verb(b"do=del,", 1, [32, 0, 0, 0], 0),
+        2 => Verb(b"do=pushb,", 2, [32, 8, 0, 0], 0),
+        3 => Verb(b"do=con,", 4, [32, 16, 32, 16], 0),
+        4 => Verb(b"do=dcon,", 4, [32, 16, 32, 16], 0),
+        5 => Verb(b"do=wait,", 1, [32, 0, 0, 0], 0),
+        6 => Verb(b"do=pushb,", 3, [32, 8, 256, 0], 0),
+        7 => Verb(b"do=wait,", 2, [32, 256, 0, 0], 0),
+        _ => Verb(b"do=\n", 0, [0; 4], BAD_FORM),
     }
 }
 
@@ -43,23 +43,20 @@ fn step_verb(verb: u32) -> Verb
     ensures { Says result (λ a b c d. step_text (a_step verb a b)) (λ a b c d. step_fault (a_step verb a b)) }
 {
     match verb {
-        0 => Verb(*b"step=next\n  ", 10, 0, [0; 4], 0),
-        1 => Verb(*b"step=fire,  ", 10, 2, [32, 16, 0, 0], 0),
-        2 => Verb(*b"step=end,   ", 9, 2, [32, 32, 0, 0], 0),
-        3 => Verb(*b"step=enter, ", 11, 2, [32, 16, 0, 0], 0),
-        4 => Verb(*b"step=finish,", 12, 1, [32, 0, 0, 0], 0),
-        _ => Verb(*b"step=\n      ", 6, 0, [0; 4], BAD_FORM),
+        0 => Verb(b"step=next\n", 0, [0; 4], 0),
+        1 => Verb(b"step=fire,", 2, [32, 16, 0, 0], 0),
+        2 => Verb(b"step=end,", 2, [32, 32, 0, 0], 0),
+        3 => Verb(b"step=enter,", 2, [32, 16, 0, 0], 0),
+        4 => Verb(b"step=finish,", 1, [32, 0, 0, 0], 0),
+        _ => Verb(b"step=\n", 0, [0; 4], BAD_FORM),
     }
 }
 
 fn write_verb(t: &mut [u8], verb: Verb, x: Said) -> usize
-    requires { verb.1 ≤ length verb.0 }
-    ensures { Written t.old (take verb.1 verb.0 ++ numbers_text verb.2 x.1 x.2 x.3 x.4)
+    ensures { Written t.old (verb.0.now ++ numbers_text verb.1 x.1 x.2 x.3 x.4)
         t.new 0 result }
 {
-    let key = verb.0;
-    let n = verb.1;
-    write_line(t, &key[..n], verb.2, x.1, x.2, x.3, x.4)
+    write_line(t, verb.0, verb.1, x.1, x.2, x.3, x.4)
 }
 
 fn within(count: u32, below: [u32; 4], x: Said) -> bool
@@ -79,11 +76,11 @@ fn within(count: u32, below: [u32; 4], x: Said) -> bool
 }
 
 fn verb_fault(verb: Verb, x: Said) -> u8
-    ensures { result ≡ (not (numbers_ok verb.2 verb.3 x.1 x.2 x.3 x.4) ⇒ 3 ∣ verb.4) }
+    ensures { result ≡ (not (numbers_ok verb.1 verb.2 x.1 x.2 x.3 x.4) ⇒ 3 ∣ verb.3) }
 {
-    let below = verb.3;
-    let ok = within(verb.2, below, x);
-    refuse_if(!ok, BEYOND_LIMIT, verb.4)
+    let below = verb.2;
+    let ok = within(verb.1, below, x);
+    refuse_if(!ok, BEYOND_LIMIT, verb.3)
 }
 
 // do=

@@ -1,5 +1,4 @@
 use mathlib.Core.Path.{refl}
-use native.Mathlib.Omega.{arith}
 use borrow.Author.Tests.{ne_eqb}
 use Rattle.write_spec.specs.Kinds.{do_text, do_fault}
 use Rattle.write_lines.specs.Numbers.{numbers_text}
@@ -13,14 +12,14 @@ unfolding do_text do_fault numbers_text numbers_ok
 do_verb_spec =
     tie.close
     (tie.spec
-    (λ c. rw c.in-0.is (record { short = omega arith; text-is = λ a b c d. refl; fault-is = λ a b c d. rw (below a 31) }))
-    (λ c. rw c.in-1.is (record { short = omega arith; text-is = λ a b c d. refl; fault-is = λ a b c d. rw (below a 31) }))
-    (λ c. rw c.in-2.is (record { short = omega arith; text-is = λ a b c d. refl; fault-is = λ a b c d. rw (below a 31, below b 7) }))
-    (λ c. rw c.in-3.is (record { short = omega arith; text-is = λ a b c d. refl; fault-is = λ a b c d. rw (below a 31, below b 15, below c 31, below d 15) }))
-    (λ c. rw c.in-4.is (record { short = omega arith; text-is = λ a b c d. refl; fault-is = λ a b c d. rw (below a 31, below b 15, below c 31, below d 15) }))
-    (λ c. rw c.in-5.is (record { short = omega arith; text-is = λ a b c d. refl; fault-is = λ a b c d. rw (below a 31) }))
-    (λ c. rw c.in-6.is (record { short = omega arith; text-is = λ a b c d. refl; fault-is = λ a b c d. rw (below a 31, below b 7, below c 255) }))
-    (λ c. rw c.in-7.is (record { short = omega arith; text-is = λ a b c d. refl; fault-is = λ a b c d. rw (below a 31, below b 255) }))
+    (λ c. rw c.in-0.is (record { text-is = λ a b c d. refl; fault-is = λ a b c d. rw (below a 31) }))
+    (λ c. rw c.in-1.is (record { text-is = λ a b c d. refl; fault-is = λ a b c d. rw (below a 31) }))
+    (λ c. rw c.in-2.is (record { text-is = λ a b c d. refl; fault-is = λ a b c d. rw (below a 31, below b 7) }))
+    (λ c. rw c.in-3.is (record { text-is = λ a b c d. refl; fault-is = λ a b c d. rw (below a 31, below b 15, below c 31, below d 15) }))
+    (λ c. rw c.in-4.is (record { text-is = λ a b c d. refl; fault-is = λ a b c d. rw (below a 31, below b 15, below c 31, below d 15) }))
+    (λ c. rw c.in-5.is (record { text-is = λ a b c d. refl; fault-is = λ a b c d. rw (below a 31) }))
+    (λ c. rw c.in-6.is (record { text-is = λ a b c d. refl; fault-is = λ a b c d. rw (below a 31, below b 7, below c 255) }))
+    (λ c. rw c.in-7.is (record { text-is = λ a b c d. refl; fault-is = λ a b c d. rw (below a 31, below b 255) }))
     (λ c.
     let r = c.in_default.in_default-own.rest in
-    rw (ne_eqb _ _ r.0.0.0.0.0.0.0.1, ne_eqb _ _ r.0.0.0.0.0.0.1, ne_eqb _ _ r.0.0.0.0.0.1, ne_eqb _ _ r.0.0.0.0.1, ne_eqb _ _ r.0.0.0.1, ne_eqb _ _ r.0.0.1, ne_eqb _ _ r.0.1, ne_eqb _ _ r.1) (record { short = omega arith; text-is = λ a b c d. refl; fault-is = λ a b c d. refl })))
+    rw (ne_eqb _ _ r.0.0.0.0.0.0.0.1, ne_eqb _ _ r.0.0.0.0.0.0.1, ne_eqb _ _ r.0.0.0.0.0.1, ne_eqb _ _ r.0.0.0.0.1, ne_eqb _ _ r.0.0.0.1, ne_eqb _ _ r.0.0.1, ne_eqb _ _ r.0.1, ne_eqb _ _ r.1) (record { text-is = λ a b c d. refl; fault-is = λ a b c d. refl })))
