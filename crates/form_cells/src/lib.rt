@@ -10,7 +10,6 @@ ghost use Rattle.write_items.specs.Written.{Written};
 ghost use Rattle.form_cells.specs.Cells.{gap, stands, first_after, commas_after, unmarked, letter, separator_of, note_after, comma_for};
 ghost use Rattle.form_cells.specs.Cells.{lines_of, looked_at, cell_byte, cells_of};
 
-use read_items::Due;
 use write_items::write_byte;
 
 // How far a row is: whether no comma was written in it yet, how many are not written yet, and where the next byte goes.
@@ -97,10 +96,7 @@ fn past_mark(rows: &[u8]) -> usize
     ensures within { result ≤ length rows.now }
     ensures rest { drop result rows.now ≡ unmarked rows.now }
 {
-    let Due::Past(start) = read_items::past_key(rows, 0, b"\xef\xbb\xbf") else {
-        return 0;
-    };
-    start
+    read_items::past_key(rows, 0, b"\xef\xbb\xbf").unwrap_or(0)
 }
 
 #[tactic(auto, unfolding(crate::specs::Cells::letter))]
