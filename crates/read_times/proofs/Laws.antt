@@ -1,17 +1,20 @@
 -- A row by its tests, and what the lines of a text of times come to.
 -- Assumes nothing.
-use Prim.Native.Nat.{ℕ, ◌+◌, zero-le, ◌<◌, ◌≤◌}
+use Prim.Native.Nat.{ℕ, ◌+◌, ◌-◌, ◌<◌, ◌≤◌}
 use mathlib.Core.List.{List}
 use mathlib.Core.Bool.{true, false, not}
-use mathlib.Core.Path.{◌≡◌, refl, sym, ap, ◌∙◌}
-use lib.ListN.{replicate, length, drop}
-use native.Mathlib.Nat.{add-zero}
-use borrow.Author.Tests.{lt-leb, le-leb, ltb-true}
+use mathlib.Core.Path.{◌≡◌, sym, ap, ◌∙◌}
+use lib.ListN.{length, drop, length-drop}
+use lib.Seq.{drop-drop}
+use native.Mathlib.Nat.{zero-min}
+use native.Mathlib.Omega.{arith}
+use borrow.Author.Tests.{ltb-true}
 use lib.Dec.{ltb, leb-suc-suc}
-use Rattle.item_spec.specs.Refusal.{bad_clause}
-use Rattle.item_spec.specs.Reader.{Reader, bytes, read_on, ◌>>=◌, ◌>>◌, give, check}
+use Rattle.item_spec.specs.Refusal.{bad_clause, number_of}
+use Rattle.item_spec.specs.declared.Refusal.{Refusal}
+use Rattle.item_spec.specs.Reader.{Reply, Reader, bytes, read_on, ◌>>◌, give, check}
 use Rattle.item_spec.specs.Read.{key}
-use Rattle.item_spec.proofs.Tests.{and_left, and_right}
+use Rattle.item_spec.proofs.Tests.{by-test, and_left, and_right}
 use Rattle.read_items.specs.Reads.{past, fault, Reads}
 use Rattle.read_items.specs.declared.numbers.Four.{Four}
 use Rattle.read_items.specs.declared.numbers.Limits.{Limits}
@@ -20,27 +23,25 @@ use Rattle.read_items.specs.Within.{numbers_within}
 use Rattle.read_items.proofs.Shapes.{bind-same}
 use Rattle.read_items.proofs.Limits.{form-fault, form-then, limit-fault, limit-kept}
 use Rattle.read_items.proofs.Within.{three-within, got-within}
-use Rattle.read_spec.specs.Limits.{id_ok, transition_ok}
-use Rattle.read_spec.specs.Lines.{Run, at_end, each}
-use Rattle.read_spec.specs.Kinds.{due_line, count_line_in}
-use Rattle.read_lines.specs.declared.Went.TheVariants.{On, Stop}
+use Rattle.read_spec.specs.Limits.{length_ok, id_ok, transition_ok}
+use Rattle.read_spec.specs.Lines.{Lines, line_of, line}
+use Rattle.read_spec.specs.Kinds.{count_line_in}
+use Rattle.read_lines.specs.declared.LineFault.{LineFault}
 use Rattle.read_lines.specs.Counts.{in_range}
-use Rattle.read_lines.specs.declared.Went.{Went}
-use Rattle.read_lines.specs.Runs.{run, refusal_of, RunsTo}
-use Rattle.read_lines.proofs.Lines.{part, count-to}
-use Rattle.read_lines.proofs.Runs.{line_refused, line-then, went_on, run_on_is, run-stop, run-refused, run-then, run_moved, end_read, place_is}
+use Rattle.read_lines.specs.Runs.{Came, onto, fault_at, RunsTo}
+use Rattle.read_lines.proofs.Lines.{part, rest-is, count-to}
+use Rattle.read_lines.proofs.Runs.{went_on, line_refused, line-read, run-refused, run-then, place_is}
+use Rattle.read_chain.specs.Chain.{placed, short, shortly}
+use Rattle.read_chain.proofs.Placed.{placed-ok, placed-err}
 use Rattle.times_spec.specs.declared.Times.{Times}
-use Rattle.times_spec.specs.Limits.{par_ok, rows_ok, seconds_ok}
-use Rattle.times_spec.specs.View.{is_listed, times_of, with_time}
+use Rattle.times_spec.specs.Limits.{rows_ok, seconds_ok}
+use Rattle.times_spec.specs.View.{is_listed, with_time}
 use Rattle.times_spec.specs.Row.{time_line}
 use Rattle.times_spec.specs.Text.{time, times}
-use Rattle.read_times.specs.declared.TimeLine.{TimeLine}
-use Rattle.read_times.specs.declared.TimeLine.TheVariants as line
-use Rattle.read_times.specs.declared.RowsRead.{RowsRead}
-use Rattle.read_times.specs.declared.RowsRead.TheVariants as rows
-use Rattle.read_times.specs.Onward.{from_rows}
-use Rattle.read_times.specs.Says.{filled, line_went, line_used, rows_went, ReadsTo}
-use Rattle.read_times.specs.Times.{refused_times, rows_answer, times_read}
+use Rattle.read_times.specs.Says.{row_came}
+use Rattle.read_times.specs.Times.{answered, refused_times, times_read}
+use Rattle.std.specs.declared.result.Result.{Result}
+use Rattle.std.specs.declared.result.Result.TheVariants.{Ok, Err}
 
 -- ---- a row: its key, its three numbers within their limits, and whether the pair is listed
 abbrev pub day_limits : Limits
@@ -57,29 +58,29 @@ line-is ts s =
     bind-same (key (bytes "time=") s) _ _ (λ u r.
     three-within 7 (listing ts) r 32 32 86401 id_ok transition_ok seconds_ok (λ a. leb-suc-suc a 31) (λ b. leb-suc-suc b 31) (λ c. leb-suc-suc c 86400))
 
-module _ (s : List ℕ) (ts : Times) (j : ℕ) {b : Times} where
+module _ (s : List ℕ) (ts : Times) (j : ℕ) where
   -- what the line gives is what the row does
-  line-fault : {k : ℕ} → Reads s (fault k) (time_line ts s) → RunsTo s (Stop k) 0 b (time j ts s)
+  line-fault : {k : ℕ} → Reads s (fault k) (time_line ts s) → RunsTo s (fault_at k 0) (time j ts s)
   unfolding time
-  line-fault h = line_refused (time_line ts s) s _ zero-le refl h
+  line-fault h = run-refused _ _ (line_refused (time_line ts) s 0 (sym (zero-min (length s))) h)
 
-  pub no_key : {k : ℕ} → Reads s (fault k) (key (bytes "time=") s) → RunsTo s (Stop k) 0 b (time j ts s)
+  pub no_key : {k : ℕ} → Reads s (fault k) (key (bytes "time=") s) → RunsTo s (fault_at k 0) (time j ts s)
   no_key h = line-fault (rw (line-is ts s) (form-fault _ _ h))
 
   module _ {i : ℕ} (d : Reads s (past tt i) (key (bytes "time=") s)) where
-    pub no-numbers : {k : ℕ} → Reads s (fault k) (numbers_within 7 day_limits (drop i s)) → RunsTo s (Stop k) 0 b (time j ts s)
+    pub no-numbers : {k : ℕ} → Reads s (fault k) (numbers_within 7 day_limits (drop i s)) → RunsTo s (fault_at k 0) (time j ts s)
     no-numbers h = line-fault (rw (line-is ts s) (form-then _ _ d (form-fault _ _ h)))
 
     module _ {n : Four} {to : ℕ} (h : Reads s (past n to) (numbers_within 7 day_limits (drop i s))) where
-      pub listed-twice : is_listed ts n.first n.second ≡ true → RunsTo s (Stop 4) 0 b (time j ts s)
+      pub listed-twice : is_listed ts n.first n.second ≡ true → RunsTo s (fault_at 4 0) (time j ts s)
       unfolding listing
       listed-twice e = line-fault (rw (line-is ts s) (form-then _ _ d (limit-fault _ _ h (rw e))))
 
-      pub listed-now : is_listed ts n.first n.second ≡ false → with_time ts n.first n.second n.third ≡ b → RunsTo s On to b (time j ts s)
+      pub listed-now : {b : Times} → is_listed ts n.first n.second ≡ false → with_time ts n.first n.second n.third ≡ b → RunsTo s (onto b to) (time j ts s)
       unfolding time listing
       listed-now e q =
           let r : Reads s (past (n.first, n.second, n.third) to) (time_line ts s) = rw (line-is ts s) (form-then _ _ d (limit-kept _ _ h (rw e))) in
-          line-then (time_line ts s) s _ r (went_on h.within (rw q))
+          run-then _ _ (line-read (time_line ts) s 0 r) (went_on h.within (rw q))
 
 -- the id and the transition that were read, each below 32
 pub pair-few : (s : List ℕ) (i : ℕ) {to : ℕ} {n : Four} → Reads s (past n to) (numbers_within 7 day_limits (drop i s)) → (n.first < 32) × (n.second < 32)
@@ -87,77 +88,42 @@ pair-few s i {n = n} h =
     let e = got-within 7 day_limits (drop i s) h in
     (ltb-true n.first 32 (and_left (ltb n.first 32) _ e), ltb-true n.second 32 (and_left (ltb n.second 32) _ (and_right (ltb n.first 32) _ e)))
 
--- the row at the place at, by the line r that was read there
-module _ (s : List ℕ) (at : ℕ) (l : at ≤ length s) (ts : Times) (j : ℕ) {b : Times} {r : TimeLine} (h : RunsTo (part s at) (line_went r) (line_used r) b (time j ts (part s at))) where
-  pub row_read : {n : ℕ} → r ≡ line.Got n → RunsTo s On (at + n) b (time j ts (drop at s))
-  row_read e = run_moved (time j ts) s at l (rw e at h)
+-- ---- the row at the place at, by the answer r that was given to the part from there on
+module _ {A : Type 0} (m : Lines A) (s : List ℕ) (at : ℕ) (l : at ≤ length s) where
+  moved : {a : A} {n : ℕ} → RunsTo (part s at) (onto a n) (m (part s at)) → RunsTo s (onto a (at + n)) (m (drop at s))
+  moved {a} {n} h =
+      let r : RunsTo (drop at s) (onto a n) (m (drop at s)) = rw (rest-is at s) at h in
+      record { within = omega (arith, rw (length-drop at s) at r.within); same = rw (drop-drop n at s) at r.same }
 
-  pub row-refused : {k n : ℕ} → r ≡ line.Refused k → n ≡ refusal_of (line_went r) → RunsTo s (Stop n) at b (time j ts (drop at s))
-  row-refused e q =
-      rw (q ∙ ap (λ (y : TimeLine). refusal_of (line_went y)) e) (rw (add-zero at) at (run_moved (time j ts) s at l (rw e at h)))
+  stayed : {k : ℕ} → RunsTo (part s at) (fault_at k 0) (m (part s at)) → RunsTo s (fault_at k at) (m (drop at s))
+  stayed {k} h =
+      let r : RunsTo (drop at s) (fault_at k 0) (m (drop at s)) = rw (rest-is at s) at h in
+      record { within = l; same = r.same }
 
--- ---- the rows, into arrays that held nothing, and the end of the text
-module _ (s : List ℕ) (par n start : ℕ) {r : RowsRead} {l₀ k₀ l k : List ℕ} (e : l₀ ≡ replicate 1024 0) (f : k₀ ≡ replicate 1024 0)
-    (h : ReadsTo s r l k (each time n 0 (filled par l₀ k₀) (drop start s))) where
-  rows_are : ReadsTo s r l k (each time n 0 (times_of par) (drop start s))
-  unfolding times_of
-  rows_are = rw (e, f) at h
+module _ (s : List ℕ) (at : ℕ) (l : at ≤ length s) (ts : Times) (j : ℕ) (b : Times) (r : Result ℕ Refusal) (h : RunsTo (part s at) (row_came r b) (time j ts (part s at))) where
+  pub row_read : {n : ℕ} → Ok n ≡ placed at r → RunsTo s (onto b (at + n)) (time j ts (drop at s))
+  row_read e = moved (time j ts) s at l (rw (placed-ok at r e) at h)
 
-  pub rows-stop : {d at : ℕ} → r ≡ rows.Refused d at → ReadsTo s r l k (from_rows par n (drop start s))
-  unfolding from_rows
-  rows-stop q = record { runs = run-refused _ _ rows_are.runs (ap rows_went q) }
+  pub row-refused : {f : LineFault} → Err f ≡ placed at r → RunsTo s (fault_at (number_of f.refusal) f.at) (time j ts (drop at s))
+  row-refused e = rw (placed-err at r e).1 (stayed (time j ts) s at l (rw (placed-err at r e).0 at h))
 
-  rows_on : {p at : ℕ} → r ≡ rows.Got p at → RunsTo s On at (filled p l k) (each time n 0 (times_of par) (drop start s))
-  rows_on q = rw q at rows_are.runs
-
-  module _ {p at : ℕ} (q : r ≡ rows.Got p at) (w : Went) (g : run w tt (drop at s) ≡ at_end (drop at s)) where
-    pub rows_more : {d m : ℕ} → w ≡ Stop d → m ≡ refusal_of w → ReadsTo s (rows.Refused m at) l k (from_rows par n (drop start s))
-    unfolding from_rows
-    rows_more z x =
-        let o : RunsTo s w at (filled 0 l k) (from_rows par n (drop start s)) = run-then _ _ (rows_on q) refl (run-refused _ _ (end_read w (rows_on q).within g) z) in
-        record { runs = rw (x ∙ ap refusal_of z) (rw z at o) }
-
-    pub rows_end : w ≡ On → ReadsTo s (rows.Got p at) l k (from_rows par n (drop start s))
-    unfolding from_rows
-    rows_end z = record { runs = run-then _ _ (rows_on q) refl (run-then _ _ (end_read w (rows_on q).within g) z (went_on (rows_on q).within refl)) }
-
--- ---- the three lines before the rows
 -- a count of rows has no least number
-rows-to : (t : List ℕ) → count_line_in 7 (bytes "rows=") (in_range 0 1024) t ≡ count_line_in 7 (bytes "rows=") rows_ok t
-rows-to t = sym (count-to 7 1024 (bytes "rows=") t)
-
-module _ (s : List ℕ) where
-  pub due-fault : {b : Times} {k : ℕ} → Reads s (fault k) (due_line (bytes "times=") 1 s) → RunsTo s (Stop k) 0 b (times s)
-  unfolding times
-  due-fault h = line_refused (due_line (bytes "times=") 1 s) s _ zero-le refl h
-
-  module _ {i : ℕ} (d : Reads s (past tt i) (due_line (bytes "times=") 1 s)) where
-    pub par-fault : {b : Times} {k : ℕ} → Reads s (fault k) (count_line_in 7 (bytes "par=") par_ok (drop i s)) → RunsTo s (Stop k) i b (times s)
-    unfolding times
-    par-fault h =
-        line-then (due_line (bytes "times=") 1 s) s _ d (line_refused (count_line_in 7 (bytes "par=") par_ok (drop i s)) (drop i s) _ d.within refl h)
-
-    module _ {par at : ℕ} (p : Reads s (past par at) (count_line_in 7 (bytes "par=") par_ok (drop i s))) where
-      pub rows-fault : {b : Times} {k : ℕ} → Reads s (fault k) (count_line_in 7 (bytes "rows=") (in_range 0 1024) (drop at s)) → RunsTo s (Stop k) at b (times s)
-      unfolding times
-      rows-fault h =
-          line-then (due_line (bytes "times=") 1 s) s _ d
-          (line-then (count_line_in 7 (bytes "par=") par_ok (drop i s)) (drop i s) _ p
-          (line_refused (count_line_in 7 (bytes "rows=") rows_ok (drop at s)) (drop at s) _ p.within refl (rw (rows-to (drop at s)) at h)))
-
-      pub head_read : {n start : ℕ} → Reads s (past n start) (count_line_in 7 (bytes "rows=") (in_range 0 1024) (drop at s)) → from_rows par n (drop start s) ≡ times s
-      unfolding times from_rows
-      head_read h = sym (rw (sym d.same, sym p.same, sym (h.same ∙ rows-to (drop at s))))
-
-pub reads_same : {s : List ℕ} {r : RowsRead} {l k : List ℕ} {m o : Run Times} → m ≡ o → ReadsTo s r l k m → ReadsTo s r l k o
-reads_same e h = rw e at h
+pub rows-counted : (s : List ℕ) (at : ℕ) {c : Came ℕ} → RunsTo s c (line (count_line_in 7 (bytes "rows=") (in_range 0 1024)) (drop at s))
+    → RunsTo s c (line (count_line_in 7 (bytes "rows=") rows_ok) (drop at s))
+rows-counted s at h =
+    record { within = h.within; same = h.same ∙ sym (ap (λ (x : Reply ℕ). line_of x (drop at s)) (count-to 7 1024 (bytes "rows=") (drop at s))) }
 
 -- ---- what the text comes to
-pub lines-read : (s : List ℕ) (r : RowsRead) {listed seconds : List ℕ} → length s ≤ 32768 → ReadsTo s r listed seconds (times s) → rows_answer r listed seconds ≡ times_read s
-unfolding times_read
-lines-read s (rows.Got par at) l h = rw (le-leb (length s) 32768 l, run_on_is h.runs refl, place_is s at h.runs.within, times_read)
-lines-read s (rows.Refused k at) l h = rw (le-leb (length s) 32768 l, run-stop h.runs refl, place_is s at h.runs.within, times_read)
+module _ (s : List ℕ) where
+  answered-shortly : answered s (shortly times s) ≡ times_read s
+  unfolding shortly short times_read
+  answered-shortly =
+      by-test (length_ok (length s))
+      (λ e. rw (e, short, times_read))
+      (λ e. rw (e, short, times_read) (ap (λ (n : ℕ). refused_times 1 n) (let z : length s - length s ≡ 0 = omega arith in z)))
 
-pub too_long : (s : List ℕ) → 32768 < length s → refused_times 1 0 ≡ times_read s
-unfolding times_read
-too_long s l = rw (lt-leb (length s) 32768 l, times_read)
+  pub times-got : {ts : Times} {at : ℕ} → RunsTo s (onto ts at) (shortly times s) → record { refused = 0; place = at; times = ts } ≡ times_read s
+  times-got {ts} {at} h = rw (sym answered-shortly, sym h.same, place_is s at h.within)
+
+  pub times-refused : {k at : ℕ} → RunsTo s (fault_at k at) (shortly times s) → refused_times k at ≡ times_read s
+  times-refused {k} {at} h = rw (sym answered-shortly, sym h.same, place_is s at h.within)

@@ -1,4 +1,3 @@
--- What reading a text of times answers (Times), the same from its rows on (Onward), and what the cases of its enums say (Says).
-pub mod Onward
+-- What reading a text of times answers (Times), and what each answer says beside the two arrays (Says).
 pub mod Says
 pub mod Times

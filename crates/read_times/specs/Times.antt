@@ -7,9 +7,6 @@ use Rattle.times_spec.specs.declared.Times.{Times}
 use Rattle.times_spec.specs.View.{no_times}
 use Rattle.times_spec.specs.Text.{times}
 use Rattle.read_times.specs.declared.TimesRead.{TimesRead}
-use Rattle.read_times.specs.declared.RowsRead.{RowsRead}
-use Rattle.read_times.specs.declared.RowsRead.TheVariants as rows
-use Rattle.read_times.specs.Says.{filled}
 
 -- nothing is handed out beside a refusal
 abbrev pub refused_times : ℕ → ℕ → TimesRead
@@ -19,11 +16,6 @@ refused_times k at = record { refused = k; place = at; times = no_times }
 abbrev pub answered : List ℕ → Run Times → TimesRead
 answered s (on ts r) = record { refused = 0; place = length s - length r; times = ts }
 answered s (stop k r) = refused_times k (length s - length r)
-
--- what a run of lines and the two arrays hand out
-abbrev pub rows_answer : RowsRead → List ℕ → List ℕ → TimesRead
-rows_answer (rows.Got par at) listed seconds = record { refused = 0; place = at; times = filled par listed seconds }
-rows_answer (rows.Refused k at) listed seconds = refused_times k at
 
 -- "a too long text first": 1, at its start; then the lines
 unfoldable pub times_read : List ℕ → TimesRead
