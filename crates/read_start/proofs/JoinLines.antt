@@ -8,8 +8,8 @@ use native.Mathlib.Omega.{arith}
 use lib.Dec.{ltb, leb-suc-suc}
 use lib.ListN.{length, drop}
 use borrow.Author.Tests.{ltb-true, lt-ltb}
-use Rattle.item_spec.specs.Refusal.{beyond_limit, bad_clause}
-use Rattle.item_spec.specs.Reader.{Reader, got, refused, read_on, bytes, ◌>>=◌, ◌>>◌, give, check}
+use Rattle.item_spec.specs.Refusal.{beyond_limit, bad_clause, number_of}
+use Rattle.item_spec.specs.Reader.{Reader, got, refused, read_on, bytes, ◌>>◌, give, check}
 use Rattle.item_spec.specs.Read.{key, four_form}
 use Rattle.item_spec.proofs.Tests.{and_left, and_right}
 use Rattle.model.specs.declared.Tables.{Tables}
@@ -18,8 +18,10 @@ use Rattle.model.specs.declared.Configuration.{Configuration}
 use Rattle.read_spec.specs.Limits.{five_digits, id_ok, port_ok}
 use Rattle.read_items.specs.declared.numbers.Four.{Four}
 use Rattle.read_items.specs.declared.numbers.Limits.TheVariants as limits
-use Rattle.read_items.specs.declared.numbers.Numbers.{Numbers}
-use Rattle.read_items.specs.declared.numbers.Numbers.TheVariants as numbers
+use Rattle.item_spec.specs.declared.Refusal.{Refusal}
+use Rattle.item_spec.specs.declared.Refusal.TheVariants as refusal
+use Rattle.std.specs.declared.result.Result.{Result}
+use Rattle.std.specs.declared.result.Result.TheVariants.{Ok, Err}
 use Rattle.read_items.specs.Reads.{past, fault, Reads}
 use Rattle.read_items.specs.Within.{numbers_says, numbers_within}
 use Rattle.read_items.specs.Keyed.{keyed}
@@ -27,14 +29,14 @@ use Rattle.read_items.proofs.Limits.{form-fault, form-then}
 use Rattle.read_items.proofs.Shapes.{bind-same, bind-bind}
 use Rattle.read_items.proofs.Within.{four-within, got-within}
 use Rattle.model.specs.View.{port_number}
-use Rattle.read_items.specs.Reads.{refusal}
-use Rattle.read_lines.specs.declared.Went.TheVariants.{On, Stop}
-use Rattle.read_lines.specs.Runs.{RunsTo}
+use Rattle.read_lines.specs.Runs.{onto, fault_at, RunsTo}
 use Rattle.read_lines.proofs.Lines.{part}
-use Rattle.read_chain.proofs.Laws.{put-line, put_refused}
+use Rattle.read_lines.specs.declared.LineFault.{LineFault}
+use Rattle.read_chain.specs.Chain.{placed}
+use Rattle.read_chain.proofs.Placed.{line-put, line-stop}
 use Rattle.rules_spec.specs.Con.{connected}
 use Rattle.rules_spec.specs.DCon.{disconnected}
-use Rattle.start_spec.specs.Text.{SoFar, connection_at}
+use Rattle.start_spec.specs.Text.{connection_at}
 use Rattle.start_spec.specs.Row.{port_in, ends_in, joins_ok, connection_line}
 use Rattle.read_start.specs.Says.{join_in, join_says, in_type, join_number, SmallJoin}
 
@@ -97,10 +99,18 @@ module _ (t : Tables) (c : Configuration) (m : ℕ) where
     unfolding join_number
     join-refused e = rw (join_is s) (form-then _ join_rest h (record { within = zero-le; same = sym (rest-refused (in_types n) (joins_ok t c m (join_in n)) (join_in n) (drop at s) e) }))
 
+-- a refusal has a number
+pub refused_number : (r : Refusal) → number_of r ≡ 0 → ⊥
+refused_number refusal.TooLong e = omega (arith, e)
+refused_number refusal.BadForm e = omega (arith, e)
+refused_number refusal.BeyondLimit e = omega (arith, e)
+refused_number refusal.BadClause e = omega (arith, e)
+refused_number refusal.BytesAfter e = omega (arith, e)
+
 -- ---- a provide port that was read
-pub small-join : (t : List ℕ) {s : List ℕ} (r : Numbers) → Reads s (numbers_says r) (numbers_within five_digits (limits.Four 32 16 32 16) t) → SmallJoin r
-small-join t (numbers.Refused k) h = tt
-small-join t {s} (numbers.Got n at) h =
+pub small-join : (t : List ℕ) {s : List ℕ} (r : Result (Four × ℕ) Refusal) → Reads s (numbers_says r) (numbers_within five_digits (limits.Four 32 16 32 16) t) → SmallJoin r
+small-join t (Err k) h = tt
+small-join t {s} (Ok (n, at)) h =
     let w = got-within five_digits (limits.Four 32 16 32 16) t {s = s} {x = n} {i = at} h in
     let two = and_right (ltb n.first 32) _ w in
     let three = and_right (ltb n.second 16) _ two in
@@ -112,13 +122,13 @@ pub join-made : (c d : Configuration) (n : Four) → (n.third < 32) × (n.fourth
     → d ≡ cond (ltb (port_number n.third n.fourth) 4294967295) (connected c (join_in n)) (disconnected c (join_in n)) → d ≡ connected c (join_in n)
 join-made c d n small e = e ∙ rw (lt-ltb (port_number n.third n.fourth) 4294967295 (omega (arith, small.0, small.1))) refl
 
-module _ (t : Tables) (m : ℕ) (c : Configuration) (s : List ℕ) (start at : ℕ) (e : at ≡ min start (length s)) {r : Numbers}
+module _ (t : Tables) (m : ℕ) (c : Configuration) (s : List ℕ) (start at : ℕ) (e : at ≡ min start (length s)) (r : Result (Four × ℕ) Refusal)
     (o : Reads (part s at) (join_says r) (connection_line t c m (part s at))) where
-  pub join-put : {n : Four} {used : ℕ} → r ≡ numbers.Got n used → (j : ℕ) (l : List ℕ)
-      → RunsTo s On (at + used) (connected c (join_in n), suc (port_number n.first n.second), l) (connection_at t j (c, m, l) (drop start s))
+  pub join-put : {n : Four} {used : ℕ} → Ok (n, used) ≡ placed at r → (j : ℕ) (l : List ℕ)
+      → RunsTo s (onto (connected c (join_in n), suc (port_number n.first n.second), l) (at + used)) (connection_at t j (c, m, l) (drop start s))
   unfolding connection_at
-  join-put {n} {used} q j l = put-line join_says (connection_line t c m) (λ k. (connected c k, suc (port_number k.user k.useport), l)) s start at e (numbers.Got n used) o q refl
+  join-put q j l = line-put join_says (connection_line t c m) (λ k. (connected c k, suc (port_number k.user k.useport), l)) s start at e r o q refl
 
-  pub join-stop : {k y : ℕ} {b : SoFar} → r ≡ numbers.Refused k → y ≡ refusal (join_says r) → (j : ℕ) (l : List ℕ) → RunsTo s (Stop y) at b (connection_at t j (c, m, l) (drop start s))
+  pub join-stop : {f : LineFault} → Err f ≡ placed at r → (j : ℕ) (l : List ℕ) → RunsTo s (fault_at (number_of f.refusal) f.at) (connection_at t j (c, m, l) (drop start s))
   unfolding connection_at
-  join-stop {k} {y} {b} q p j l = put_refused join_says (connection_line t c m) (λ x. (connected c x, suc (port_number x.user x.useport), l)) s start at e (numbers.Refused k) o q refl p
+  join-stop q j l = line-stop join_says (connection_line t c m) (λ k. (connected c k, suc (port_number k.user k.useport), l)) s start at e r o q refl

@@ -1,6 +1,6 @@
 -- Items one after the other: what was read so far, and what the next item makes of it.
 -- Assumes nothing.
-use Prim.Native.Nat.{ℕ, zero, suc, ◌+◌, ◌-◌, ◌≤◌, ◌<◌}
+use Prim.Native.Nat.{ℕ, zero, suc, ◌+◌, ◌≤◌, ◌<◌}
 use mathlib.Core.List.{List, [], ◌∷◌, ◌++◌, append_assoc}
 use mathlib.Core.Bool.{Bool, true, false, cond, ◌&&◌, and-true, and_assoc}
 use mathlib.Core.Path.{◌≡◌, refl, sym, ap, ◌∙◌}
@@ -25,8 +25,7 @@ use Rattle.start_spec.specs.Row.{last_form, plain_queue, ticket_queue, items_ok,
 use Rattle.words.specs.Parts.{in_word}
 use Rattle.read_items.specs.Reads.{Reads, past, fault}
 use Rattle.read_start.specs.Items.{item_in, queue_by, item_put, no_item, Slotted, PairedUp, ItemsRead, none, some, QueueRead, unread, read}
-use Rattle.read_start.specs.declared.items.Items.TheVariants as its
-use Rattle.read_start.specs.declared.items.Queue.TheVariants as queue
+use Rattle.std.specs.declared.option.Option.TheVariants.{Some, None}
 use Rattle.read_start.proofs.Laws.{drop_get}
 
 -- ---- an item takes bytes, and its behavior has five digits at most
@@ -233,25 +232,25 @@ abbrev after : Reply (List (ℕ × ℕ)) → Reply (List (ℕ × ℕ) × ℕ)
 after x = read_on x (λ q r. read_on (last_form r) (λ l. give (q, l)))
 
 module _ (s slots : List ℕ) (at : ℕ) where
-  pub queue-none : ItemsRead s slots (items (item_in false) (byte "\n") (drop at s)) its.Fault → QueueRead s slots (queue_by false (drop at s)) queue.Fault
+  pub queue-none : ItemsRead s slots (items (item_in false) (byte "\n") (drop at s)) None → QueueRead s slots (queue_by false (drop at s)) None
   unfolding plain_queue
   queue-none (none e) = unread (ap (λ (x : Reply (List (ℕ × ℕ))). read_on x (λ q. give (q, 0))) e)
 
-  pub queue-alone : {n next : ℕ} → ItemsRead s slots (items (item_in false) (byte "\n") (drop at s)) (its.Got n next) → QueueRead s slots (queue_by false (drop at s)) (queue.Got n 0 next)
+  pub queue-alone : {n next : ℕ} → ItemsRead s slots (items (item_in false) (byte "\n") (drop at s)) (Some (n, next)) → QueueRead s slots (queue_by false (drop at s)) (Some (record { count = n; last = 0 }, next))
   unfolding plain_queue
   queue-alone (some l w e c f) = read l w (ap (λ (x : Reply (List (ℕ × ℕ))). read_on x (λ q. give (q, 0))) e) c f
 
-  pub queue-unread : ItemsRead s slots (items (item_in true) (byte ",") (drop at s)) its.Fault → QueueRead s slots (queue_by true (drop at s)) queue.Fault
+  pub queue-unread : ItemsRead s slots (items (item_in true) (byte ",") (drop at s)) None → QueueRead s slots (queue_by true (drop at s)) None
   unfolding ticket_queue
   queue-unread (none e) = unread (ap after e)
 
-  pub last-unread : {n i : ℕ} → ItemsRead s slots (items (item_in true) (byte ",") (drop at s)) (its.Got n i) → Reads s (fault 2) (last_form (drop i s))
-      → QueueRead s slots (queue_by true (drop at s)) queue.Fault
+  pub last-unread : {n i : ℕ} → ItemsRead s slots (items (item_in true) (byte ",") (drop at s)) (Some (n, i)) → Reads s (fault 2) (last_form (drop i s))
+      → QueueRead s slots (queue_by true (drop at s)) None
   unfolding ticket_queue
   last-unread (some l w e c f) h = unread (ap after e ∙ ap (λ (x : Reply ℕ). read_on x (λ k. give (l, k))) (sym h.same))
 
-  pub queue-last : {n i last next : ℕ} → ItemsRead s slots (items (item_in true) (byte ",") (drop at s)) (its.Got n i) → Reads s (past last next) (last_form (drop i s))
-      → QueueRead s slots (queue_by true (drop at s)) (queue.Got n last next)
+  pub queue-last : {n i last next : ℕ} → ItemsRead s slots (items (item_in true) (byte ",") (drop at s)) (Some (n, i)) → Reads s (past last next) (last_form (drop i s))
+      → QueueRead s slots (queue_by true (drop at s)) (Some (record { count = n; last = last }, next))
   unfolding ticket_queue
   queue-last (some l w e c f) h = read l h.within (ap after e ∙ ap (λ (x : Reply ℕ). read_on x (λ k. give (l, k))) (sym h.same)) c f
 
@@ -307,10 +306,11 @@ module _ (last : ℕ) (q : List ℕ) where
       empty [] e = refl
       empty (a ∷ l) e = absurd (omega arith)
 
-  pub rises-turn : (r : ℕ) → r + 1 < length q → rises_to last (drop r q) ≡ (ltb (stamp_in (get_or q r 0)) (stamp_in (get_or q (r + 1) 0)) && rises_to last (drop (r + 1) q))
+  pub rises-turn : (p r : ℕ) → r ≡ p + 1 → r < length q → rises_to last (drop p q) ≡ (ltb (stamp_in (get_or q p 0)) (stamp_in (get_or q r 0)) && rises_to last (drop r q))
   unfolding rises_to
-  rises-turn r h =
-      rw (drop_get q r (omega arith), ← add-one r, drop_get q (r + 1) (omega arith)) refl
+  rises-turn p r e h =
+      let l : p + 1 < length q = omega arith in
+      rw (e, drop_get q p (omega arith), ← add-one p, drop_get q (p + 1) l) refl
 
   pub rises-end : (r : ℕ) → r + 1 ≡ length q → eqb (stamp_in (get_or q r 0)) last ≡ rises_to last (drop r q)
   unfolding rises_to

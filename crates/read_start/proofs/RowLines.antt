@@ -1,18 +1,18 @@
 -- The line of an instance by its form, its queue and its checks; a queue pushed slot by slot.
 -- Assumes nothing.
-use Prim.Native.Nat.{ℕ, zero, suc, ◌+◌, ◌-◌, ◌*◌, ◌≤◌, ◌<◌, min, zero-le}
+use Prim.Native.Nat.{ℕ, zero, suc, ◌+◌, ◌*◌, ◌≤◌, ◌<◌, min, zero-le}
 use mathlib.Core.List.{List, [], ◌∷◌}
-use mathlib.Core.Bool.{Bool, true, false, ◌&&◌, true≢false}
+use mathlib.Core.Bool.{Bool, true, false, ◌&&◌}
 use mathlib.Core.Path.{◌≡◌, refl, sym, ap, ◌∙◌}
 use mathlib.Core.Logic.{by_cases}
 use native.Mathlib.Omega.{arith}
 use native.Mathlib.Decide.{dec_lt}
 use native.Mathlib.Numerals.{add-one}
 use lib.Dec.{leb, ltb}
-use lib.ListN.{length, get_or, take, drop, set, length-take, length-drop, length-set, drop_of_length-le, get_or-eq_default}
+use lib.ListN.{length, get_or, take, drop, set, length-take, length-set, drop_of_length-le, get_or-eq_default}
 use lib.Seq.{ext_get_or, get_or-set_same}
 use borrow.Author.Tests.{lt-ltb, leb-true}
-use Rattle.item_spec.specs.Refusal.{beyond_limit, bad_clause}
+use Rattle.item_spec.specs.Refusal.{beyond_limit, bad_clause, number_of}
 use Rattle.item_spec.specs.Reader.{Reply, Reader, got, read_on, bytes, byte, ◌>>=◌, ◌>>◌, give, check}
 use Rattle.item_spec.specs.Read.{key, number, list}
 use Rattle.item_spec.proofs.Tests.{and_left, and_right}
@@ -23,9 +23,9 @@ use Rattle.model.specs.Empty.{absent}
 use Rattle.model.specs.View.{type_of, pair_of, list_of, instance, put, with_queue}
 use Rattle.model.proofs.View.{list_at, length-list}
 use Rattle.read_spec.specs.Limits.{five_digits, has_tickets, list_ok, id_ok, type_ok}
-use Rattle.read_items.specs.Reads.{past, fault, refusal, Reads}
+use Rattle.read_items.specs.Reads.{past, fault, Reads}
 use Rattle.read_start.specs.Items.{queue_by, pairs_in, queue_in, no_item, Slotted, PairedUp, QueueRead, unread, read}
-use Rattle.read_start.specs.declared.items.Queue.TheVariants as queue
+use Rattle.read_start.specs.declared.items.Queue.{Queue}
 use Rattle.words.specs.Parts.{in_word}
 use Rattle.read_items.proofs.Limits.{form-fault, form-then}
 use Rattle.read_items.proofs.Within.{in-turn}
@@ -33,18 +33,21 @@ use Rattle.rules_spec.specs.Add.{fresh, added}
 use Rattle.rules_spec.specs.Closing.{renewed, zeroed}
 use Rattle.rules_spec.specs.Instance.{with_queued}
 use Rattle.rules_spec.specs.PushB.{pushed}
-use Rattle.read_lines.specs.declared.Went.TheVariants.{On, Stop}
-use Rattle.read_lines.specs.Runs.{RunsTo}
-use Rattle.read_lines.proofs.Lines.{part, rest-is}
-use Rattle.read_chain.proofs.Laws.{put-line, put_refused}
-use Rattle.start_spec.specs.Text.{SoFar, instance_at}
+use Rattle.read_lines.specs.Runs.{onto, fault_at, RunsTo}
+use Rattle.read_lines.proofs.Lines.{part}
+use Rattle.read_lines.specs.declared.LineFault.{LineFault}
+use Rattle.read_chain.specs.Chain.{placed}
+use Rattle.read_chain.proofs.Placed.{line-put, line-stop}
+use Rattle.start_spec.specs.Text.{instance_at}
 use Rattle.start_spec.specs.Row as starts
 use Rattle.start_spec.specs.Row.{slots_of, stamp_ok, items_ok, tickets_ok, row_ok, held_ok, instance_line, pushed_all, with_row}
 use Rattle.read_start.specs.declared.rows.Lists.{Lists}
 use Rattle.read_start.specs.declared.rows.Row.{Row}
-use Rattle.read_start.specs.declared.rows.RowLine.{RowLine}
-use Rattle.read_start.specs.declared.rows.RowLine.TheVariants as line
-use Rattle.read_start.specs.Says.{listed, three_form, row_form, row_passes, row_in, row_says, row_number}
+use Rattle.item_spec.specs.declared.Refusal.{Refusal}
+use Rattle.std.specs.declared.option.Option.TheVariants.{Some, None}
+use Rattle.std.specs.declared.result.Result.{Result}
+use Rattle.std.specs.declared.result.Result.TheVariants.{Ok, Err}
+use Rattle.read_start.specs.Says.{listed, three_form, row_form, row_passes, row_in, row_says}
 use Rattle.read_start.proofs.Laws.{drop_get, get_take}
 
 -- ---- the line in three parts
@@ -179,52 +182,52 @@ ok-items d t w q l e =
 pub form-faulty : (e d : ℕ) (t : Tables) (m : ℕ) (s : List ℕ) → Reads s (fault 2) (row_form s) → Reads s (fault 2) (instance_line e d t m s)
 form-faulty e d t m s h = rw (instance-is e d t m s) (form-fault _ (row_rest e d t m) h)
 
-pub next-within : (s slots : List ℕ) {m : Reply (List (ℕ × ℕ) × ℕ)} {n last at : ℕ} → QueueRead s slots m (queue.Got n last at) → at ≤ length s
+pub next-within : (s slots : List ℕ) {m : Reply (List (ℕ × ℕ) × ℕ)} {q : Queue} {at : ℕ} → QueueRead s slots m (Some (q, at)) → at ≤ length s
 next-within s slots (read l w e c f) = w
 
-pub slots-wide : (s slots : List ℕ) {m : Reply (List (ℕ × ℕ) × ℕ)} {n last at : ℕ} → QueueRead s slots m (queue.Got n last at) → length slots ≡ 16
+pub slots-wide : (s slots : List ℕ) {m : Reply (List (ℕ × ℕ) × ℕ)} {q : Queue} {at : ℕ} → QueueRead s slots m (Some (q, at)) → length slots ≡ 16
 slots-wide s slots (read l w e c f) = f.width
 
 module _ (ed d : ℕ) (t : Tables) (m : ℕ) (s : List ℕ) (w : Row) (i : ℕ) (h : Reads s (past w i) (row_form s)) where
-  pub queue-faulty : {slots : List ℕ} → QueueRead s slots (queue_by (has_tickets ed) (drop i s)) queue.Fault → Reads s (fault 2) (instance_line ed d t m s)
+  pub queue-faulty : {slots : List ℕ} → QueueRead s slots (queue_by (has_tickets ed) (drop i s)) None → Reads s (fault 2) (instance_line ed d t m s)
   queue-faulty (unread e) =
       rw (instance-is ed d t m s) (form-then _ (row_rest ed d t m) h (record { within = zero-le; same = sym (ap (λ (x : Reply (List (ℕ × ℕ) × ℕ)). read_on x (rest_with ed d t m w)) e) }))
 
-  module _ (slots : List ℕ) (n last at : ℕ) (deep : d ≤ 8) where
-    pub row-beyond : QueueRead s slots (queue_by (has_tickets ed) (drop i s)) (queue.Got n last at) → row_passes d t w slots n last ≡ false → Reads s (fault 3) (instance_line ed d t m s)
+  module _ (slots : List ℕ) (q : Queue) (at : ℕ) (deep : d ≤ 8) where
+    pub row-beyond : QueueRead s slots (queue_by (has_tickets ed) (drop i s)) (Some (q, at)) → row_passes d t w slots q.count q.last ≡ false → Reads s (fault 3) (instance_line ed d t m s)
     row-beyond (read l k e c f) p =
         rw (instance-is ed d t m s) (form-then _ (row_rest ed d t m) h (record {
           within = zero-le;
           same = sym (ap (λ (x : Reply (List (ℕ × ℕ) × ℕ)). read_on x (rest_with ed d t m w)) e
-              ∙ ap (λ (b : Bool). rests b (held_with ed t m w (slots_of l) last) (row_with w l last) (drop at s)) (sym (passes_same slots l n c f d t w last deep) ∙ p));
+              ∙ ap (λ (b : Bool). rests b (held_with ed t m w (slots_of l) q.last) (row_with w l q.last) (drop at s)) (sym (passes_same slots l q.count c f d t w q.last deep) ∙ p));
         }))
 
     module _ (new : List ℕ) (up : PairedUp slots new) where
-      pub row-clause : QueueRead s slots (queue_by (has_tickets ed) (drop i s)) (queue.Got n last at) → row_passes d t w slots n last ≡ true → held_with ed t m w (queue_in new n) last ≡ false
+      pub row-clause : QueueRead s slots (queue_by (has_tickets ed) (drop i s)) (Some (q, at)) → row_passes d t w slots q.count q.last ≡ true → held_with ed t m w (queue_in new q.count) q.last ≡ false
           → Reads s (fault 4) (instance_line ed d t m s)
       row-clause (read l k e c f) p z =
-          let short = row-short d t w slots n last p in
-          let ok = sym (passes_same slots l n c f d t w last deep) ∙ p in
-          let here = queue-is slots l n c f new up (omega (arith, short, deep)) _ (ok-items d t w l last ok) in
+          let short = row-short d t w slots q.count q.last p in
+          let ok = sym (passes_same slots l q.count c f d t w q.last deep) ∙ p in
+          let here = queue-is slots l q.count c f new up (omega (arith, short, deep)) _ (ok-items d t w l q.last ok) in
           rw (instance-is ed d t m s) (form-then _ (row_rest ed d t m) h (record {
             within = zero-le;
             same = sym (ap (λ (x : Reply (List (ℕ × ℕ) × ℕ)). read_on x (rest_with ed d t m w)) e
-                ∙ ap (λ (b : Bool). rests b (held_with ed t m w (slots_of l) last) (row_with w l last) (drop at s)) ok
-                ∙ ap (λ (b : Bool). rests true b (row_with w l last) (drop at s)) (sym (ap (λ (q : List ℕ). held_with ed t m w q last) here) ∙ z));
+                ∙ ap (λ (b : Bool). rests b (held_with ed t m w (slots_of l) q.last) (row_with w l q.last) (drop at s)) ok
+                ∙ ap (λ (b : Bool). rests true b (row_with w l q.last) (drop at s)) (sym (ap (λ (x : List ℕ). held_with ed t m w x q.last) here) ∙ z));
           }))
 
-      pub row-got : QueueRead s slots (queue_by (has_tickets ed) (drop i s)) (queue.Got n last at) → row_passes d t w slots n last ≡ true → held_with ed t m w (queue_in new n) last ≡ true
-          → Reads s (past (row_in w new n last) at) (instance_line ed d t m s)
+      pub row-got : QueueRead s slots (queue_by (has_tickets ed) (drop i s)) (Some (q, at)) → row_passes d t w slots q.count q.last ≡ true → held_with ed t m w (queue_in new q.count) q.last ≡ true
+          → Reads s (past (row_in w new q) at) (instance_line ed d t m s)
       row-got (read l k e c f) p z =
-          let short = row-short d t w slots n last p in
-          let ok = sym (passes_same slots l n c f d t w last deep) ∙ p in
-          let here = queue-is slots l n c f new up (omega (arith, short, deep)) _ (ok-items d t w l last ok) in
+          let short = row-short d t w slots q.count q.last p in
+          let ok = sym (passes_same slots l q.count c f d t w q.last deep) ∙ p in
+          let here = queue-is slots l q.count c f new up (omega (arith, short, deep)) _ (ok-items d t w l q.last ok) in
           rw (instance-is ed d t m s) (form-then _ (row_rest ed d t m) h (record {
             within = k;
             same = sym (ap (λ (x : Reply (List (ℕ × ℕ) × ℕ)). read_on x (rest_with ed d t m w)) e
-                ∙ ap (λ (b : Bool). rests b (held_with ed t m w (slots_of l) last) (row_with w l last) (drop at s)) ok
-                ∙ ap (λ (b : Bool). rests true b (row_with w l last) (drop at s)) (sym (ap (λ (q : List ℕ). held_with ed t m w q last) here) ∙ z)
-                ∙ ap (λ (q : List ℕ). got (record { id = w.id; kind = w.kind; marked = w.lists.marked.mask; running = w.lists.running.mask; ended = w.lists.ended.mask; queue = q; last = last }) (drop at s)) (sym here));
+                ∙ ap (λ (b : Bool). rests b (held_with ed t m w (slots_of l) q.last) (row_with w l q.last) (drop at s)) ok
+                ∙ ap (λ (b : Bool). rests true b (row_with w l q.last) (drop at s)) (sym (ap (λ (x : List ℕ). held_with ed t m w x q.last) here) ∙ z)
+                ∙ ap (λ (x : List ℕ). got (record { id = w.id; kind = w.kind; marked = w.lists.marked.mask; running = w.lists.running.mask; ended = w.lists.ended.mask; queue = x; last = q.last }) (drop at s)) (sym here));
           }))
 
 -- ---- a queue pushed slot by slot
@@ -239,24 +242,15 @@ pub added-empty : (t : Tables) (c : Configuration) (i k : ℕ) → (instance (ad
 unfolding added renewed
 added-empty t c i k = omega (arith, queued-put (with_queue c (zeroed c.queue (i * 8) 8)) i (fresh t k))
 
--- those from r on, of the first n, pushed
-pub push-rest : (c : Configuration) (i n r : ℕ) (slots : List ℕ) → Configuration
-push-rest c i n r slots = pushed_all c i (drop r (take n slots))
+-- those of a queue from r on pushed
+module _ (i : ℕ) (q : List ℕ) where
+  pub push-turn : (c : Configuration) (r : ℕ) → r < length q → pushed_all c i (drop r q) ≡ pushed_all (pushed c i (get_or q r 0)) i (drop (r + 1) q)
+  unfolding pushed_all
+  push-turn c r h = rw (drop_get q r h, add-one r)
 
-module _ (i n : ℕ) (slots : List ℕ) where
-  pub push-start : (c : Configuration) → push-rest c i n 0 slots ≡ pushed_all c i (take n slots)
-  unfolding push-rest
-  push-start c = refl
-
-  pub push-turn : (c : Configuration) (r : ℕ) → r < length slots → r < n → push-rest c i n r slots ≡ push-rest (pushed c i (get_or slots r 0)) i n (r + 1) slots
-  unfolding push-rest pushed_all
-  push-turn c r h l = rw (drop_get (take n slots) r (omega (arith, length-take n slots)), get_take slots n r l, add-one r)
-
-  pub push-over : (c : Configuration) (r : ℕ) → (ltb r (length slots) && ltb r n) ≡ false → push-rest c i n r slots ≡ c
-  unfolding push-rest pushed_all
-  push-over c r h =
-      rw (drop_of_length-le (take n slots) {i = r}
-      (by_cases (dec_lt r (length slots)) (λ a. by_cases (dec_lt r n) (λ b. absurd (true≢false (rw (lt-ltb r (length slots) a, lt-ltb r n b) at h))) (λ b. omega (arith, length-take n slots))) (λ a. omega (arith, length-take n slots))))
+  pub push-over : (c : Configuration) (r : ℕ) → length q ≤ r → pushed_all c i (drop r q) ≡ c
+  unfolding pushed_all
+  push-over c r h = rw (drop_of_length-le q {i = r} h)
 
 pub pushed_more : (c : Configuration) (i b r : ℕ) → (instance c i).queued ≤ r → (instance (pushed c i b) i).queued ≤ r + 1
 unfolding pushed with_queued
@@ -264,23 +258,13 @@ pushed_more c i b r h =
     omega (arith, h, queued-put (with_queue c (set c.queue (i * 8 + (instance c i).queued) b)) i (with_queued (instance c i) (suc (instance c i).queued)))
 
 -- ---- the line read at a part of the text, and its row put
-number_is : (r : RowLine) (slots : List ℕ) → row_number r ≡ refusal (row_says r slots)
-unfolding row_says
-number_is (line.Got w n last at) slots = refl
-number_is (line.Refused k) slots = refl
-
-module _ (ed d : ℕ) (t : Tables) (m : ℕ) (c : Configuration) (lasts : List ℕ) (s : List ℕ) (start at : ℕ) (e : at ≡ min start (length s)) (slots : List ℕ) {r : RowLine}
-    (o : Reads (part s at) (row_says r slots) (instance_line ed d t m (part s at))) where
-  pub row_put : {w : Row} {n last used : ℕ} → r ≡ line.Got w n last used → (j : ℕ)
-      → RunsTo s On (at + used) (with_row t c (row_in w slots n last), suc w.id, set lasts w.id last) (instance_at ed d t j (c, m, lasts) (drop start s))
+module _ (ed d : ℕ) (t : Tables) (m : ℕ) (c : Configuration) (lasts : List ℕ) (s : List ℕ) (start at : ℕ) (e : at ≡ min start (length s)) (slots : List ℕ)
+    (r : Result (Row × Queue × ℕ) Refusal) (o : Reads (part s at) (row_says r slots) (instance_line ed d t m (part s at))) where
+  pub row_put : {w : Row} {q : Queue} {used : ℕ} → Ok (w, q, used) ≡ placed at r → (j : ℕ)
+      → RunsTo s (onto (with_row t c (row_in w slots q), suc w.id, set lasts w.id q.last) (at + used)) (instance_at ed d t j (c, m, lasts) (drop start s))
   unfolding instance_at row_says
-  row_put {w} {n} {last} {used} q j =
-      put-line (λ x. row_says x slots) (instance_line ed d t m) (λ x. (with_row t c x, suc x.id, set lasts x.id x.last)) s start at e (line.Got w n last used) o q refl
+  row_put p j = line-put (λ x. row_says x slots) (instance_line ed d t m) (λ x. (with_row t c x, suc x.id, set lasts x.id x.last)) s start at e r o p refl
 
-  pub row-stop : {k y : ℕ} {b : SoFar} → r ≡ line.Refused k → y ≡ row_number r → (j : ℕ) → RunsTo s (Stop y) at b (instance_at ed d t j (c, m, lasts) (drop start s))
+  pub row-stop : {f : LineFault} → Err f ≡ placed at r → (j : ℕ) → RunsTo s (fault_at (number_of f.refusal) f.at) (instance_at ed d t j (c, m, lasts) (drop start s))
   unfolding instance_at row_says
-  row-stop {k} {y} {b} q p j =
-      put_refused (λ x. row_says x slots) (instance_line ed d t m) (λ x. (with_row t c x, suc x.id, set lasts x.id x.last)) s start at e (line.Refused k) o q refl (p ∙ number_is r slots)
-
-pub next_fits : (s : List ℕ) (start at : ℕ) → at ≡ min start (length s) → {used : ℕ} → used ≤ length (part s at) → at + used ≤ length s
-next_fits s start at e {used} h = omega (arith, e, rw (rest-is at s, length-drop at s) at h)
+  row-stop p j = line-stop (λ x. row_says x slots) (instance_line ed d t m) (λ x. (with_row t c x, suc x.id, set lasts x.id x.last)) s start at e r o p refl

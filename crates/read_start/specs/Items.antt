@@ -1,4 +1,4 @@
--- What the cases of an item, of items and of a queue say.
+-- What the readers of an item, of items and of a queue say.
 use Rattle.std.specs.Prelude.{ℕ, ◌+◌, ◌≤◌, ◌<◌, List, Bool, true, false, cond, ◌≡◌, ltb, length, take, drop, get_or, set}
 use Rattle.item_spec.specs.Refusal.{bad_form}
 use Rattle.item_spec.specs.Reader.{Reply, Reader, got, refused}
@@ -7,13 +7,9 @@ use Rattle.start_spec.specs.Row.{plain_item, ticket_item, plain_queue, ticket_qu
 use Rattle.read_items.specs.Reads.{Outcome, past, fault}
 use Rattle.words.specs.Parts.{in_word}
 use Rattle.read_start.specs.declared.items.Pair.{Pair}
-use Rattle.read_start.specs.declared.items.Pair.TheVariants as pair
-use Rattle.read_start.specs.declared.items.Item.{Item}
-use Rattle.read_start.specs.declared.items.Item.TheVariants as item
-use Rattle.read_start.specs.declared.items.Items.{Items}
-use Rattle.read_start.specs.declared.items.Items.TheVariants as items
 use Rattle.read_start.specs.declared.items.Queue.{Queue}
-use Rattle.read_start.specs.declared.items.Queue.TheVariants as queue
+use Rattle.std.specs.declared.option.Option.{Option}
+use Rattle.std.specs.declared.option.Option.TheVariants.{Some, None}
 
 -- an item and a queue, in a sheet with tickets or without
 abbrev pub item_in : Bool → ℕ → Reader (ℕ × ℕ)
@@ -22,13 +18,16 @@ item_in tickets z = λ s. elim tickets [ true ↦ ticket_item z s | false ↦ pl
 abbrev pub queue_by : Bool → Reader (List (ℕ × ℕ) × ℕ)
 queue_by tickets = λ s. elim tickets [ true ↦ ticket_queue s | false ↦ plain_queue s ]
 
-abbrev pub pair_says : Pair → Outcome (ℕ × ℕ)
-pair_says (pair.Got b k n) = past (b, k) n
-pair_says pair.Fault = fault bad_form
+abbrev pub item_of : Pair → ℕ × ℕ
+item_of x = (x.behavior, x.stamp)
 
-abbrev pub item_says : Item → Outcome ((ℕ × ℕ) × Bool)
-item_says (item.Got b k more n) = past ((b, k), more) n
-item_says item.Fault = fault bad_form
+abbrev pub pair_says : Option (Pair × ℕ) → Outcome (ℕ × ℕ)
+pair_says (Some (x, n)) = past (item_of x) n
+pair_says None = fault bad_form
+
+abbrev pub item_says : Option (Pair × Bool × ℕ) → Outcome ((ℕ × ℕ) × Bool)
+item_says (Some (x, more, n)) = past (item_of x, more) n
+item_says None = fault bad_form
 
 -- item n put into the slots
 abbrev pub item_put : List ℕ → ℕ → ℕ → ℕ → List ℕ
@@ -58,11 +57,11 @@ pub record Slotted (slots : List ℕ) (l : List (ℕ × ℕ)) : Type 0 where
   pub small : (r : ℕ) → (get_or l r no_item).0 < 100000
 
 -- on the text s, where a definition replies m
-pub data ItemsRead (s slots : List ℕ) (m : Reply (List (ℕ × ℕ))) : Items → Type 0 where
-  none : m ≡ refused bad_form → ItemsRead s slots m items.Fault
-  some : {n at : ℕ} (l : List (ℕ × ℕ)) → at ≤ length s → m ≡ got l (drop at s) → n ≡ length l → Slotted slots l → ItemsRead s slots m (items.Got n at)
+pub data ItemsRead (s slots : List ℕ) (m : Reply (List (ℕ × ℕ))) : Option (ℕ × ℕ) → Type 0 where
+  none : m ≡ refused bad_form → ItemsRead s slots m None
+  some : {n at : ℕ} (l : List (ℕ × ℕ)) → at ≤ length s → m ≡ got l (drop at s) → n ≡ length l → Slotted slots l → ItemsRead s slots m (Some (n, at))
 
-pub data QueueRead (s slots : List ℕ) (m : Reply (List (ℕ × ℕ) × ℕ)) : Queue → Type 0 where
-  unread : m ≡ refused bad_form → QueueRead s slots m queue.Fault
-  read : {n last at : ℕ} (l : List (ℕ × ℕ)) → at ≤ length s → m ≡ got (l, last) (drop at s) → n ≡ length l → Slotted slots l
-      → QueueRead s slots m (queue.Got n last at)
+pub data QueueRead (s slots : List ℕ) (m : Reply (List (ℕ × ℕ) × ℕ)) : Option (Queue × ℕ) → Type 0 where
+  unread : m ≡ refused bad_form → QueueRead s slots m None
+  read : {q : Queue} {at : ℕ} (l : List (ℕ × ℕ)) → at ≤ length s → m ≡ got (l, q.last) (drop at s) → q.count ≡ length l → Slotted slots l
+      → QueueRead s slots m (Some (q, at))

@@ -1,4 +1,4 @@
--- What the cases of the enums say (Items, Says), and what reading a start answers (Start).
+-- What the readers say (Items, Says), and what reading a start answers (Start).
 pub mod Items
 pub mod Says
 pub mod Start

@@ -8,32 +8,31 @@ ghost use Rattle.words.specs.Words.{tables_in, begun_in, state_in};
 ghost use Rattle.words.specs.Parts.{with_last};
 ghost use Rattle.read_start.specs.Start.{queue_room};
 ghost use Rattle.read_start.specs.Items.{queue_in};
-ghost use Rattle.read_start.specs.Says.{three_form, three_says, row_form, form_says, row_passes, row_in, row_says, row_number, SmallRow};
+ghost use Rattle.read_start.specs.Says.{three_form, three_says, row_form, form_says, row_passes, row_in, row_says, stood_came, SmallRow};
 
 use crate::items::{LAST_STAMP, Queue, items_ok, pair_up, push_all, queue_form, rises_to};
-use item_spec::{BAD_CLAUSE, BAD_FORM, BEYOND_LIMIT};
+use item_spec::Refusal;
 use model::smaller;
-use read_chain::LinesRead;
-use read_items::{Digits, Due, Number, OneList, list_then, number_then};
-use read_lines::Went;
+use read_items::{Digits, Listed, list_then, number_then};
+use read_lines::LineFault;
 use step_instructions::{add_to, depth_of};
 use words::begun::put_begun_last;
 use words::state::put_sets;
 use words::tables::{behavior_of, behaviors_of, places_of, transitions_of, types};
 use words::{BegunWords, StateWords, TableWords};
 
-// How far the reading came, and the least that may come next: an id; the number of a use port.
+// How many items a queue holds where the sheet doesn't say, and the number that the sheet opens with.
 #[derive(Clone, Copy)]
-pub struct Stood {
-    pub read: LinesRead,
-    pub least: usize,
+pub struct Setting {
+    pub default: u32,
+    pub edition: u32,
 }
 
-// A list as a set, and one more than its greatest member.
+// The next line's place, and the least that may come next: an id; the number of a use port.
 #[derive(Clone, Copy)]
-pub struct Listed {
-    pub mask: u32,
-    pub top: u32,
+pub struct Stood {
+    pub at: usize,
+    pub least: usize,
 }
 
 // Marked, running and ended.
@@ -44,12 +43,6 @@ pub struct Lists {
     pub ended: Listed,
 }
 
-#[derive(Clone, Copy)]
-enum ThreeLists {
-    Got(Lists, usize),
-    Fault,
-}
-
 // What an instance's line says, but for its queue.
 #[derive(Clone, Copy)]
 pub struct Row {
@@ -58,71 +51,30 @@ pub struct Row {
     pub lists: Lists,
 }
 
-#[derive(Clone, Copy)]
-enum RowForm {
-    Got(Row, usize),
-    Fault,
-}
-
-// The row, how many items its queue has, the stamp of the last ticket and the bytes used; the queue itself stands in lent slots, since an enum can't hold an
-// array.
-#[derive(Clone, Copy)]
-enum RowLine {
-    Got(Row, usize, u32, usize),
-    Refused(u8),
-}
-
 // Three lists, each ended by a comma.
-fn three_lists(s: &[u8], at: usize) -> ThreeLists
+fn three_lists(s: &[u8], at: usize) -> Option<(Lists, usize)>
     ensures { Reads s.now (three_says result) (three_form (drop at s.now)) }
 {
-    let OneList::Got(first, marked, i) = list_then(s, at, b',', Digits::Five) else {
-        return ThreeLists::Fault;
-    };
-    let OneList::Got(second, running, j) = list_then(s, i, b',', Digits::Five) else {
-        return ThreeLists::Fault;
-    };
-    let OneList::Got(third, ended, next) = list_then(s, j, b',', Digits::Five) else {
-        return ThreeLists::Fault;
-    };
-    let marked = Listed {
-        mask: first,
-        top: marked,
-    };
-    let running = Listed {
-        mask: second,
-        top: running,
-    };
-    let ended = Listed {
-        mask: third,
-        top: ended,
-    };
+    let (marked, i) = list_then(s, at, b',', Digits::Five)?;
+    let (running, j) = list_then(s, i, b',', Digits::Five)?;
+    let (ended, next) = list_then(s, j, b',', Digits::Five)?;
     let lists = Lists {
         marked,
         running,
         ended,
     };
-    ThreeLists::Got(lists, next)
+    Some((lists, next))
 }
 
 // `instance=id,type,marked,running,ended,`
-fn row_form(s: &[u8]) -> RowForm
+fn row_form(s: &[u8]) -> Option<(Row, usize)>
     ensures { Reads s.now (form_says result) (row_form s.now) }
 {
-    let Due::Past(i) = read_items::past_key(s, 0, b"instance=") else {
-        return RowForm::Fault;
-    };
-    let Number::Got(id, j) = number_then(s, i, b',', Digits::Five) else {
-        return RowForm::Fault;
-    };
-    let Number::Got(kind, k) = number_then(s, j, b',', Digits::Five) else {
-        return RowForm::Fault;
-    };
-    let ThreeLists::Got(lists, next) = three_lists(s, k) else {
-        return RowForm::Fault;
-    };
-    let row = Row { id, kind, lists };
-    RowForm::Got(row, next)
+    let i = read_items::past_key(s, 0, b"instance=")?;
+    let (id, j) = number_then(s, i, b',', Digits::Five)?;
+    let (kind, k) = number_then(s, j, b',', Digits::Five)?;
+    let (lists, next) = three_lists(s, k)?;
+    Some((Row { id, kind, lists }, next))
 }
 
 // The depth, and no more than the eight slots that a queue has.
@@ -133,23 +85,16 @@ fn queue_room(default: u32, tables: &TableWords) -> usize
 }
 
 // 3: "a number outside its type or the depth"
-fn row_ok(
-    default: u32,
-    tables: &TableWords,
-    row: Row,
-    slots: &[u32],
-    count: usize,
-    last: u32,
-) -> bool
-    ensures { result ≡ row_passes (queue_room default (tables_in tables.now)) (tables_in tables.now) row slots.now count last }
+fn row_ok(default: u32, tables: &TableWords, row: Row, slots: &[u32], queue: Queue) -> bool
+    ensures { result ≡ row_passes (queue_room default (tables_in tables.now)) (tables_in tables.now) row slots.now queue.count queue.last }
 {
     let k = row.kind;
     let n = transitions_of(tables, k);
     let named = (row.id < 32) & (k < types(tables));
     let lists = (row.lists.marked.top <= places_of(tables, k))
         & ((row.lists.running.top <= n) & (row.lists.ended.top <= n));
-    let short = count <= queue_room(default, tables);
-    let known = items_ok(behaviors_of(tables, k), slots, count) & (last <= LAST_STAMP);
+    let short = queue.count <= queue_room(default, tables);
+    let known = items_ok(behaviors_of(tables, k), slots, queue.count) & (queue.last <= LAST_STAMP);
     named & (lists & (short & known))
 }
 
@@ -180,33 +125,32 @@ fn held_ok(tables: &TableWords, least: usize, row: Row, slots: &[u32], count: us
 
 // `instance=id,type,marked,running,ended,queue`, and `,last` where there are tickets
 fn row_line(
-    default: u32,
-    edition: u32,
+    setting: Setting,
     tables: &TableWords,
     least: usize,
     s: &[u8],
     slots: &mut [u32; 16],
-) -> RowLine
+) -> Result<(Row, Queue, usize), Refusal>
     ensures reads { Reads s.now (row_says result slots.new)
-        (instance_line edition (queue_room default (tables_in tables.now)) (tables_in tables.now) least s.now) }
-    ensures small { SmallRow (queue_room default (tables_in tables.now)) s.now slots.new result }
+        (instance_line setting.edition (queue_room setting.default (tables_in tables.now)) (tables_in tables.now) least s.now) }
+    ensures small { SmallRow (queue_room setting.default (tables_in tables.now)) s.now slots.new result }
 {
-    let tickets = edition == 2;
-    let RowForm::Got(row, i) = row_form(s) else {
-        return RowLine::Refused(BAD_FORM);
+    let tickets = setting.edition == 2;
+    let Some((row, i)) = row_form(s) else {
+        return Err(Refusal::BadForm);
     };
-    let Queue::Got(count, last, next) = queue_form(s, i, tickets, slots) else {
-        return RowLine::Refused(BAD_FORM);
+    let Some((queue, next)) = queue_form(s, i, tickets, slots) else {
+        return Err(Refusal::BadForm);
     };
-    if !row_ok(default, tables, row, slots, count, last) {
-        return RowLine::Refused(BEYOND_LIMIT);
+    if !row_ok(setting.default, tables, row, slots, queue) {
+        return Err(Refusal::BeyondLimit);
     }
     pair_up(slots);
-    let rises = !tickets | rises_to(last, slots, count);
-    if !(held_ok(tables, least, row, slots, count) & rises) {
-        return RowLine::Refused(BAD_CLAUSE);
+    let rises = !tickets | rises_to(queue.last, slots, queue.count);
+    if !(held_ok(tables, least, row, slots, queue.count) & rises) {
+        return Err(Refusal::BadClause);
     }
-    RowLine::Got(row, count, last, next)
+    Ok((row, queue, next))
 }
 
 // It is added, its queue pushed, its tokens placed; and its last ticket.
@@ -215,16 +159,15 @@ fn with_row(
     state: &mut StateWords,
     begun: &mut BegunWords,
     row: Row,
-    last: u32,
+    queue: Queue,
     slots: &[u32],
-    count: usize,
 )
-    ensures state { count ≤ 8
-        → state_in state.new ≡ with_row (tables_in tables.now) (state_in state.old) (row_in row slots.now count last) }
-    ensures last { begun_in begun.new ≡ with_last (begun_in begun.old) row.id last }
+    ensures state { queue.count ≤ 8
+        → state_in state.new ≡ with_row (tables_in tables.now) (state_in state.old) (row_in row slots.now queue) }
+    ensures last { begun_in begun.new ≡ with_last (begun_in begun.old) row.id queue.last }
 {
     add_to(tables, state, row.id, row.kind);
-    push_all(state, row.id, slots, count);
+    push_all(state, row.id, slots, queue.count);
     let lists = row.lists;
     put_sets(
         state,
@@ -233,53 +176,29 @@ fn with_row(
         lists.running.mask,
         lists.ended.mask,
     );
-    put_begun_last(begun, row.id, last);
-}
-
-fn row_refusal(line: RowLine) -> u8
-    ensures { result ≡ row_number line }
-{
-    match line {
-        RowLine::Got(_, _, _, _) => 0,
-        RowLine::Refused(k) => k,
-    }
+    put_begun_last(begun, row.id, queue.last);
 }
 
 // One instance, from the part of the text that starts with its line.
 pub(crate) fn read_instance(
-    default: u32,
-    edition: u32,
+    setting: Setting,
     text: &[u8],
     stood: Stood,
     tables: &TableWords,
     state: &mut StateWords,
     begun: &mut BegunWords,
-) -> Stood
-    ensures { (j : ℕ) → RunsTo text.now result.read.went result.read.at
-        (state_in state.new, result.least, (begun_in begun.new).last)
-        (instance_at edition (queue_room default (tables_in tables.now)) (tables_in tables.now) j
-        (state_in state.old, stood.least, (begun_in begun.old).last) (drop stood.read.at text.now)) }
+) -> Result<Stood, LineFault>
+    ensures { (j : ℕ) → RunsTo text.now (stood_came result (state_in state.new) (begun_in begun.new).last)
+        (instance_at setting.edition (queue_room setting.default (tables_in tables.now)) (tables_in tables.now) j
+        (state_in state.old, stood.least, (begun_in begun.old).last) (drop stood.at text.now)) }
 {
-    let at = read_items::place_in(text, stood.read.at);
+    let at = read_items::place_in(text, stood.at);
     let mut slots = [0u32; 16];
-    let line = row_line(
-        default,
-        edition,
-        tables,
-        stood.least,
-        &text[at..],
-        &mut slots,
-    );
-    let RowLine::Got(row, count, last, used) = line else {
-        let refused = row_refusal(line);
-        let went = Went::Stop(refused);
-        let read = LinesRead { went, at };
-        return Stood { read, least: 0 };
-    };
-    let next = at + used;
-    with_row(tables, state, begun, row, last, &slots, count);
-    let went = Went::On;
-    let read = LinesRead { went, at: next };
-    let least = row.id as usize + 1;
-    Stood { read, least }
+    let line = row_line(setting, tables, stood.least, &text[at..], &mut slots);
+    let (row, queue, used) = read_chain::line_at(at, line)?;
+    with_row(tables, state, begun, row, queue, &slots);
+    Ok(Stood {
+        at: at + used,
+        least: row.id as usize + 1,
+    })
 }
