@@ -10,10 +10,10 @@ ghost use Rattle.words.specs.Words.{state_in};
 ghost use Rattle.words.specs.Parts.{in_word};
 ghost use Rattle.read_start.specs.Items.{item_in, queue_by, pair_says, item_says, item_put, ItemsRead, QueueRead, pairs_in, PairedUp, queue_in};
 
-use model::{mask_at, smaller};
+use model::{at_or, put_at, smaller};
 use read_items::{Digits, number_then, past_key};
 use step_instructions::push_to;
-use words::{StateWords, put_word};
+use words::StateWords;
 
 // The stamp of the last ticket that there is: 255.
 pub(crate) const LAST_STAMP: u32 = 256;
@@ -66,8 +66,8 @@ fn put_item(slots: &mut [u32; 16], n: usize, pair: Pair)
     if 8 <= n {
         return;
     }
-    put_word(slots, n, pair.behavior);
-    put_word(slots, 8 + n, pair.stamp);
+    put_at(slots, n, pair.behavior);
+    put_at(slots, 8 + n, pair.stamp);
 }
 
 // The first eight items go into the lent slots; all are counted: how many there are, and the place.
@@ -135,7 +135,7 @@ pub(crate) fn items_ok(n: u32, slots: &[u32], count: usize) -> bool
     ensures { result ≡ items_ok n (pairs_in slots.now (min count 8)) }
 {
     for r in 0..smaller(count, 8) {
-        let known = (mask_at(slots, r) < n) & (mask_at(slots, 8 + r) <= LAST_STAMP);
+        let known = (at_or(slots, r, 0) < n) & (at_or(slots, 8 + r, 0) <= LAST_STAMP);
         if !known {
             return false;
         }
@@ -156,8 +156,8 @@ pub(crate) fn pair_up(slots: &mut [u32; 16])
     ensures { PairedUp slots.old slots.new }
 {
     for r in 0..8 {
-        let x = slot_word(mask_at(slots, r), mask_at(slots, 8 + r));
-        put_word(slots, r, x);
+        let x = slot_word(at_or(slots, r, 0), at_or(slots, 8 + r, 0));
+        put_at(slots, r, x);
     }
 }
 
@@ -170,11 +170,11 @@ pub(crate) fn rises_to(last: u32, slots: &[u32], count: usize) -> bool
         return true;
     }
     for r in 1..n {
-        if mask_at(slots, r) / 8 <= mask_at(slots, r - 1) / 8 {
+        if at_or(slots, r, 0) / 8 <= at_or(slots, r - 1, 0) / 8 {
             return false;
         }
     }
-    mask_at(slots, n - 1) / 8 == last
+    at_or(slots, n - 1, 0) / 8 == last
 }
 
 // All of them pushed, head first.

@@ -14,10 +14,10 @@ pub returns-then-not-known : goal.returns-then-not-known
 returns-then-not-known c =
     let a = c.args in
     rw (← c.smaller-r-end.ensures.value, items-below a.n c.smaller-r-end.result (λ (x : ℕ). (get_or a.slots.now x 0, get_or a.slots.now (8 + x) 0)))
-    (sym (all-miss c.smaller-r-end.result _ c.loop-r.r (search rules) (rw (← c.mask_at.ensures, ← c.mask_at-in-loop-r.ensures) c.if-not-known.true)))
+    (sym (all-miss c.smaller-r-end.result _ c.loop-r.r (search rules) (rw (← c.at_or.ensures, ← c.at_or-in-loop-r.ensures) c.if-not-known.true)))
 
 pub loop-r-preserved : goal.loop-r-preserved
-loop-r-preserved c = all_more c.loop-r.r _ c.loop-r.invariant (rw (← c.mask_at.ensures, ← c.mask_at-in-loop-r.ensures) c.if-not-known.false)
+loop-r-preserved c = all_more c.loop-r.r _ c.loop-r.invariant (rw (← c.at_or.ensures, ← c.at_or-in-loop-r.ensures) c.if-not-known.false)
 
 pub returns : goal.returns
 returns c =

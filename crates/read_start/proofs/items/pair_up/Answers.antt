@@ -10,7 +10,7 @@ loop-r-init c = none-paired _
 pub loop-r-preserved : goal.loop-r-preserved
 loop-r-preserved c =
     one-paired _ _ _ _ c.loop-r.invariant (omega arith) (search rules)
-    (c.put_word.ensures ∙ rw (c.slot_word-x.ensures, c.mask_at.ensures, c.mask_at-in-loop-r.ensures) refl)
+    (c.put_at.ensures ∙ rw (c.slot_word-x.ensures, c.at_or.ensures, c.at_or-in-loop-r.ensures) refl)
 
 pub returns : goal.returns
 returns c = all-paired _ _ _ c.loop-r.invariant (omega arith)

@@ -13,8 +13,8 @@ returns-then-n-eq0 c =
     let a = c.args in
     rises-none a.last (queue_in a.slots.now a.count) (omega (arith, length-take a.count a.slots.now, c.smaller-n.ensures.value, c.if-n-eq0.true))
 
-pub returns-then-mask_at : goal.returns-then-mask_at
-returns-then-mask_at c =
+pub returns-then-at_or : goal.returns-then-at_or
+returns-then-at_or c =
     let a = c.args in
     let r = c.loop-r.r in
     let least = c.loop-r.auto.r in
@@ -23,9 +23,9 @@ returns-then-mask_at c =
     ∙ rw (
       get_take a.slots.now a.count (r - 1) (omega arith),
       get_take a.slots.now a.count r few,
-      ← c.mask_at-in-loop-r.ensures,
-      ← c.mask_at.ensures,
-      le-ltb _ _ c.if-mask_at.true,
+      ← c.at_or-in-loop-r.ensures,
+      ← c.at_or.ensures,
+      le-ltb _ _ c.if-at_or.true,
     ) refl) ∙ c.loop-r.invariant
 
 pub loop-r-preserved : goal.loop-r-preserved
@@ -40,9 +40,9 @@ loop-r-preserved c =
     ∙ rw (
       get_take a.slots.now a.count (r - 1) (omega arith),
       get_take a.slots.now a.count r few,
-      ← c.mask_at-in-loop-r.ensures,
-      ← c.mask_at.ensures,
-      lt-ltb _ _ c.if-mask_at.false,
+      ← c.at_or-in-loop-r.ensures,
+      ← c.at_or.ensures,
+      lt-ltb _ _ c.if-at_or.false,
     ) refl) ∙ c.loop-r.invariant)
 
 pub returns : goal.returns
@@ -52,5 +52,5 @@ returns c =
     let some = c.if-n-eq0.false in
     let end : c.loop-r.r ≡ n = omega (arith, c.loop-r-test.false, c.loop-r.auto.r-end, some) in
     let few : n - 1 < a.count = omega (arith, c.smaller-n.ensures.value, some) in
-    rw (c.mask_at-2.ensures, sym (get_take a.slots.now a.count (n - 1) few))
+    rw (c.at_or-2.ensures, sym (get_take a.slots.now a.count (n - 1) few))
     (rises-end a.last (queue_in a.slots.now a.count) (n - 1) (omega (arith, length-take a.count a.slots.now, c.smaller-n.ensures.value, some)) ∙ (rw end at c.loop-r.invariant))
