@@ -148,7 +148,7 @@ fn slot_word(behavior: u32, stamp: u32) -> u32
     ensures { result ≡ in_word (pair_of behavior stamp) }
 {
     let s = (stamp as usize) * 8 + behavior as usize;
-    if s < 4294967296 { s as u32 } else { 0 }
+    u32::try_from(s).unwrap_or(0)
 }
 
 // Each of the first eight slots gets what its behavior and its stamp put there.
