@@ -3,7 +3,7 @@ ghost use Rattle.std.specs.Prelude.{◌≤◌};
 
 use model::{at_or, put_at};
 use read_items::Digits;
-use read_items::numbers::{Limits, Numbers, numbers_within};
+use read_items::numbers::{Limits, numbers_within};
 
 // A word by its halves.
 fn word_of(high: u32, low: u32) -> u32 {
@@ -15,7 +15,7 @@ pub(crate) fn read_words(text: &[u8], all: &mut [u32; 6358]) {
     let mut at: usize = 0;
     for _ in 0..8000 {
         let line = numbers_within(text, at, Digits::Seven, Limits::Three(6358, 65536, 65536));
-        let Numbers::Got(n, next) = line else {
+        let Ok((n, next)) = line else {
             return;
         };
         put_at(all, n.first as usize, word_of(n.second, n.third));
