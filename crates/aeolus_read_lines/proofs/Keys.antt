@@ -8,12 +8,11 @@ use lib.Dec.{ltb, leb-suc-suc}
 use borrow.Author.Tests.{ltb-true}
 use Rattle.item_spec.proofs.Tests.{and_left, and_right}
 use Rattle.item_spec.specs.Reader.{Reply, Reader, got, refused, read_on, give, check, no_line, bytes}
+use Rattle.item_spec.specs.declared.Refusal.{Refusal}
 use Rattle.item_spec.specs.Read.{given, key, upon, one_form}
-use Rattle.read_items.specs.Reads.{past, refusal, Reads}
+use Rattle.read_items.specs.Reads.{past, Reads}
 use Rattle.read_items.specs.declared.numbers.Four.{Four}
 use Rattle.read_items.specs.declared.numbers.Limits.TheVariants as limits
-use Rattle.read_items.specs.declared.numbers.Numbers.{Numbers}
-use Rattle.read_items.specs.declared.numbers.Numbers.TheVariants as numbers
 use Rattle.read_items.specs.Within.{numbers_says, numbers_within}
 use Rattle.read_items.proofs.Limits.{form-fault, limit-kept, verb-here}
 use Rattle.read_items.proofs.Shapes.{bind-same}
@@ -21,9 +20,10 @@ use Rattle.read_items.proofs.Within.{one-within, two-within, got-within}
 use Rattle.aeolus_model.specs.Model.{Universe, place_of}
 use Rattle.aeolus_read_spec.specs.Limits.{name_ok, number_ok, state_ok, above_ok, clauses_ok}
 use Rattle.aeolus_read_spec.specs.Kinds.{interface_name, interface_line, row_port, row_line}
-use Rattle.aeolus_read_lines.specs.declared.Kind.{Kind}
 use Rattle.aeolus_read_lines.specs.declared.Kind.TheVariants as kind
 use Rattle.aeolus_read_lines.specs.Kinds.{which_of, line_says}
+use Rattle.std.specs.declared.result.Result.{Result}
+use Rattle.std.specs.declared.result.Result.TheVariants.{Ok, Err}
 
 -- the reader of the key that stands here
 by_key : {A : Type 0} (a b c : List ℕ) (m : ℕ → Reader A) (s : List ℕ) → upon a (m 0) (upon b (m 1) (upon c (m 2) no_line)) s ≡ read_on (which_of a b c s) m
@@ -63,11 +63,7 @@ module _ (u : Universe) (k : ℕ) where
 pub row-few : (t : List ℕ) {s : List ℕ} {x : Four} {i : ℕ} → Reads s (past x i) (numbers_within 5 (limits.Two 256 65) t) → x.second ≤ 64
 row-few t {x = x} h = omega (arith, ltb-true x.second 65 (and_left (ltb x.second 65) _ (and_right (ltb x.first 256) _ (got-within 5 (limits.Two 256 65) t h))))
 
-pub state-numbers : (n : ℕ) (s t : List ℕ) (r : Numbers) → Reads s (numbers_says r) (numbers_within 5 (limits.One n) t)
+pub state-numbers : (n : ℕ) (s t : List ℕ) (r : Result (Four × ℕ) Refusal) → Reads s (numbers_says r) (numbers_within 5 (limits.One n) t)
     → Reads s (line_says kind.Initial r) (read_on (one_form 5 t) (λ a q. read_on (check (state_ok n a) 3 q) (λ _. give a)))
-state-numbers n s t (numbers.Got x i) h = rw (one-within 5 (λ (y : Four). give y.first) t n (state_ok n) (λ a. refl)) (limit-kept _ _ h refl)
-state-numbers n s t (numbers.Refused k) h = rw (one-within 5 (λ (y : Four). give y.first) t n (state_ok n) (λ a. refl)) (form-fault _ _ h)
-
-pub same-refusal : (c : Kind) (r : Numbers) → refusal (numbers_says r) ≡ refusal (line_says c r)
-same-refusal c (numbers.Got x n) = refl
-same-refusal c (numbers.Refused k) = refl
+state-numbers n s t (Ok (x, i)) h = rw (one-within 5 (λ (y : Four). give y.first) t n (state_ok n) (λ a. refl)) (limit-kept _ _ h refl)
+state-numbers n s t (Err k) h = rw (one-within 5 (λ (y : Four). give y.first) t n (state_ok n) (λ a. refl)) (form-fault _ _ h)

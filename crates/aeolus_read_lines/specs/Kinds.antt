@@ -2,10 +2,10 @@
 use Rattle.std.specs.Prelude.{ℕ, List}
 use Rattle.item_spec.specs.Reader.{Reader, bytes, ◌or◌, no_line, give}
 use Rattle.item_spec.specs.Read.{upon}
+use Rattle.item_spec.specs.Refusal.{number_of}
+use Rattle.item_spec.specs.declared.Refusal.{Refusal}
 use Rattle.read_items.specs.Reads.{Outcome, past, fault}
 use Rattle.read_items.specs.declared.numbers.Four.{Four}
-use Rattle.read_items.specs.declared.numbers.Numbers.{Numbers}
-use Rattle.read_items.specs.declared.numbers.Numbers.TheVariants as numbers
 use Rattle.read_spec.specs.Lines.{Lines, ◌>>=◌, hand_on, line}
 use Rattle.read_spec.specs.Kinds.{count_line}
 use Rattle.aeolus_model.specs.Model.{Universe, type_of, with_initial, with_to, with_number}
@@ -14,6 +14,8 @@ use Rattle.aeolus_read_spec.specs.Kinds.{interface_line, to_line, row_line}
 use Rattle.aeolus_read_spec.specs.Texts.{with_interface}
 use Rattle.aeolus_read_lines.specs.declared.Kind.{Kind}
 use Rattle.aeolus_read_lines.specs.declared.Kind.TheVariants as kind
+use Rattle.std.specs.declared.result.Result.{Result}
+use Rattle.std.specs.declared.result.Result.TheVariants.{Ok, Err}
 
 -- the number of the key that stands here, of three
 unfoldable pub which_of : List ℕ → List ℕ → List ℕ → Reader ℕ
@@ -32,9 +34,9 @@ value kind.Interface n = (n.first, n.second)
 value (kind.To q) n = n.first
 value (kind.Row q) n = (n.first, n.second, n.third)
 
-abbrev pub line_says : (c : Kind) → Numbers → Outcome (Value c)
-line_says c (numbers.Got x n) = past (value c x) n
-line_says c (numbers.Refused k) = fault k
+abbrev pub line_says : (c : Kind) → Result (Four × ℕ) Refusal → Outcome (Value c)
+line_says c (Ok (x, n)) = past (value c x) n
+line_says c (Err r) = fault (number_of r)
 
 -- the line of a kind in type k, of interfaces the one with number j
 abbrev pub line_of : (c : Kind) → ℕ → ℕ → Universe → Reader (Value c)

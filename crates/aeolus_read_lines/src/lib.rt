@@ -3,19 +3,18 @@
 #![tactic(auto)]
 
 ghost use Rattle.std.specs.Prelude.{◌≡◌};
-ghost use Rattle.read_items.specs.Reads.{Reads, refusal};
+ghost use Rattle.read_items.specs.Reads.{Reads};
 ghost use Rattle.read_items.specs.Says.{number_says};
-ghost use Rattle.read_items.specs.declared.numbers.Numbers.TheVariants.{Got};
-ghost use Rattle.read_items.specs.Within.{four, numbers_says};
+ghost use Rattle.read_items.specs.Within.{four};
 ghost use Rattle.aeolus_model.specs.Words.{universe_in};
 ghost use Rattle.aeolus_read_spec.specs.Limits.{above_ok, listed_ok, clauses_ok};
 ghost use Rattle.aeolus_read_lines.specs.declared.Kind.TheVariants.{Initial, To, Interface, Row};
 ghost use Rattle.aeolus_read_lines.specs.Kinds.{which_of, line_of, line_says};
 
 use aeolus_model::Universe;
-use item_spec::{BAD_CLAUSE, BAD_FORM, BEYOND_LIMIT};
-use read_items::numbers::{Four, Limits, Numbers};
-use read_items::{Digits, Due, Number, OneList};
+use item_spec::Refusal;
+use read_items::Digits;
+use read_items::numbers::{Four, Limits};
 
 // The initial state of a type, an interface, and of a state where it may change to and a row.
 #[derive(Clone, Copy)]
@@ -31,58 +30,57 @@ const PROVISION: u32 = 0;
 
 const STRONG: u32 = 2;
 
-// Which of three keys the line starts with, from 0 up.
-fn which_key(s: &[u8], first: &[u8], second: &[u8], third: &[u8]) -> Number
-    ensures { Reads s.now (number_says result)
-        (which_of first.now second.now third.now s.now) }
+// Which of three keys the line starts with, from 0 up, and the place past it.
+fn which_key(s: &[u8], first: &[u8], second: &[u8], third: &[u8]) -> Option<(u32, usize)>
+    ensures { Reads s.now (number_says result) (which_of first.now second.now third.now s.now) }
 {
-    if let Due::Past(i) = read_items::past_key(s, 0, first) {
-        return Number::Got(0, i);
+    if let Some(i) = read_items::past_key(s, 0, first) {
+        return Some((0, i));
     }
-    if let Due::Past(i) = read_items::past_key(s, 0, second) {
-        return Number::Got(1, i);
+    if let Some(i) = read_items::past_key(s, 0, second) {
+        return Some((1, i));
     }
-    if let Due::Past(i) = read_items::past_key(s, 0, third) {
-        return Number::Got(2, i);
+    if let Some(i) = read_items::past_key(s, 0, third) {
+        return Some((2, i));
     }
-    Number::Fault
+    None
 }
 
-// The numbers of a line that was read, and the bytes that it used.
-fn got(first: u32, second: u32, third: u32, used: usize) -> Numbers
-    ensures { result ≡ Got (four first second third 0) used }
+// The numbers of a line that was read.
+fn numbers_of(first: u32, second: u32, third: u32) -> Four
+    ensures { result ≡ four first second third 0 }
 {
-    let numbers = Four {
+    Four {
         first,
         second,
         third,
         fourth: 0,
-    };
-    Numbers::Got(numbers, used)
+    }
 }
 
 // `initial=`: a state of type k.
-fn initial_line(s: &[u8], k: u32, universe: &Universe) -> Numbers
+fn initial_line(s: &[u8], k: u32, universe: &Universe) -> Result<(Four, usize), Refusal>
     ensures { Reads s.now (line_says Initial result) (line_of Initial k 0 (universe_in universe.now) s.now) }
 {
     let states = aeolus_model::states_of(universe, k);
-    let Due::Past(at) = read_items::past_key(s, 0, b"initial=") else {
-        return Numbers::Refused(BAD_FORM);
+    let Some(at) = read_items::past_key(s, 0, b"initial=") else {
+        return Err(Refusal::BadForm);
     };
     read_items::numbers::numbers_within(s, at, Digits::Five, Limits::One(states))
 }
 
 // `to=` list of states of type k.
-fn to_line(s: &[u8], k: u32, q: u32, universe: &Universe) -> Numbers
+fn to_line(s: &[u8], k: u32, q: u32, universe: &Universe) -> Result<(Four, usize), Refusal>
     ensures { Reads s.now (line_says (To q) result) (line_of (To q) k 0 (universe_in universe.now) s.now) }
 {
-    let OneList::Got(mask, top, used) = read_items::list_line(s, b"to=", Digits::Five) else {
-        return Numbers::Refused(BAD_FORM);
+    let Some((list, used)) = read_items::list_line(s, b"to=", Digits::Five) else {
+        return Err(Refusal::BadForm);
     };
-    if aeolus_model::states_of(universe, k) < top {
-        return Numbers::Refused(BEYOND_LIMIT);
+    let beyond = aeolus_model::states_of(universe, k) < list.top;
+    if beyond {
+        return Err(Refusal::BeyondLimit);
     }
-    got(mask, 0, 0, used)
+    Ok((numbers_of(list.mask, 0, 0), used))
 }
 
 // The name is above that of the interface before it.
@@ -96,26 +94,23 @@ fn above(universe: &Universe, k: u32, j: u32, name: u32) -> bool
 }
 
 // `interface=`: interface j of type k, as its kind and its name.
-fn interface_line(s: &[u8], k: u32, j: u32, universe: &Universe) -> Numbers
+fn interface_line(s: &[u8], k: u32, j: u32, universe: &Universe) -> Result<(Four, usize), Refusal>
     ensures { Reads s.now (line_says Interface result) (line_of Interface k j (universe_in universe.now) s.now) }
 {
-    let Number::Got(kind, at) = which_key(
+    let Some((kind, at)) = which_key(
         s,
         b"interface=provide,",
         b"interface=require,",
         b"interface=both,",
     ) else {
-        return Numbers::Refused(BAD_FORM);
+        return Err(Refusal::BadForm);
     };
-    let line = read_items::numbers::numbers_within(s, at, Digits::Five, Limits::One(256));
-    let Numbers::Got(n, used) = line else {
-        return line;
-    };
+    let (n, used) = read_items::numbers::numbers_within(s, at, Digits::Five, Limits::One(256))?;
     let name = n.first;
     if above(universe, k, j, name) {
-        return got(kind, name, 0, used);
+        return Ok((numbers_of(kind, name, 0), used));
     }
-    Numbers::Refused(BAD_CLAUSE)
+    Err(Refusal::BadClause)
 }
 
 // The type has the interface on the side of the map m.
@@ -139,27 +134,30 @@ fn keeps_clauses(universe: &Universe, k: u32, q: u32, m: u32, name: u32) -> bool
 }
 
 // `provide=`, `weak=` or `strong=`: the map, the place of the interface, and one more than the number.
-fn row_line(s: &[u8], k: u32, q: u32, universe: &Universe) -> Numbers
+fn row_line(s: &[u8], k: u32, q: u32, universe: &Universe) -> Result<(Four, usize), Refusal>
     ensures { Reads s.now (line_says (Row q) result) (line_of (Row q) k 0 (universe_in universe.now) s.now) }
 {
-    let Number::Got(m, at) = which_key(s, b"provide=", b"weak=", b"strong=") else {
-        return Numbers::Refused(BAD_FORM);
+    let Some((m, at)) = which_key(s, b"provide=", b"weak=", b"strong=") else {
+        return Err(Refusal::BadForm);
     };
-    let line = read_items::numbers::numbers_within(s, at, Digits::Five, Limits::Two(256, 65));
-    let Numbers::Got(n, used) = line else {
-        return line;
-    };
+    let (n, used) = read_items::numbers::numbers_within(s, at, Digits::Five, Limits::Two(256, 65))?;
     let name = n.first;
     if keeps_clauses(universe, k, q, m, name) {
         let place = aeolus_model::place_of(universe, k, name);
         let more = n.second + 1;
-        return got(m, place, more, used);
+        return Ok((numbers_of(m, place, more), used));
     }
-    Numbers::Refused(BAD_CLAUSE)
+    Err(Refusal::BadClause)
 }
 
 // The line of a kind in type k, of interfaces the one with number j.
-pub fn kind_line(s: &[u8], kind: Kind, k: u32, j: u32, universe: &Universe) -> Numbers
+pub fn kind_line(
+    s: &[u8],
+    kind: Kind,
+    k: u32,
+    j: u32,
+    universe: &Universe,
+) -> Result<(Four, usize), Refusal>
     ensures { Reads s.now (line_says kind result) (line_of kind k j (universe_in universe.now) s.now) }
 {
     match kind {

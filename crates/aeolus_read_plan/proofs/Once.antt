@@ -2,16 +2,19 @@
 -- Assumes nothing.
 use mathlib.Core.Path.{refl, sym, ap, ◌∙◌}
 use Rattle.read_items.specs.Reads.{past, fault, NoOther}
-use Rattle.read_items.proofs.Once.{no_other}
+use Rattle.read_items.proofs.Once.{no_other, refusal_by, refusal-back}
 use Rattle.read_chain.specs.Whole.{Whole}
 use Rattle.aeolus_model.specs.Action.{Plan}
 use Rattle.aeolus_model.proofs.Told.{plan-words}
-use Rattle.aeolus_read_plan.specs.declared.StepLine.TheVariants as line
 use Rattle.aeolus_read_plan.specs.Says.{step_says}
 use Rattle.aeolus_read_plan.specs.Once.{NoOtherPlan}
+use Rattle.std.specs.declared.result.Result.TheVariants.{Ok, Err}
 
 pub step-once : NoOther step_says
-step-once = no_other step_says (elim [ past x n ↦ line.Got x n | fault k ↦ line.Refused k ]) (elim [ line.Got x n ↦ refl | line.Refused k ↦ refl ])
+step-once =
+    no_other step_says
+    (elim [ past x n ↦ Ok (x, n) | fault k ↦ Err (refusal_by k) ])
+    (elim [ Ok (x, n) ↦ refl | Err r ↦ ap Err (refusal-back r) ])
 
 pub plan-once : NoOtherPlan
 unfolding NoOtherPlan

@@ -1,3 +1,3 @@
--- What each case of a step line's enum says (Says), and that no other outcome fits (Once).
+-- What a step line's answer says (Says), and that no other outcome fits (Once).
 pub mod Says
 pub mod Once

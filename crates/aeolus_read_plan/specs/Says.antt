@@ -1,6 +1,7 @@
--- What each case of a step line's enum says: the step and the bytes used, or the number; and what follows a verb.
+-- What a step line's answer says: the step and the bytes used, or 01's number; and what follows a verb.
 use Rattle.std.specs.Prelude.{ℕ, ◌&&◌, not, leb, eqb}
-use Rattle.item_spec.specs.Refusal.{bad_clause}
+use Rattle.item_spec.specs.Refusal.{bad_clause, number_of}
+use Rattle.item_spec.specs.declared.Refusal.{Refusal}
 use Rattle.item_spec.specs.Reader.{Reader, ◌>>=◌, ◌>>◌, give, check}
 use Rattle.read_spec.specs.Limits.{five_digits}
 use Rattle.read_items.specs.Reads.{Outcome, past, fault}
@@ -9,12 +10,12 @@ use Rattle.read_items.specs.Within.{numbers_within}
 use Rattle.aeolus_model.specs.declared.Step.{Step}
 use Rattle.aeolus_model.specs.Action.{bind_verb}
 use Rattle.aeolus_read_spec.specs.Kinds.{step}
-use Rattle.aeolus_read_plan.specs.declared.StepLine.{StepLine}
-use Rattle.aeolus_read_plan.specs.declared.StepLine.TheVariants.{Got, Refused}
+use Rattle.std.specs.declared.result.Result.{Result}
+use Rattle.std.specs.declared.result.Result.TheVariants.{Ok, Err}
 
-abbrev pub step_says : StepLine → Outcome Step
-step_says (Got x n) = past x n
-step_says (Refused k) = fault k
+abbrev pub step_says : Result (Step × ℕ) Refusal → Outcome Step
+step_says (Ok (x, n)) = past x n
+step_says (Err r) = fault (number_of r)
 
 -- so many numbers, and of `bind` and `unbind` two ends that differ
 unfoldable pub step_numbers : ℕ → Limits → Reader Step

@@ -1,8 +1,8 @@
 // The lines of the types, each put into what was read so far.
-ghost use Rattle.std.specs.Prelude.{◌≡◌};
+ghost use Rattle.std.specs.Prelude.{◌≡◌, drop};
 ghost use Rattle.sets.specs.Mask.{with};
 ghost use Rattle.read_spec.specs.Lines.{each};
-ghost use Rattle.read_chain.specs.Chain.{After};
+ghost use Rattle.read_lines.specs.Runs.{RunsTo, came};
 ghost use Rattle.aeolus_model.specs.Model.{type_of, with_provides, with_requires};
 ghost use Rattle.aeolus_model.specs.Words.{universe_in};
 ghost use Rattle.aeolus_read_spec.specs.Texts.{with_interface, state_at, type_at};
@@ -10,9 +10,8 @@ ghost use Rattle.aeolus_read_lines.specs.Kinds.{value, put_in, line_at};
 
 use aeolus_model::Universe;
 use aeolus_read_lines::{Kind, kind_line};
-use read_chain::{LinesRead, NumberRead};
-use read_items::numbers::{Four, Numbers};
-use read_lines::Went;
+use read_items::numbers::Four;
+use read_lines::LineFault;
 
 // The codes of the interfaces' kinds.
 const PROVIDE: u32 = 0;
@@ -72,110 +71,108 @@ fn put_line(universe: &mut Universe, kind: Kind, k: u32, j: u32, numbers: Four)
     }
 }
 
-// The next line, of a kind in type k.
-fn then_line(
+// The line at a place, of a kind in type k.
+fn read_line(
     text: &[u8],
-    read: LinesRead,
+    start: usize,
     kind: Kind,
     k: u32,
     j: u32,
     universe: &mut Universe,
-) -> LinesRead
-    ensures { After text.now read (line_at kind k j (universe_in universe.old)) result (universe_in universe.new) }
+) -> Result<usize, LineFault>
+    ensures { RunsTo text.now (came result (universe_in universe.new))
+        (line_at kind k j (universe_in universe.old) (drop start text.now)) }
 {
-    let went = read.went;
-    let Went::On = went else {
-        return read;
-    };
-    let at = read_items::place_in(text, read.at);
-    let line = kind_line(&text[at..], kind, k, j, universe);
-    let Numbers::Got(numbers, used) = line else {
-        let refused = read_items::numbers::refusal(line);
-        let went = Went::Stop(refused);
-        return LinesRead { went, at };
-    };
+    let at = read_items::place_in(text, start);
+    let (numbers, used) = read_chain::line_at(at, kind_line(&text[at..], kind, k, j, universe))?;
     put_line(universe, kind, k, j, numbers);
-    let next = at + used;
-    let went = Went::On;
-    LinesRead { went, at: next }
+    Ok(at + used)
 }
 
 // As many lines of a kind as the last line said.
-fn then_lines(
+fn read_lines(
     text: &[u8],
-    count: NumberRead,
+    start: usize,
+    count: u32,
     kind: Kind,
     k: u32,
     universe: &mut Universe,
-) -> LinesRead
-    ensures { After text.now count.read (each (line_at kind k) count.number 0 (universe_in universe.old)) result
-        (universe_in universe.new) }
+) -> Result<usize, LineFault>
+    ensures { RunsTo text.now (came result (universe_in universe.new))
+        (each (line_at kind k) count 0 (universe_in universe.old) (drop start text.now)) }
 {
-    let most = count.number;
-    let mut read = read_chain::then_nothing(text, count.read);
-    let mut i: u32 = 0;
-    while (i < most) & read_chain::goes_on(read) {
-        read = then_line(text, read, kind, k, i, universe);
-        i = i + 1;
+    let mut at = read_items::place_in(text, start);
+    for i in 0..count {
+        at = read_line(text, at, kind, k, i, universe)?;
     }
-    read
+    Ok(at)
 }
 
 // The lines of state q of type k.
-fn then_state(text: &[u8], read: LinesRead, k: u32, q: u32, universe: &mut Universe) -> LinesRead
-    ensures { After text.now read (state_at k q (universe_in universe.old)) result (universe_in universe.new) }
+fn read_state(
+    text: &[u8],
+    start: usize,
+    k: u32,
+    q: u32,
+    universe: &mut Universe,
+) -> Result<usize, LineFault>
+    ensures { RunsTo text.now (came result (universe_in universe.new))
+        (state_at k q (universe_in universe.old) (drop start text.now)) }
 {
-    let due = read_chain::then_due(text, read, b"state=", q);
-    let to = then_line(text, due, Kind::To(q), k, 0, universe);
-    let active = read_chain::then_within(text, to, b"active=", 0, 48);
-    then_lines(text, active, Kind::Row(q), k, universe)
+    let at = read_chain::due_run(text, start, b"state=", q)?;
+    let at = read_line(text, at, Kind::To(q), k, 0, universe)?;
+    let (active, at) = read_chain::within_run(text, at, b"active=", 0, 48)?;
+    read_lines(text, at, active, Kind::Row(q), k, universe)
 }
 
 // So many states.
-fn then_states(text: &[u8], count: NumberRead, k: u32, universe: &mut Universe) -> LinesRead
-    ensures { After text.now count.read (each (state_at k) count.number 0 (universe_in universe.old)) result
-        (universe_in universe.new) }
+fn read_states(
+    text: &[u8],
+    start: usize,
+    count: u32,
+    k: u32,
+    universe: &mut Universe,
+) -> Result<usize, LineFault>
+    ensures { RunsTo text.now (came result (universe_in universe.new))
+        (each (state_at k) count 0 (universe_in universe.old) (drop start text.now)) }
 {
-    let most = count.number;
-    let mut read = read_chain::then_nothing(text, count.read);
-    let mut q: u32 = 0;
-    while (q < most) & read_chain::goes_on(read) {
-        read = then_state(text, read, k, q, universe);
-        q = q + 1;
+    let mut at = read_items::place_in(text, start);
+    for q in 0..count {
+        at = read_state(text, at, k, q, universe)?;
     }
-    read
+    Ok(at)
 }
 
 // The lines of type k.
-fn then_type(text: &[u8], read: LinesRead, k: u32, universe: &mut Universe) -> LinesRead
-    ensures { After text.now read (type_at k (universe_in universe.old)) result (universe_in universe.new) }
+fn read_type(text: &[u8], start: usize, k: u32, universe: &mut Universe) -> Result<usize, LineFault>
+    ensures { RunsTo text.now (came result (universe_in universe.new))
+        (type_at k (universe_in universe.old) (drop start text.now)) }
 {
-    let due = read_chain::then_due(text, read, b"type=", k);
-    let states = read_chain::then_within(text, due, b"states=", 1, 16);
-    aeolus_model::put_states(universe, k, states.number);
-    let initial = then_line(text, states.read, Kind::Initial, k, 0, universe);
-    let listed = read_chain::then_within(text, initial, b"interfaces=", 0, 16);
-    aeolus_model::put_interfaces(universe, k, listed.number);
-    let read = listed.read;
-    let number = aeolus_model::interfaces_of(universe, k);
-    let count = NumberRead { read, number };
-    let read = then_lines(text, count, Kind::Interface, k, universe);
-    let number = aeolus_model::states_of(universe, k);
-    let count = NumberRead { read, number };
-    then_states(text, count, k, universe)
+    let at = read_chain::due_run(text, start, b"type=", k)?;
+    let (states, at) = read_chain::within_run(text, at, b"states=", 1, 16)?;
+    aeolus_model::put_states(universe, k, states);
+    let at = read_line(text, at, Kind::Initial, k, 0, universe)?;
+    let (listed, at) = read_chain::within_run(text, at, b"interfaces=", 0, 16)?;
+    aeolus_model::put_interfaces(universe, k, listed);
+    let interfaces = aeolus_model::interfaces_of(universe, k);
+    let at = read_lines(text, at, interfaces, Kind::Interface, k, universe)?;
+    let states = aeolus_model::states_of(universe, k);
+    read_states(text, at, states, k, universe)
 }
 
 // As many types as the last line said.
-pub(crate) fn then_types(text: &[u8], count: NumberRead, universe: &mut Universe) -> LinesRead
-    ensures { After text.now count.read (each type_at count.number 0 (universe_in universe.old)) result
-        (universe_in universe.new) }
+pub(crate) fn read_types(
+    text: &[u8],
+    start: usize,
+    count: u32,
+    universe: &mut Universe,
+) -> Result<usize, LineFault>
+    ensures { RunsTo text.now (came result (universe_in universe.new))
+        (each type_at count 0 (universe_in universe.old) (drop start text.now)) }
 {
-    let most = count.number;
-    let mut read = read_chain::then_nothing(text, count.read);
-    let mut k: u32 = 0;
-    while (k < most) & read_chain::goes_on(read) {
-        read = then_type(text, read, k, universe);
-        k = k + 1;
+    let mut at = read_items::place_in(text, start);
+    for k in 0..count {
+        at = read_type(text, at, k, universe)?;
     }
-    read
+    Ok(at)
 }

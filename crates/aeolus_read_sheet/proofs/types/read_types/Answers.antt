@@ -1,0 +1,18 @@
+use mathlib.Core.Path.{sym}
+use native.Mathlib.Nat.{zero-add}
+use Rattle.read_items.proofs.Laws.{handed_on}
+use Rattle.read_lines.proofs.Runs.{upto_turn, upto-stop, upto-end}
+use Rattle.aeolus_read_spec.specs.Texts.{type_at}
+use Rattle.aeolus_read_sheet.proofs.types.read_types.Goals as goal
+
+pub returns-in_err-at : goal.returns-in_err-at
+returns-in_err-at c =
+    rw (handed_on _ c.from_residual.ensures.1)
+    (upto-stop type_at _ 0 _ _ _ c.loop-k.invariant c.loop-k-test.true _ (sym (zero-add _)) c.in_err-at.ensures)
+
+pub loop-k-preserved : goal.loop-k-preserved
+loop-k-preserved c =
+    upto_turn type_at _ 0 _ _ _ c.loop-k.invariant c.loop-k-test.true _ (sym (zero-add _)) c.in_ok-at.ensures
+
+pub returns : goal.returns
+returns c = upto-end type_at _ 0 _ _ _ c.loop-k.invariant c.loop-k-test.false
