@@ -1,7 +1,7 @@
 use borrow.Author.Rules.{rules}
 use borrow.Author.Tests.{eq-eqb, ne_eqb}
 use Rattle.write_items.proofs.Laws.{none, length-written}
-use Rattle.passlist_spec.specs.Listed.{place_of, line_text}
+use Rattle.passlist_spec.specs.Listed.{line_text}
 use Rattle.passlist_lib.proofs.write_line.Statement.{statement}
 use Rattle.passlist_lib.proofs.write_line.Tie as tie
 
