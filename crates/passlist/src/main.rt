@@ -5,7 +5,7 @@
 #![tactic(auto)]
 
 use passlist_lib::{count_line, write_line};
-use passlist_spec::{Pass, PassRead, Wrong};
+use passlist_spec::{Pass, Wrong};
 use program_input::{Left, Part, Went, argument, at_most, no_parts_yet, print};
 use std::io::Read;
 use write_items::write_byte;
@@ -114,7 +114,7 @@ fn main(rt: HostRuntime) {
     let size = argument(&rt, 2, &mut word);
     let used = write_byte(&mut word, size, b'\n');
     let n = at_most(used, &word);
-    let PassRead::Got(pass) = passlist_lib::read_pass(&word[..n]) else {
+    let Some(pass) = passlist_lib::read_pass(&word[..n]) else {
         io::write_all(
             STDERR_FILENO,
             b"passlist: PASS is 0 to 1000, or - for a paper without times\n",

@@ -16,13 +16,11 @@ use Rattle.read_items.proofs.Laws.{from}
 use Rattle.passlist_spec.specs.declared.Cell.{Cell}
 use Rattle.passlist_spec.specs.declared.Cell.TheVariants.{Number}
 use Rattle.passlist_spec.specs.declared.Pass.{Pass}
-use Rattle.passlist_spec.specs.declared.PassRead.TheVariants as read
+use Rattle.std.specs.declared.option.Option.TheVariants.{Some, None}
 use Rattle.passlist_spec.specs.declared.Said.{Said}
 use Rattle.passlist_spec.specs.declared.Said.TheVariants as said
-use Rattle.passlist_spec.specs.declared.Mark.{Mark}
-use Rattle.passlist_spec.specs.declared.Mark.TheVariants.{Of}
 use Rattle.passlist_spec.specs.declared.Standing.TheVariants.{NoRow}
-use Rattle.passlist_spec.specs.Row.{name_cell, in_cell, past_cell, said_cell, three_cells, mark_of, over, last_mark, number_cells, row_says}
+use Rattle.passlist_spec.specs.Row.{Mark, name_cell, in_cell, past_cell, said_cell, three_cells, mark_of, over, last_mark, number_cells, row_says}
 use Rattle.passlist_spec.specs.Standing.{pass_of, pass_in, standing_by, standing}
 
 -- ---- a cell, at the place i
@@ -73,7 +71,7 @@ unfolding over
 end-not s i h = rw (from s i h)
 
 -- ---- a mark
-pub mark-few : (m i : ℕ) (s : List ℕ) → i ≤ length s → m ≤ 1000 → Reads s (past (Of m) i) (mark_of m (drop i s))
+pub mark-few : (m i : ℕ) (s : List ℕ) → i ≤ length s → m ≤ 1000 → Reads s (past (Some m) i) (mark_of m (drop i s))
 unfolding mark_of
 mark-few m i s h l = record { within = h; same = rw (le-leb m 1000 l) }
 
@@ -149,10 +147,10 @@ module _ {s : List ℕ} where
   unfolding standing
   row_is p h = rw (← h.same, standing)
 
-  pub pass-fault : {k : ℕ} → Reads s (fault k) (last_mark (bytes "-\n") s) → read.Fault ≡ pass_in s
+  pub pass-fault : {k : ℕ} → Reads s (fault k) (last_mark (bytes "-\n") s) → None ≡ pass_in s
   unfolding pass_in
   pass-fault h = rw (← h.same, pass_in)
 
-  pub pass-is : {m : Mark} {i : ℕ} → Reads s (past m i) (last_mark (bytes "-\n") s) → read.Got (pass_of m) ≡ pass_in s
+  pub pass-is : {m : Mark} {i : ℕ} → Reads s (past m i) (last_mark (bytes "-\n") s) → Some (pass_of m) ≡ pass_in s
   unfolding pass_in
   pass-is h = rw (← h.same, pass_in)

@@ -1,2 +1,2 @@
--- What each case of an enum says (Says).
+-- What the readers of cells say (Says).
 pub mod Says

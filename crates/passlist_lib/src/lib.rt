@@ -11,21 +11,18 @@ ghost use Rattle.passlist_spec.specs.Row.{name_cell};
 ghost use Rattle.passlist_spec.specs.Standing.{pass_in, by_mark, when_done, when_not, when_absent, standing_by, standing, passed_line};
 ghost use Rattle.passlist_spec.specs.Listed.{place_of, sum, line_standing, counted, line_text, count_text, candidates, counts_text, wrong_in};
 
-use cells::{MarkRead, SaidRead, head_standing, last_mark, number_cells, past_cell, said_at};
-use passlist_spec::{Cell, Mark, Pass, PassRead, Said, Standing, Wrong};
-use read_items::Due;
+use cells::{head_standing, last_mark, number_cells, past_cell, said_at};
+use passlist_spec::{Cell, Pass, Said, Standing, Wrong};
 use write_items::{write_byte, write_key};
 
 // PASS as a script hands it over, with a line's end.
-pub fn read_pass(word: &[u8]) -> PassRead
+pub fn read_pass(word: &[u8]) -> Option<Pass>
     ensures { result ≡ pass_in word.now }
 {
-    let MarkRead::Got(mark, _) = last_mark(word, 0, b"-\n") else {
-        return PassRead::Fault;
-    };
+    let (mark, _) = last_mark(word, 0, b"-\n")?;
     match mark {
-        Mark::Of(n) => PassRead::Got(Pass::AtLeast(n)),
-        Mark::Empty => PassRead::Got(Pass::NoTimes),
+        Some(n) => Some(Pass::AtLeast(n)),
+        None => Some(Pass::NoTimes),
     }
 }
 
@@ -38,46 +35,46 @@ fn by_mark(n: u32, m: u32) -> Standing
     Standing::Below
 }
 
-fn done_standing(pass: Pass, mark: Mark) -> Standing
+fn done_standing(pass: Pass, mark: Option<u32>) -> Standing
     ensures { result ≡ when_done pass mark }
 {
     match pass {
         Pass::AtLeast(n) => match mark {
-            Mark::Of(m) => by_mark(n, m),
-            Mark::Empty => Standing::OtherKind,
+            Some(m) => by_mark(n, m),
+            None => Standing::OtherKind,
         },
         Pass::NoTimes => match mark {
-            Mark::Of(_) => Standing::OtherKind,
-            Mark::Empty => Standing::Passed,
+            Some(_) => Standing::OtherKind,
+            None => Standing::Passed,
         },
     }
 }
 
-fn other_standing(pass: Pass, mark: Mark, standing: Standing) -> Standing
+fn other_standing(pass: Pass, mark: Option<u32>, standing: Standing) -> Standing
     ensures { result ≡ when_not pass mark standing }
 {
     match pass {
         Pass::AtLeast(_) => match mark {
-            Mark::Of(_) => standing,
-            Mark::Empty => Standing::OtherKind,
+            Some(_) => standing,
+            None => Standing::OtherKind,
         },
         Pass::NoTimes => match mark {
-            Mark::Of(_) => Standing::OtherKind,
-            Mark::Empty => standing,
+            Some(_) => Standing::OtherKind,
+            None => standing,
         },
     }
 }
 
-fn absent_standing(mark: Mark) -> Standing
+fn absent_standing(mark: Option<u32>) -> Standing
     ensures { result ≡ when_absent mark }
 {
     match mark {
-        Mark::Of(_) => Standing::NoRow,
-        Mark::Empty => Standing::Absent,
+        Some(_) => Standing::NoRow,
+        None => Standing::Absent,
     }
 }
 
-fn standing_by(pass: Pass, said: Said, mark: Mark) -> Standing
+fn standing_by(pass: Pass, said: Said, mark: Option<u32>) -> Standing
     ensures { result ≡ standing_by pass said mark }
 {
     match said {
@@ -93,13 +90,13 @@ fn standing_by(pass: Pass, said: Said, mark: Mark) -> Standing
 fn row_standing(pass: Pass, row: &[u8]) -> Standing
     ensures { result ≡ standing pass row.now }
 {
-    let Due::Past(a) = past_cell(row, 0, Cell::Name) else {
+    let Some(a) = past_cell(row, 0, Cell::Name) else {
         return Standing::NoRow;
     };
-    let SaidRead::Got(said, b) = said_at(row, a) else {
+    let Some((said, b)) = said_at(row, a) else {
         return Standing::NoRow;
     };
-    let MarkRead::Got(mark, _) = number_cells(row, b) else {
+    let Some((mark, _)) = number_cells(row, b) else {
         return Standing::NoRow;
     };
     standing_by(pass, said, mark)

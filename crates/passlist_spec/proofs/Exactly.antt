@@ -14,7 +14,7 @@ use Rattle.outcome_spec.specs.declared.Outcome.TheVariants.{Done, Unfinished, Re
 use Rattle.outcome_spec.specs.Outcome.{outcome_of}
 use Rattle.register_spec.specs.Row.{row_of}
 use Rattle.passlist_spec.specs.declared.Pass.TheVariants.{AtLeast, NoTimes}
-use Rattle.passlist_spec.specs.declared.Mark.TheVariants as mark
+use Rattle.std.specs.declared.option.Option.TheVariants as mark
 use Rattle.passlist_spec.specs.declared.Standing.{Standing}
 use Rattle.passlist_spec.specs.declared.Standing.TheVariants as stands
 use Rattle.passlist_spec.specs.Listed.{place_of}
@@ -28,14 +28,14 @@ other n e h p = let z : n ≡ 0 = sym e ∙ ap place_of p in absurd (omega arith
 
 -- ---- with times
 
-passed-so : (o : Outcome) (n m : ℕ) → standing_for (AtLeast n) o (mark.Of m) ≡ stands.Passed → (o ≡ Done) × (n ≤ m)
+passed-so : (o : Outcome) (n m : ℕ) → standing_for (AtLeast n) o (mark.Some m) ≡ stands.Passed → (o ≡ Done) × (n ≤ m)
 passed-so Done n m e = by-test (leb n m) (λ q. (refl, leb-true n m q)) (λ q. other 1 refl (omega arith) (rw q at e))
 passed-so Unfinished n m e = other 2 refl (omega arith) e
 passed-so Refused n m e = other 3 refl (omega arith) e
 passed-so Fault n m e = other 4 refl (omega arith) e
 passed-so OfPaper n m e = other 7 refl (omega arith) e
 
-passes-so : (o : Outcome) (n m : ℕ) → o ≡ Done → n ≤ m → standing_for (AtLeast n) o (mark.Of m) ≡ stands.Passed
+passes-so : (o : Outcome) (n m : ℕ) → o ≡ Done → n ≤ m → standing_for (AtLeast n) o (mark.Some m) ≡ stands.Passed
 passes-so o n m e h = rw (e, le-leb n m h)
 
 pub passes-exactly : PassesExactly
@@ -46,7 +46,7 @@ passes-exactly name s x a n =
 
 -- ---- without
 
-passed-untimed : (o : Outcome) → standing_for NoTimes o mark.Empty ≡ stands.Passed → o ≡ Done
+passed-untimed : (o : Outcome) → standing_for NoTimes o mark.None ≡ stands.Passed → o ≡ Done
 passed-untimed Done e = refl
 passed-untimed Unfinished e = other 2 refl (omega arith) e
 passed-untimed Refused e = other 3 refl (omega arith) e

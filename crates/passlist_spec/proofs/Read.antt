@@ -26,8 +26,8 @@ use Rattle.passlist_spec.specs.declared.Pass.{Pass}
 use Rattle.passlist_spec.specs.declared.Cell.{Cell}
 use Rattle.passlist_spec.specs.declared.Cell.TheVariants as kind
 use Rattle.passlist_spec.specs.declared.Said.TheVariants as said
-use Rattle.passlist_spec.specs.declared.Mark.{Mark}
-use Rattle.passlist_spec.specs.declared.Mark.TheVariants as mark
+use Rattle.passlist_spec.specs.Row.{Mark}
+use Rattle.std.specs.declared.option.Option.TheVariants as mark
 use Rattle.passlist_spec.specs.declared.Standing.{Standing}
 use Rattle.passlist_spec.specs.declared.Standing.TheVariants as stands
 use Rattle.passlist_spec.specs.Row.{name_cell, in_cell, past_cell, said_cell, three_cells, mark_of, mark_or, over, last_mark, number_cells, row_says}
@@ -72,13 +72,13 @@ port-in (UsePort q) = number-in q
 
 -- the mark as its cell says it
 abbrev pub mark_said : Bool → ℕ → Mark
-mark_said true m = mark.Of m
-mark_said false m = mark.Empty
+mark_said true m = mark.Some m
+mark_said false m = mark.None
 
-number_read : (s : List ℕ) (v : ℕ) (r : List ℕ) → v ≤ 1000 → one_form 5 s ≡ got v r → mark_or (bytes "\n") s ≡ got (mark.Of v) r
+number_read : (s : List ℕ) (v : ℕ) (r : List ℕ) → v ≤ 1000 → one_form 5 s ≡ got v r → mark_or (bytes "\n") s ≡ got (mark.Some v) r
 unfolding mark_or mark_of
 number_read s v r h e =
-    ap (λ (z : Reply ℕ). elim z [ got a q ↦ mark_of a q | refused n ↦ upon (bytes "\n") (give mark.Empty) no_line s ]) e ∙ rw (le-leb v 1000 h)
+    ap (λ (z : Reply ℕ). elim z [ got a q ↦ mark_of a q | refused n ↦ upon (bytes "\n") (give mark.None) no_line s ]) e ∙ rw (le-leb v 1000 h)
 
 number-whole : (m : ℕ) → m ≤ 1000 → one_form 5 (number_text m ++ bytes "\n") ≡ got m []
 unfolding one_form

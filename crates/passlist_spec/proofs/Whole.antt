@@ -1,6 +1,6 @@
 -- The list of a whole register: its lines one after the other.
 -- Assumes nothing.
-use Prim.Native.Nat.{ℕ, zero, suc, ◌+◌, ◌≤◌, ◌<◌}
+use Prim.Native.Nat.{ℕ, zero, suc, ◌≤◌, ◌<◌}
 use mathlib.Core.Bool.{Bool}
 use mathlib.Core.List.{List, [], ◌∷◌, ◌++◌, append-nil}
 use mathlib.Core.Path.{◌≡◌, refl, sym, ap, ◌∙◌, subst}
@@ -20,8 +20,8 @@ use Rattle.passlist_spec.specs.declared.Pass.{Pass}
 use Rattle.passlist_spec.specs.declared.Pass.TheVariants.{AtLeast, NoTimes}
 use Rattle.passlist_spec.specs.declared.Said.{Said}
 use Rattle.passlist_spec.specs.declared.Said.TheVariants as said
-use Rattle.passlist_spec.specs.declared.Mark.{Mark}
-use Rattle.passlist_spec.specs.declared.Mark.TheVariants as mark
+use Rattle.passlist_spec.specs.Row.{Mark}
+use Rattle.std.specs.declared.option.Option.TheVariants as mark
 use Rattle.passlist_spec.specs.declared.Standing.{Standing}
 use Rattle.passlist_spec.specs.declared.Standing.TheVariants as stands
 use Rattle.passlist_spec.specs.declared.Wrong.TheVariants as wrong
@@ -33,24 +33,24 @@ use Rattle.passlist_spec.specs.Whole.{stands_as, passed_lines, how_many, AllRows
 -- ---- a row is no head
 
 by-few : (p : Pass) (o : Said) (m : Mark) → place_of (standing_by p o m) < 8
-by-few (AtLeast n) said.Done (mark.Of m) = by-test (leb n m) (λ e. rw e (lit< tt)) (λ e. rw e (lit< tt))
-by-few (AtLeast n) said.Done mark.Empty = lit< tt
-by-few NoTimes said.Done (mark.Of m) = lit< tt
-by-few NoTimes said.Done mark.Empty = lit< tt
-by-few (AtLeast n) said.Unfinished (mark.Of m) = lit< tt
-by-few (AtLeast n) said.Unfinished mark.Empty = lit< tt
-by-few NoTimes said.Unfinished (mark.Of m) = lit< tt
-by-few NoTimes said.Unfinished mark.Empty = lit< tt
-by-few (AtLeast n) said.Refused (mark.Of m) = lit< tt
-by-few (AtLeast n) said.Refused mark.Empty = lit< tt
-by-few NoTimes said.Refused (mark.Of m) = lit< tt
-by-few NoTimes said.Refused mark.Empty = lit< tt
-by-few (AtLeast n) said.Fault (mark.Of m) = lit< tt
-by-few (AtLeast n) said.Fault mark.Empty = lit< tt
-by-few NoTimes said.Fault (mark.Of m) = lit< tt
-by-few NoTimes said.Fault mark.Empty = lit< tt
-by-few p said.Absent (mark.Of m) = lit< tt
-by-few p said.Absent mark.Empty = lit< tt
+by-few (AtLeast n) said.Done (mark.Some m) = by-test (leb n m) (λ e. rw e (lit< tt)) (λ e. rw e (lit< tt))
+by-few (AtLeast n) said.Done mark.None = lit< tt
+by-few NoTimes said.Done (mark.Some m) = lit< tt
+by-few NoTimes said.Done mark.None = lit< tt
+by-few (AtLeast n) said.Unfinished (mark.Some m) = lit< tt
+by-few (AtLeast n) said.Unfinished mark.None = lit< tt
+by-few NoTimes said.Unfinished (mark.Some m) = lit< tt
+by-few NoTimes said.Unfinished mark.None = lit< tt
+by-few (AtLeast n) said.Refused (mark.Some m) = lit< tt
+by-few (AtLeast n) said.Refused mark.None = lit< tt
+by-few NoTimes said.Refused (mark.Some m) = lit< tt
+by-few NoTimes said.Refused mark.None = lit< tt
+by-few (AtLeast n) said.Fault (mark.Some m) = lit< tt
+by-few (AtLeast n) said.Fault mark.None = lit< tt
+by-few NoTimes said.Fault (mark.Some m) = lit< tt
+by-few NoTimes said.Fault mark.None = lit< tt
+by-few p said.Absent (mark.Some m) = lit< tt
+by-few p said.Absent mark.None = lit< tt
 
 standing-few : (p : Pass) (s : List ℕ) → place_of (standing p s) < 8
 unfolding standing

@@ -1,5 +1,5 @@
 -- The pass list of a register, line by line: the head is due first, then a row on each line.
-use Rattle.std.specs.Prelude.{ℕ, ◌+◌, min, Bool, true, false, cond, List, [], ◌∷◌, ◌++◌, eqb, get_or, set}
+use Rattle.std.specs.Prelude.{ℕ, ◌+◌, min, true, false, cond, List, [], ◌∷◌, ◌++◌, eqb, get_or, set}
 use Rattle.item_spec.specs.Reader.{Reader, Reply, got, refused, byte, bytes, ◌>>◌}
 use Rattle.item_spec.specs.Read.{key}
 use Rattle.item_spec.specs.Write.{number_text, only_if}

@@ -7,8 +7,8 @@ use Rattle.passlist_spec.specs.declared.Cell.{Cell}
 use Rattle.passlist_spec.specs.declared.Cell.TheVariants.{Name, Number}
 use Rattle.passlist_spec.specs.declared.Said.{Said}
 use Rattle.passlist_spec.specs.declared.Said.TheVariants as said
-use Rattle.passlist_spec.specs.declared.Mark.{Mark}
-use Rattle.passlist_spec.specs.declared.Mark.TheVariants as mark
+use Rattle.std.specs.declared.option.Option.{Option}
+use Rattle.std.specs.declared.option.Option.TheVariants as mark
 
 -- the first cell: the name, as the register shows it
 unfoldable pub name_cell : List ℕ → List ℕ
@@ -44,15 +44,19 @@ three_cells = do
   past_cell Number
   past_cell Number
 
+-- a row's last cell: a mark, or none
+abbrev pub Mark : Type 0
+Mark = Option ℕ
+
 -- a mark is 0 to 1000
 unfoldable pub mark_of : ℕ → Reader Mark
 mark_of m = do
   check (leb m 1000) bad_form
-  give (mark.Of m)
+  give (mark.Some m)
 
 -- a mark up to the line's end, or these bytes
 unfoldable pub mark_or : List ℕ → Reader Mark
-mark_or none = given (one_form 5) mark_of (upon none (give mark.Empty) no_line)
+mark_or none = given (one_form 5) mark_of (upon none (give mark.None) no_line)
 
 -- nothing more
 unfoldable pub over : Reader (Unit {0})

@@ -5,22 +5,20 @@ use Rattle.passlist_spec.specs.declared.Pass.{Pass}
 use Rattle.passlist_spec.specs.declared.Pass.TheVariants.{AtLeast, NoTimes}
 use Rattle.passlist_spec.specs.declared.Said.{Said}
 use Rattle.passlist_spec.specs.declared.Said.TheVariants as said
-use Rattle.passlist_spec.specs.declared.Mark.{Mark}
-use Rattle.passlist_spec.specs.declared.Mark.TheVariants as mark
 use Rattle.passlist_spec.specs.declared.Standing.{Standing}
 use Rattle.passlist_spec.specs.declared.Standing.TheVariants as stands
-use Rattle.passlist_spec.specs.declared.PassRead.{PassRead}
-use Rattle.passlist_spec.specs.declared.PassRead.TheVariants as read
-use Rattle.passlist_spec.specs.Row.{name_cell, last_mark, row_says}
+use Rattle.std.specs.declared.option.Option.{Option}
+use Rattle.std.specs.declared.option.Option.TheVariants.{Some, None}
+use Rattle.passlist_spec.specs.Row.{Mark, name_cell, last_mark, row_says}
 
 -- the pass line that a mark, or none, is
 abbrev pub pass_of : Mark → Pass
-pass_of (mark.Of n) = AtLeast n
-pass_of mark.Empty = NoTimes
+pass_of (Some n) = AtLeast n
+pass_of None = NoTimes
 
 -- "PASS is 0 to 1000, or `-` for a paper without times": of a word with a line's end
-unfoldable pub pass_in : List ℕ → PassRead
-pass_in s = elim (last_mark (bytes "-\n") s) [ got m r ↦ read.Got (pass_of m) | refused n ↦ read.Fault ]
+unfoldable pub pass_in : List ℕ → Option Pass
+pass_in s = elim (last_mark (bytes "-\n") s) [ got m r ↦ Some (pass_of m) | refused n ↦ None ]
 
 -- "a mark of at least PASS"
 abbrev pub by_mark : ℕ → ℕ → Standing
@@ -28,22 +26,22 @@ by_mark n m = cond (leb n m) stands.Passed stands.Below
 
 -- one who is done, by the mark
 abbrev pub when_done : Pass → Mark → Standing
-when_done (AtLeast n) (mark.Of m) = by_mark n m
-when_done (AtLeast n) mark.Empty = stands.OtherKind
-when_done NoTimes (mark.Of m) = stands.OtherKind
-when_done NoTimes mark.Empty = stands.Passed
+when_done (AtLeast n) (Some m) = by_mark n m
+when_done (AtLeast n) None = stands.OtherKind
+when_done NoTimes (Some m) = stands.OtherKind
+when_done NoTimes None = stands.Passed
 
 -- one who isn't: whatever the mark is
 abbrev pub when_not : Pass → Mark → Standing → Standing
-when_not (AtLeast n) (mark.Of m) s = s
-when_not (AtLeast n) mark.Empty s = stands.OtherKind
-when_not NoTimes (mark.Of m) s = stands.OtherKind
-when_not NoTimes mark.Empty s = s
+when_not (AtLeast n) (Some m) s = s
+when_not (AtLeast n) None s = stands.OtherKind
+when_not NoTimes (Some m) s = stands.OtherKind
+when_not NoTimes None s = s
 
 -- one who is absent has no mark
 abbrev pub when_absent : Mark → Standing
-when_absent (mark.Of m) = stands.NoRow
-when_absent mark.Empty = stands.Absent
+when_absent (Some m) = stands.NoRow
+when_absent None = stands.Absent
 
 abbrev pub standing_by : Pass → Said → Mark → Standing
 standing_by p said.Done m = when_done p m

@@ -3,18 +3,11 @@
 // that the register writes stands so exactly when its answer is done and its mark is not below; what is no register is refused.
 #![tactic(auto)]
 
-// The pass line: a mark, or for a paper without times none.
+// The pass line: a mark, or for a paper without times none. No Option: beside a row's mark, which is one, the names tell which is which.
 #[derive(Clone, Copy)]
 pub enum Pass {
     AtLeast(u32),
     NoTimes,
-}
-
-// The word PASS: a pass line, or none.
-#[derive(Clone, Copy)]
-pub enum PassRead {
-    Got(Pass),
-    Fault,
 }
 
 // A cell whose bytes are looked at one by one: the name, or a number or nothing.
@@ -32,13 +25,6 @@ pub enum Said {
     Refused,
     Fault,
     Absent,
-}
-
-// A row's last cell.
-#[derive(Clone, Copy)]
-pub enum Mark {
-    Empty,
-    Of(u32),
 }
 
 // `Below`: done, with a mark below the pass line. `OtherKind`: the pass line is a mark and the row has none, or the other way round. `NoRow`: it is no row,
