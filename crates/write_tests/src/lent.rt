@@ -3,7 +3,7 @@ ghost use Rattle.std.specs.Prelude.{◌≤◌};
 
 use model::mask_at;
 use read_items::Digits;
-use read_items::numbers::{Limits, Numbers, numbers_within};
+use read_items::numbers::{Limits, numbers_within};
 use words::put_word;
 
 // A word by its halves.
@@ -17,7 +17,7 @@ pub(crate) fn read_words(text: &[u8], all: &mut [u32; 6358]) {
     let mut turns: usize = 0;
     while turns < 8000 {
         let line = numbers_within(text, at, Digits::Seven, Limits::Three(6358, 65536, 65536));
-        let Numbers::Got(n, next) = line else {
+        let Ok((n, next)) = line else {
             return;
         };
         put_word(all, n.first as usize, word_of(n.second, n.third));
