@@ -1,8 +1,8 @@
 // The header of a case: how long its texts are, and how much room its report has.
-// Promised: whatever a header says is small enough, and its own length 0 where none stands there.
-ghost use Rattle.compare_batch.specs.Within.{Small};
+// Promised: whatever a header says is small enough.
+ghost use Rattle.compare_batch.specs.Within.{SmallIf};
 
-use read_items::{Digits, Due, Number};
+use read_items::Digits;
 
 // A text is at most LONGEST, a room at most WIDEST; a header line has at most HEADER bytes.
 const LONGEST: u32 = 40000;
@@ -11,7 +11,7 @@ const WIDEST: u32 = 16384;
 
 pub(crate) const HEADER: usize = 29;
 
-// What a header says, and how many bytes it has itself; 0 where no header stands there. `plan` is whether the texts are the Aeolus paper's, `given` whether
+// What a header says, and how many bytes it has itself. `plan` is whether the texts are the Aeolus paper's, `given` whether
 // there is a start.
 #[derive(Clone, Copy)]
 pub(crate) struct Header {
@@ -24,20 +24,6 @@ pub(crate) struct Header {
     pub size: usize,
 }
 
-fn no_header() -> Header
-    ensures { Small result }
-{
-    Header {
-        plan: false,
-        given: false,
-        sheet: 0,
-        start: 0,
-        answer: 0,
-        room: 0,
-        size: 0,
-    }
-}
-
 // What a header says of the paper.
 #[derive(Clone, Copy)]
 struct Paper {
@@ -47,25 +33,25 @@ struct Paper {
     start: u32,
 }
 
-fn header_of(paper: Paper, answer: u32, room: u32, size: usize) -> Header
-    ensures { Small result }
+fn header_of(paper: Paper, answer: u32, room: u32, size: usize) -> Option<Header>
+    ensures { SmallIf result }
 {
     if LONGEST < paper.sheet {
-        return no_header();
+        return None;
     }
     if LONGEST < paper.start {
-        return no_header();
+        return None;
     }
     if LONGEST < answer {
-        return no_header();
+        return None;
     }
     if WIDEST < room {
-        return no_header();
+        return None;
     }
     if HEADER < size {
-        return no_header();
+        return None;
     }
-    Header {
+    Some(Header {
         plan: paper.plan,
         given: paper.given,
         sheet: paper.sheet as usize,
@@ -73,29 +59,27 @@ fn header_of(paper: Paper, answer: u32, room: u32, size: usize) -> Header
         answer: answer as usize,
         room: room as usize,
         size,
-    }
+    })
 }
 
-pub(crate) fn read_header(s: &[u8]) -> Header
-    ensures { Small result }
+pub(crate) fn read_header(s: &[u8]) -> Option<Header>
+    ensures { SmallIf result }
 {
-    if let Due::Past(a) = read_items::past_key(s, 0, b"case ") {
+    if let Some(a) = read_items::past_key(s, 0, b"case ") {
         return read_case(s, a);
     }
-    if let Due::Past(a) = read_items::past_key(s, 0, b"plan ") {
+    if let Some(a) = read_items::past_key(s, 0, b"plan ") {
         return read_plan(s, a);
     }
-    no_header()
+    None
 }
 
 // A sheet's length, and a start's or `-` for no start.
-fn read_case(s: &[u8], at: usize) -> Header
-    ensures { Small result }
+fn read_case(s: &[u8], at: usize) -> Option<Header>
+    ensures { SmallIf result }
 {
-    let Number::Got(sheet, a) = read_items::number_then(s, at, b' ', Digits::Five) else {
-        return no_header();
-    };
-    if let Due::Past(b) = read_items::past_key(s, a, b"- ") {
+    let (sheet, a) = read_items::number_then(s, at, b' ', Digits::Five)?;
+    if let Some(b) = read_items::past_key(s, a, b"- ") {
         let paper = Paper {
             plan: false,
             given: false,
@@ -104,9 +88,7 @@ fn read_case(s: &[u8], at: usize) -> Header
         };
         return read_rest(s, b, paper);
     }
-    let Number::Got(start, b) = read_items::number_then(s, a, b' ', Digits::Five) else {
-        return no_header();
-    };
+    let (start, b) = read_items::number_then(s, a, b' ', Digits::Five)?;
     let paper = Paper {
         plan: false,
         given: true,
@@ -116,12 +98,10 @@ fn read_case(s: &[u8], at: usize) -> Header
     read_rest(s, b, paper)
 }
 
-fn read_plan(s: &[u8], at: usize) -> Header
-    ensures { Small result }
+fn read_plan(s: &[u8], at: usize) -> Option<Header>
+    ensures { SmallIf result }
 {
-    let Number::Got(sheet, a) = read_items::number_then(s, at, b' ', Digits::Five) else {
-        return no_header();
-    };
+    let (sheet, a) = read_items::number_then(s, at, b' ', Digits::Five)?;
     let paper = Paper {
         plan: true,
         given: false,
@@ -132,14 +112,10 @@ fn read_plan(s: &[u8], at: usize) -> Header
 }
 
 // The answer's length and the room.
-fn read_rest(s: &[u8], at: usize, paper: Paper) -> Header
-    ensures { Small result }
+fn read_rest(s: &[u8], at: usize, paper: Paper) -> Option<Header>
+    ensures { SmallIf result }
 {
-    let Number::Got(answer, a) = read_items::number_then(s, at, b' ', Digits::Five) else {
-        return no_header();
-    };
-    let Number::Got(room, size) = read_items::number_then(s, a, b'\n', Digits::Five) else {
-        return no_header();
-    };
+    let (answer, a) = read_items::number_then(s, at, b' ', Digits::Five)?;
+    let (room, size) = read_items::number_then(s, a, b'\n', Digits::Five)?;
     header_of(paper, answer, room, size)
 }

@@ -199,10 +199,9 @@ fn run_case<R: Read>(
             ended: 1,
         };
     }
-    let header = read_header(&input[at..to]);
-    if header.size == 0 {
+    let Some(header) = read_header(&input[at..to]) else {
         return bad_header(out, start);
-    }
+    };
     run_texts(from, input, header, report, out, start)
 }
 

@@ -10,9 +10,14 @@ use lib.Seq.{take_at}
 use Rattle.item_spec.specs.Reader.{got, refused}
 use Rattle.item_spec.specs.Read.{key}
 use Rattle.item_spec.proofs.Tests.{by-test}
+use Rattle.read_items.specs.Reads.{reply}
+use Rattle.read_items.specs.Says.{due_says}
 use Rattle.read_spec.specs.Place.{up_to_lf}
 use Rattle.judge_spec.specs.Judged.{over}
 use Rattle.sitting_spec.specs.Block.{begins}
+use Rattle.std.specs.Option.{is_some}
+use Rattle.std.specs.declared.option.Option.{Option}
+use Rattle.std.specs.declared.option.Option.TheVariants.{Some, None}
 
 -- so many bytes of the text as the line has
 pub line_taken : (s : List ℕ) → take (length (up_to_lf s)) s ≡ up_to_lf s
@@ -26,10 +31,15 @@ unfolding over
 print-taken p old new n e f = rw (e, f) (take_at p (drop (length p) old) (length p) refl)
 
 module _ (k s : List ℕ) where
-  pub begins-so : (r : List ℕ) → got tt r ≡ key k s → true ≡ begins k s
+  begins-so : (r : List ℕ) → got tt r ≡ key k s → true ≡ begins k s
   unfolding begins
   begins-so r e = rw (← e, begins)
 
-  pub begins-not : (n : ℕ) → refused n ≡ key k s → false ≡ begins k s
+  begins-not : (n : ℕ) → refused n ≡ key k s → false ≡ begins k s
   unfolding begins
   begins-not n e = rw (← e, begins)
+
+  -- by what `past_key` says of it
+  pub begins-as : (t : List ℕ) (r : Option ℕ) → reply t (due_says r) ≡ key k s → is_some r ≡ begins k s
+  begins-as t (Some n) e = begins-so (drop n t) e
+  begins-as t None e = begins-not 2 e

@@ -22,7 +22,7 @@ use judge_spec::{LENT_BYTES, Place};
 use lines::{show_first, write_offending, write_where};
 use outcome_spec::Outcome;
 use plans::write_plan;
-use read_items::{Due, past_key};
+use read_items::past_key;
 use words::less;
 use write_items::{write_byte, write_key, write_number};
 
@@ -33,10 +33,7 @@ pub const LONGEST: usize = 26400;
 fn begins_at(s: &[u8], at: usize, due: &[u8]) -> bool
     ensures { result ≡ begins due.now (drop at s.now) }
 {
-    let Due::Past(_) = past_key(s, at, due) else {
-        return false;
-    };
-    true
+    past_key(s, at, due).is_some()
 }
 
 // A line of the answer is at fault.
