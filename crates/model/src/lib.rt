@@ -112,7 +112,7 @@ pub struct Configuration {
     pub done: usize,
 }
 
-// The use port that a verdict is about: the lowest that failed, for 34 and 38 alone.
+// The use port that a verdict is about: the lowest that failed, for 34 and 38 alone. No Option: NamesTheLowest of rules_spec and the marked cases name the two.
 #[derive(Clone, Copy)]
 pub enum Concerned {
     NoPort,
@@ -136,7 +136,7 @@ pub struct Walked {
     pub configuration: Configuration,
 }
 
-// Which text a verdict or a place speaks of; the judge reads no times.
+// Which text a verdict or a place speaks of; the judge reads no times. No Option: Verdict and Place of judge_spec have the case Neither, and definitions name it.
 #[derive(Clone, Copy)]
 pub enum Text {
     Neither,

@@ -5,6 +5,7 @@
 
 ghost use Rattle.std.specs.Prelude.{◌≡◌, cond};
 
+// Numbers and no enum: 01's form matches ranges of refusal numbers, and check_at, held_step and held_walk are equations of them.
 pub const NO_INSTRUCTION_LEFT: u32 = 10;
 
 pub const ID_ABSENT: u32 = 11;
