@@ -22,7 +22,7 @@ use read_items::Digits;
 use read_items::numbers::Limits;
 use read_lines::LineFault;
 
-// The codes of the verbs, as in aeolus_model::Step.
+// The codes of the verbs, as in aeolus_model::Step: numbers, since 01's form matches a verb's code.
 const NEW: u32 = 0;
 
 const DEL: u32 = 1;

@@ -136,7 +136,7 @@ pub struct Walked {
     pub configuration: Configuration,
 }
 
-// Which text a verdict or a place speaks of; the judge reads no times. No Option: Verdict and Place of judge_spec have the case Neither, and definitions name it.
+// Which text a verdict or a place speaks of; the judge reads no times. No Option: the definitions of Verdict and Place name the case Neither.
 #[derive(Clone, Copy)]
 pub enum Text {
     Neither,

@@ -23,7 +23,7 @@ use read_lines::{Limit, LineFault};
 use words::AnswerWords;
 use words::answer::StepWords;
 
-// The codes of the verbs, as in model::Step.
+// The codes of the verbs, as in model::Step: numbers, since 01's form matches a verb's code.
 const NEXT: u32 = 0;
 
 const FIRE: u32 = 1;

@@ -37,7 +37,7 @@ pub struct Passed {
     pub port: Concerned,
 }
 
-// The number of a move and the use port concerned, by its verb: an unknown one counts as the last.
+// The number of a move and the use port concerned, by its verb, whose code is matched by 01's form: an unknown one counts as the last.
 fn move_check(tables: &TableWords, state: &StateWords, verb: u32, i: u32, n: u32) -> Answered
     ensures { (default : ℕ) → result ≡ answer_at default (tables_in tables.now) (state_in state.now) (move_action (step_of verb i n)) }
 {
