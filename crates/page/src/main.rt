@@ -4,134 +4,113 @@
 // candidate is one write, and the first write that fails ends it. On descriptor 3 it tells that all was written, and whether every answer was read.
 #![tactic(auto)]
 
-use model::Text;
 use page_found::found_of;
 use page_lib::tops;
 use page_spec::Found;
-use program_input::{Listed, argument, at_most, base_from, next_part, read_listed};
-use std::num::wrapping_add_usize;
-
-const STDOUT_FILENO: i32 = 1;
+use program_input::{Listed, Texts, Went, argument, base_from, print, read_listed, take_names};
 
 // `longest` in crates/page_spec/specs/Room.antt: no candidate has more, and neither has the page's top.
 const LONGEST: usize = 294912;
 
-// The paper's texts.
-#[derive(Clone, Copy)]
-struct Paper<'a> {
-    sheet: &'a [u8],
-    start: &'a [u8],
-    times: &'a [u8],
-}
-
-// Whether the paper has a start and times; whether the candidates are counted or written, and how many were; whether something could not be read, and whether
-// all was written.
-#[derive(Clone, Copy)]
+// Whether the candidates are counted or written, and how many were, in all and in each group.
+#[derive(Drop)]
 struct Sat {
-    given: bool,
-    marked: bool,
     counting: bool,
     candidates: usize,
-    unread: bool,
-    written: bool,
+    counts: [usize; 41],
 }
 
-fn print(block: &[u8], used: usize) -> bool {
-    let n = at_most(used, block);
-    io::write_all(STDOUT_FILENO, &block[..n])
-}
-
-fn one_more(sat: Sat, unread: bool, written: bool) -> Sat {
-    Sat {
-        given: sat.given,
-        marked: sat.marked,
-        counting: sat.counting,
-        candidates: wrapping_add_usize(sat.candidates, 1),
-        unread: sat.unread | unread,
-        written,
-    }
-}
-
-fn count(counts: &mut [usize; 41], group: usize) {
+fn count(sat: &mut Sat, group: usize) {
+    sat.candidates = sat.candidates.wrapping_add(1);
     if group < tops::GROUPS {
-        counts[group] = wrapping_add_usize(counts[group], 1);
+        sat.counts[group] = sat.counts[group].wrapping_add(1);
     }
 }
 
-fn run_unreadable(block: &mut [u8], counts: &mut [usize; 41], sat: Sat, path: &[u8]) -> Sat {
+fn run_unreadable(block: &mut [u8], sat: &mut Sat, path: &[u8]) -> Went {
     if sat.counting {
         program_input::say_unreadable(b"page", path);
-        count(counts, 40);
-        return one_more(sat, true, true);
+        count(sat, 40);
+        return Went {
+            unread: true,
+            written: true,
+        };
     }
     let from = base_from(path);
     let used = page_lib::write_unreadable(block, sat.candidates, &path[from..]);
-    one_more(sat, true, print(block, used))
+    sat.candidates = sat.candidates.wrapping_add(1);
+    Went {
+        unread: true,
+        written: print(block, used),
+    }
 }
 
 fn write_answer(
     block: &mut [u8],
-    sat: Sat,
+    sat: &mut Sat,
     found: Found,
-    sheet: &[u8],
-    start: &[u8],
+    texts: Texts<'_>,
     answer: &[u8],
     path: &[u8],
-) -> Sat {
+) -> Went {
     let mut report = [0u8; 8192];
-    let n = judge_lib::print(sheet, sat.given, start, answer, &mut report);
+    let n = judge_lib::print(
+        texts.sheet,
+        texts.start.is_some(),
+        texts.start.unwrap_or(&[]),
+        answer,
+        &mut report,
+    );
     let from = base_from(path);
     let used = page_lib::write_candidate(
         block,
         sat.candidates,
         &path[from..],
         found,
-        sheet,
+        texts.sheet,
         answer,
         &report[..n],
     );
-    one_more(sat, false, print(block, used))
+    sat.candidates = sat.candidates.wrapping_add(1);
+    Went {
+        unread: false,
+        written: print(block, used),
+    }
 }
 
 fn run_answer(
     rt: &HostRuntime,
     block: &mut [u8],
-    counts: &mut [usize; 41],
-    sat: Sat,
-    paper: Paper<'_>,
-    listed: Listed<'_>,
-) -> Sat {
-    let path = listed.name;
+    sat: &mut Sat,
+    texts: Texts<'_>,
+    path: &[u8],
+    name: &[u8],
+) -> Went {
     let mut answer = [0u8; 32769];
-    let Ok(size) = program_io::read_named(rt, listed.path, &mut answer) else {
-        return run_unreadable(block, counts, sat, path);
+    let Ok(size) = program_io::read_named(rt, path, &mut answer) else {
+        return run_unreadable(block, sat, name);
     };
     let row = register_lib::row_of(
-        paper.sheet,
-        sat.given,
-        paper.start,
-        sat.marked,
-        paper.times,
+        texts.sheet,
+        texts.start.is_some(),
+        texts.start.unwrap_or(&[]),
+        texts.times.is_some(),
+        texts.times.unwrap_or(&[]),
         &answer[..size],
     );
     let found = found_of(row, &answer[..size]);
     if sat.counting {
-        count(counts, found.group);
-        return one_more(sat, false, true);
+        count(sat, found.group);
+        return Went {
+            unread: false,
+            written: true,
+        };
     }
-    write_answer(
-        block,
-        sat,
-        found,
-        paper.sheet,
-        paper.start,
-        &answer[..size],
-        path,
-    )
+    write_answer(block, sat, found, texts, &answer[..size], name)
 }
 
 // What stands before the candidates, once they are counted.
-fn begin(rt: &HostRuntime, block: &mut [u8], counts: &mut [usize; 41], sat: Sat) -> Sat {
+fn begin(rt: &HostRuntime, block: &mut [u8], sat: &mut Sat) -> Went {
     let mut title = [0u8; 4096];
     let mut sheet = [0u8; 4096];
     let mut start = [0u8; 4096];
@@ -151,13 +130,11 @@ fn begin(rt: &HostRuntime, block: &mut [u8], counts: &mut [usize; 41], sat: Sat)
         &judge[..e],
     );
     let written = print(block, used);
-    let n = tops::write_counts(block, sat.candidates, counts);
-    Sat {
-        given: sat.given,
-        marked: sat.marked,
-        counting: false,
-        candidates: 0,
-        unread: sat.unread,
+    let n = tops::write_counts(block, sat.candidates, &sat.counts);
+    sat.counting = false;
+    sat.candidates = 0;
+    Went {
+        unread: false,
         written: written & print(block, n),
     }
 }
@@ -166,116 +143,55 @@ fn begin(rt: &HostRuntime, block: &mut [u8], counts: &mut [usize; 41], sat: Sat)
 fn run_name(
     rt: &HostRuntime,
     block: &mut [u8],
-    counts: &mut [usize; 41],
-    sat: Sat,
-    paper: Paper<'_>,
-    name: &[u8],
-) -> Sat {
-    if name.len() == 0 {
-        return begin(rt, block, counts, sat);
+    sat: &mut Sat,
+    texts: Texts<'_>,
+    marked: &[u8],
+) -> Went {
+    if marked.is_empty() {
+        return begin(rt, block, sat);
     }
-    let listed = read_listed(name);
-    if !listed.plain {
-        return run_unreadable(block, counts, sat, listed.name);
-    }
-    run_answer(rt, block, counts, sat, paper, listed)
-}
-
-fn run_names(
-    rt: &HostRuntime,
-    block: &mut [u8],
-    paper: Paper<'_>,
-    given: bool,
-    marked: bool,
-) -> Sat {
-    let mut input = rt.stdin();
-    let mut name = [0u8; 4097];
-    let mut bytes = [0u8; 65536];
-    let mut counts = [0usize; 41];
-    let mut names = program_input::no_parts_yet();
-    let mut sat = Sat {
-        given,
-        marked,
-        counting: true,
-        candidates: 0,
-        unread: false,
-        written: true,
+    let Listed { path, name } = read_listed(marked);
+    let Some(path) = path else {
+        return run_unreadable(block, sat, name);
     };
-    // A loop that is proved ends, so it counts its turns down.
-    let mut turns = u64::MAX;
-    while 0 < turns && sat.written && !names.ended {
-        let next = next_part(&mut input, &mut bytes, &mut name, names, 0);
-        let left = next.parts;
-        names = left;
-        let size = next.size;
-        if !next.there {
-            break;
-        }
-        sat = run_name(rt, block, &mut counts, sat, paper, &name[..size]);
-        turns -= 1;
-    }
-    Sat {
-        given,
-        marked,
-        counting: sat.counting,
-        candidates: sat.candidates,
-        unread: sat.unread | names.failed,
-        written: sat.written & !sat.counting,
-    }
+    run_answer(rt, block, sat, texts, path, name)
 }
 
-// Which argument names the text at fault.
-fn argument_of(text: Text) -> usize {
-    match text {
-        Text::Start => 3,
-        Text::Times => 4,
-        _ => 2,
-    }
-}
-
-fn say_fault(rt: &HostRuntime, text: Text, line: usize, refused: u8) {
-    let mut path = [0u8; 4096];
-    let size = argument(rt, argument_of(text), &mut path);
-    program_input::say_paper(b"page", &path[..size], line, refused);
-    program_io::tell_of(false, true);
-}
-
-fn run(rt: &HostRuntime, block: &mut [u8], paper: Paper<'_>, given: bool, marked: bool) {
-    let verdict = outcome_lib::paper_verdict(paper.sheet, given, paper.start, marked, paper.times);
+fn run(rt: &HostRuntime, block: &mut [u8], texts: Texts<'_>) {
+    let verdict = outcome_lib::paper_verdict(
+        texts.sheet,
+        texts.start.is_some(),
+        texts.start.unwrap_or(&[]),
+        texts.times.is_some(),
+        texts.times.unwrap_or(&[]),
+    );
     if verdict.refused != 0 {
         let text = verdict.text;
-        say_fault(rt, text, verdict.line, verdict.refused);
+        program_input::say_fault(rt, b"page", text, verdict.line, verdict.refused);
         return;
     }
-    let sat = run_names(rt, block, paper, given, marked);
-    if !sat.written {
+    let mut sat = Sat {
+        counting: true,
+        candidates: 0,
+        counts: [0; 41],
+    };
+    let mut input = rt.stdin();
+    let went = take_names(
+        &mut input,
+        |name| run_name(rt, block, &mut sat, texts, name),
+    );
+    if sat.counting || !went.written {
         return;
     }
     let used = tops::write_foot(block, sat.candidates);
     if print(block, used) {
-        program_io::tell_of(sat.unread, false);
+        program_io::tell_of(went.unread, false);
     }
 }
 
-// Each text has room for a byte more than it may have, so that a longer one still gets its number.
 fn main(rt: HostRuntime) {
     let mut block = [0u8; LONGEST];
-    let mut path = [0u8; 4096];
-    let mut sheet = [0u8; 32769];
-    let k = argument(&rt, 2, &mut path);
-    let n = program_io::read_named(&rt, &path[..k], &mut sheet).unwrap_or(0);
-    let mut start = [0u8; 8193];
-    let l = argument(&rt, 3, &mut path);
-    let begun = program_io::read_start(&rt, &path[..l], &mut start);
-    let b = begun.unwrap_or(0);
-    let mut times = [0u8; 32769];
-    let m = argument(&rt, 4, &mut path);
-    let timed = program_io::read_start(&rt, &path[..m], &mut times);
-    let t = timed.unwrap_or(0);
-    let paper = Paper {
-        sheet: &sheet[..n],
-        start: &start[..b],
-        times: &times[..t],
-    };
-    run(&rt, &mut block, paper, begun.is_some(), timed.is_some());
+    let mut room = program_input::empty_room();
+    let texts = program_input::read_texts(&rt, &mut room);
+    run(&rt, &mut block, texts);
 }

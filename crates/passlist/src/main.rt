@@ -6,28 +6,14 @@
 
 use passlist_lib::{count_line, write_line};
 use passlist_spec::{Pass, PassRead, Wrong};
-use program_input::{Part, argument, at_most, next_part};
+use program_input::{Left, Part, Went, argument, at_most, no_parts_yet, print};
 use std::io::Read;
 use write_items::write_byte;
-
-const STDOUT_FILENO: i32 = 1;
 
 const STDERR_FILENO: i32 = 2;
 
 // A row with a name of 255 bytes has a seventh of this.
 const LONGEST: usize = 8192;
-
-// Whether a read failed, and whether all was written.
-#[derive(Clone, Copy)]
-struct Went {
-    failed: bool,
-    written: bool,
-}
-
-fn print(line: &[u8], used: usize) -> bool {
-    let n = at_most(used, line);
-    io::write_all(STDOUT_FILENO, &line[..n])
-}
 
 fn take_line(pass: Pass, row: &[u8], line: &mut [u8], counts: &mut [usize; 9]) -> bool {
     let used = write_line(line, 0, pass, counts, row);
@@ -36,11 +22,11 @@ fn take_line(pass: Pass, row: &[u8], line: &mut [u8], counts: &mut [usize; 9]) -
 }
 
 // So many bytes, and the line's end where it was there.
-fn ended(row: &mut [u8], size: usize, whole: bool) -> usize {
-    if whole {
-        return write_byte(row, size, b'\n');
+fn ended(row: &mut [u8], part: Part) -> usize {
+    if part.whole {
+        return write_byte(row, part.size, b'\n');
     }
-    size
+    part.size
 }
 
 fn take_part(
@@ -50,10 +36,7 @@ fn take_part(
     line: &mut [u8],
     counts: &mut [usize; 9],
 ) -> bool {
-    if !part.there {
-        return true;
-    }
-    let used = ended(row, part.size, part.whole);
+    let used = ended(row, part);
     let n = at_most(used, row);
     take_line(pass, &row[..n], line, counts)
 }
@@ -66,19 +49,20 @@ fn take_parts<R: Read>(
     line: &mut [u8],
     counts: &mut [usize; 9],
 ) -> Went {
-    let mut parts = program_input::no_parts_yet();
+    let mut parts = no_parts_yet(input, bytes);
     let mut written = true;
-    // A loop that is proved ends, so it counts its turns down.
-    let mut turns = u64::MAX;
-    while 0 < turns && written && !parts.ended {
-        let next = next_part(input, bytes, row, parts, b'\n');
-        let left = next.parts;
-        parts = left;
-        written = take_part(pass, row, next, line, counts);
-        turns -= 1;
+    // A loop that is proved ends, so it counts its turns.
+    for _ in 0..u64::MAX {
+        let Some(part) = parts.next_part(row, b'\n') else {
+            break;
+        };
+        written = take_part(pass, row, part, line, counts);
+        if !written {
+            break;
+        }
     }
     Went {
-        failed: parts.failed,
+        unread: parts.left == Left::Unread,
         written,
     }
 }
@@ -121,7 +105,7 @@ fn list<R: Read>(input: &mut R, pass: Pass, row: &mut [u8], bytes: &mut [u8]) {
     let wrong = say_wrong(pass, passlist_lib::wrong_in(&counts));
     let used = passlist_lib::write_counts(&mut line, 0, &counts);
     if went.written && print(&line, used) {
-        program_io::tell_of(went.failed, wrong);
+        program_io::tell_of(went.unread, wrong);
     }
 }
 

@@ -1,20 +1,24 @@
 // Parts of standard input, each ended by a byte: the answers' names, as a script hands them to a program, each ended by a NUL, with `+` before a plain
 // file's name, `-` before any other, and `=` before a path and the name of the plain file that it opens; the rows of a register. And what a program says
 // of a name or of a paper on standard error.
-// Promised of standard input and of the arguments: a count within the lent buffer, and no more, since what they hold no contract can say.
+// Promised of standard input, of the arguments and of a paper's texts: a count within the lent buffer, and no more, since what they hold no contract can say.
 // Of a path: where its last part begins.
 #![tactic(auto)]
 
-ghost use Rattle.std.specs.Prelude.{◌≤◌, min, false, ◌≡◌, length, drop};
+ghost use Rattle.std.specs.Prelude.{◌≤◌, min, ◌≡◌, length, drop, is_some, IfSome};
 ghost use Rattle.io.specs.Counts.{IsPrefixLen};
+ghost use Rattle.program_input.specs.declared.Left.TheVariants.{More};
 ghost use Rattle.program_input.specs.Last.{last_part};
 ghost use Rattle.program_input.specs.Listed.{is_plain, path_in, name_in};
 
+use model::Text;
 use sitting_shown::Among;
 use std::env::FillError;
 use std::io::Read;
-use std::rt::Env;
+use std::rt::{Env, Files};
 use write_items::{write_byte, write_key};
+
+const STDOUT_FILENO: i32 = 1;
 
 const STDERR_FILENO: i32 = 2;
 
@@ -24,40 +28,40 @@ const SLASH: u8 = b'/';
 // A path's bytes, each shown as four at most, and the words about it.
 const LONGEST: usize = 16600;
 
-// Of the bytes that the last read gave, so many are taken; `ended` where there are no more to come, `failed` where that is because of a read.
-#[derive(Clone, Copy)]
-pub struct Parts {
+// What is still to come of an input: more; nothing; or nothing because a read failed.
+#[derive(Clone, Copy, PartialEq, Eq)]
+pub enum Left {
+    More,
+    Nothing,
+    Unread,
+}
+
+// An input in parts, by way of lent bytes: of those that the last read gave, so many are taken.
+#[derive(Drop)]
+pub struct Parts<'a, R> {
+    pub input: &'a mut R,
+    pub bytes: &'a mut [u8],
     pub taken: usize,
     pub size: usize,
-    pub ended: bool,
-    pub failed: bool,
+    pub left: Left,
 }
 
-// The next part has so many bytes, and was ended by its byte or by the input's end; or it isn't there, since all have been taken.
+// A part has so many bytes, and was ended by its byte, or else by the input's end.
 #[derive(Clone, Copy)]
 pub struct Part {
-    pub there: bool,
     pub whole: bool,
     pub size: usize,
-    pub parts: Parts,
 }
 
-// A byte, or none.
-#[derive(Clone, Copy)]
-struct Taken {
-    there: bool,
-    byte: u8,
-    parts: Parts,
-}
-
-pub fn no_parts_yet() -> Parts
-    ensures { (result.taken ≡ 0) × (result.size ≡ 0) × (result.ended ≡ false) × (result.failed ≡ false) }
+pub fn no_parts_yet<'a, R: Read>(input: &'a mut R, bytes: &'a mut [u8]) -> Parts<'a, R>
+    ensures { (result.taken ≡ 0) × (result.size ≡ 0) × (result.left ≡ More) }
 {
     Parts {
+        input,
+        bytes,
         taken: 0,
         size: 0,
-        ended: false,
-        failed: false,
+        left: Left::More,
     }
 }
 
@@ -66,130 +70,116 @@ pub fn at_most(size: usize, text: &[u8]) -> usize
     ensures counts { IsPrefixLen result text.now }
     ensures least { result ≡ min size (length text.now) }
 {
-    if size <= text.len() {
-        return size;
-    }
-    text.len()
+    size.min(text.len())
 }
 
-// What the next read gives.
-fn more_parts<R: Read>(input: &mut R, bytes: &mut [u8]) -> Parts {
-    match input.read(bytes) {
-        Ok(size) => Parts {
-            taken: 0,
-            size,
-            ended: size == 0,
-            failed: false,
-        },
-        Err(error) => {
-            program_io::say_failed(b"standard input", error);
-            Parts {
-                taken: 0,
-                size: 0,
-                ended: true,
-                failed: true,
+impl<'a, R: Read> Parts<'a, R> {
+    // What the next read gives.
+    fn read_more(&mut self) {
+        self.taken = 0;
+        self.size = 0;
+        match self.input.read(self.bytes) {
+            Ok(0) => self.left = Left::Nothing,
+            Ok(size) => self.size = size,
+            Err(error) => {
+                program_io::say_failed(b"standard input", error);
+                self.left = Left::Unread;
             }
         }
     }
+
+    fn next_byte(&mut self) -> Option<u8> {
+        if self.left == Left::More && self.size <= self.taken {
+            self.read_more();
+        }
+        if self.left != Left::More {
+            return None;
+        }
+        let at = self.taken;
+        let byte = *self.bytes.get(at)?;
+        self.taken = at + 1;
+        Some(byte)
+    }
+
+    // The next part, without the byte that ends it, into the lent bytes; of a longer one the first bytes. The last part may lack its end, and then has a byte.
+    pub fn next_part(&mut self, part: &mut [u8], end: u8) -> Option<Part>
+        ensures { IfSome result (λ p. IsPrefixLen p.size part.new) }
+    {
+        let mut size: usize = 0;
+        // A loop that is proved ends, so it counts its turns.
+        for _ in 0..u64::MAX {
+            match self.next_byte() {
+                None if size == 0 => return None,
+                None => {
+                    return Some(Part {
+                        whole: false,
+                        size: at_most(size, part),
+                    });
+                }
+                Some(byte) if byte == end => {
+                    return Some(Part {
+                        whole: true,
+                        size: at_most(size, part),
+                    });
+                }
+                Some(byte) => size = write_byte(part, size, byte),
+            }
+        }
+        None
+    }
 }
 
-fn no_byte(parts: Parts) -> Taken {
-    Taken {
-        there: false,
-        byte: 0,
-        parts,
-    }
+// Whether something could not be read, and whether all was written.
+#[derive(Clone, Copy)]
+pub struct Went {
+    pub unread: bool,
+    pub written: bool,
 }
 
-fn byte_of(bytes: &[u8], parts: Parts) -> Taken {
-    let at = parts.taken;
-    if parts.ended {
-        return no_byte(parts);
-    }
-    if bytes.len() <= at {
-        return no_byte(parts);
-    }
-    let taken = Parts {
-        taken: at + 1,
-        size: parts.size,
-        ended: false,
-        failed: false,
+// Each part of the list of names in turn, up to the first of which not all is written.
+pub fn take_names<R: Read, F: FnMut(&[u8]) -> Went>(input: &mut R, mut take: F) -> Went
+    requires { F.IsAlwaysCallable take }
+{
+    let mut name = [0u8; 4097];
+    let mut bytes = [0u8; 65536];
+    let mut names = no_parts_yet(input, &mut bytes);
+    let mut went = Went {
+        unread: false,
+        written: true,
     };
-    Taken {
-        there: true,
-        byte: bytes[at],
-        parts: taken,
-    }
-}
-
-fn next_byte<R: Read>(input: &mut R, bytes: &mut [u8], parts: Parts) -> Taken {
-    if parts.ended || parts.taken < parts.size {
-        return byte_of(bytes, parts);
-    }
-    let more = more_parts(input, bytes);
-    byte_of(bytes, more)
-}
-
-// A part is there where its end is, or a byte before the input's end.
-fn part_of(whole: bool, size: usize, part: &[u8], parts: Parts) -> Part
-    ensures { IsPrefixLen result.size part.now }
-{
-    Part {
-        there: whole || 0 < size,
-        whole,
-        size: at_most(size, part),
-        parts,
-    }
-}
-
-// The next part, without the byte that ends it, into the lent bytes; of a longer one the first bytes. The last part may lack its end.
-pub fn next_part<R: Read>(
-    input: &mut R,
-    bytes: &mut [u8],
-    part: &mut [u8],
-    parts: Parts,
-    end: u8,
-) -> Part
-    ensures { IsPrefixLen result.size part.new }
-{
-    let mut so_far = parts;
-    let mut size: usize = 0;
-    // A loop that is proved ends, so it counts its turns down.
-    let mut turns = u64::MAX;
-    while 0 < turns {
-        let taken = next_byte(input, bytes, so_far);
-        let left = taken.parts;
-        so_far = left;
-        if !taken.there {
-            return part_of(false, size, part, so_far);
+    // A loop that is proved ends, so it counts its turns.
+    for _ in 0..u64::MAX {
+        let Some(next) = names.next_part(&mut name, 0) else {
+            break;
+        };
+        let size = next.size;
+        let taken = take(&name[..size]);
+        went.unread = went.unread || taken.unread;
+        went.written = taken.written;
+        if !went.written {
+            break;
         }
-        if taken.byte == end {
-            return part_of(true, size, part, so_far);
-        }
-        size = write_byte(part, size, taken.byte);
-        turns -= 1;
     }
-    part_of(false, 0, part, so_far)
+    went.unread = went.unread || names.left == Left::Unread;
+    went
 }
 
-// A part of the list of names: whether it is of a plain file, the path that opens the file, and the name.
+// A part of the list of names: the path that opens the file, of a plain one, and the name.
 #[derive(Clone, Copy)]
 pub struct Listed<'a> {
-    pub plain: bool,
-    pub path: &'a [u8],
+    pub path: Option<&'a [u8]>,
     pub name: &'a [u8],
 }
 
 // `+NAME` and `-NAME`, and of a plain file whose name is no text, by which std opens none, `=`, a byte that says how long a path is, the path and the name.
 pub fn read_listed(part: &[u8]) -> Listed<'_>
-    ensures plain { result.plain ≡ is_plain part.now }
-    ensures path { result.path.now ≡ path_in part.now }
+    ensures plain { is_some result.path ≡ is_plain part.now }
+    ensures path { IfSome result.path (λ p. p.now ≡ path_in part.now) }
     ensures name { result.name.now ≡ name_in part.now }
 {
-    if part.len() == 0 {
+    if part.is_empty() {
         return Listed {
-            plain: false,
-            path: part,
+            path: None,
             name: part,
         };
     }
@@ -197,17 +187,19 @@ pub fn read_listed(part: &[u8]) -> Listed<'_>
         let from = part[1] as usize + 2;
         if from <= part.len() {
             return Listed {
-                plain: true,
-                path: &part[2..from],
+                path: Some(&part[2..from]),
                 name: &part[from..],
             };
         }
     }
-    Listed {
-        plain: part[0] == b'+',
-        path: &part[1..],
-        name: &part[1..],
+    let name = &part[1..];
+    if part[0] == b'+' {
+        return Listed {
+            path: Some(name),
+            name,
+        };
     }
+    Listed { path: None, name }
 }
 
 // Where a path's last part begins.
@@ -216,14 +208,9 @@ pub fn base_from(path: &[u8]) -> usize
     ensures last { drop result path.now ≡ last_part path.now }
 {
     let mut from: usize = 0;
-    let mut i: usize = 0;
-    while i < path.len() {
-        let next = i + 1;
-        if path[i] == SLASH {
-            from = next;
-            i = next;
-        } else {
-            i = next;
+    for (i, byte) in path.iter().enumerate() {
+        if *byte == SLASH {
+            from = i + 1;
         }
     }
     from
@@ -238,6 +225,72 @@ pub fn argument<E: Env>(rt: &E, i: usize, word: &mut [u8]) -> usize
         Err(FillError::TooLong) => word.len(),
         Err(FillError::NotPresent) => 0,
     }
+}
+
+// Room for a paper's texts, of a byte more than each may have, so that a longer one still gets its number.
+#[derive(Drop)]
+pub struct Room {
+    pub sheet: [u8; 32769],
+    pub start: [u8; 8193],
+    pub times: [u8; 32769],
+}
+
+// A paper's texts: the sheet, and the start and the times where there are some.
+#[derive(Clone, Copy)]
+pub struct Texts<'a> {
+    pub sheet: &'a [u8],
+    pub start: Option<&'a [u8]>,
+    pub times: Option<&'a [u8]>,
+}
+
+pub fn empty_room() -> Room {
+    Room {
+        sheet: [0; 32769],
+        start: [0; 8193],
+        times: [0; 32769],
+    }
+}
+
+// The argument that names a text of the paper.
+fn argument_of(text: Text) -> usize {
+    match text {
+        Text::Start => 3,
+        Text::Times => 4,
+        _ => 2,
+    }
+}
+
+// Where an argument names a file, so many bytes of it.
+fn read_given<E: Env + Files>(rt: &E, text: Text, bytes: &mut [u8]) -> Option<usize>
+    ensures { IfSome result (λ n. IsPrefixLen n bytes.new) }
+{
+    let mut path = [0u8; 4096];
+    let k = argument(rt, argument_of(text), &mut path);
+    program_io::read_start(rt, &path[..k], bytes)
+}
+
+// The texts that the arguments name; a sheet that can't be read counts as empty.
+pub fn read_texts<'a, E: Env + Files>(rt: &E, room: &'a mut Room) -> Texts<'a>
+    ensures sheet { length result.sheet.now ≤ 32769 }
+    ensures start { IfSome result.start (λ s. length s.now ≤ 8193) }
+    ensures times { IfSome result.times (λ s. length s.now ≤ 32769) }
+{
+    let mut path = [0u8; 4096];
+    let k = argument(rt, argument_of(Text::Sheet), &mut path);
+    let n = program_io::read_named(rt, &path[..k], &mut room.sheet).unwrap_or(0);
+    let start = read_given(rt, Text::Start, &mut room.start);
+    let times = read_given(rt, Text::Times, &mut room.times);
+    Texts {
+        sheet: &room.sheet[..n],
+        start: start.and_then(|k| room.start.get(..k)),
+        times: times.and_then(|k| room.times.get(..k)),
+    }
+}
+
+// So many of the bytes on standard output: whether all were written.
+pub fn print(block: &[u8], used: usize) -> bool {
+    let n = at_most(used, block);
+    io::write_all(STDOUT_FILENO, &block[..n])
 }
 
 fn say(line: &[u8], used: usize) {
@@ -271,4 +324,12 @@ pub fn say_paper(who: &[u8], file: &[u8], at: usize, refused: u8) {
         b": the paper is at fault, and nobody is judged\n",
     );
     say(&line, used);
+}
+
+// A text of the paper is at fault: that is said of the file that its argument names, and told.
+pub fn say_fault<E: Env>(rt: &E, who: &[u8], text: Text, line: usize, refused: u8) {
+    let mut path = [0u8; 4096];
+    let size = argument(rt, argument_of(text), &mut path);
+    say_paper(who, &path[..size], line, refused);
+    program_io::tell_of(false, true);
 }
