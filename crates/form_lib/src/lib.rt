@@ -155,7 +155,7 @@ pub fn run<R: Input + Env>(rt: &R, draft: Draft, input: &[u8], refused_text: &[u
     if refused {
         program_io::say_fault(refused_text, drafted.line, drafted.refused);
     }
-    if done & program_io::has_argument(rt, 1) {
-        program_io::tell_of(read.is_none(), refused);
+    if done {
+        program_io::tell(rt, read.is_none(), refused);
     }
 }

@@ -2,13 +2,9 @@
 #![tactic(auto)]
 
 use form_lib::Draft;
+use program_io::show_number;
 
 const STDOUT_FILENO: i32 = 1;
-
-fn write_number(key: &[u8], n: usize) {
-    io::write_all(STDOUT_FILENO, key);
-    io::print_decimal(STDOUT_FILENO, n as u64);
-}
 
 // A form has room for a byte more than it may have.
 fn run_case(rt: &HostRuntime, i: usize) {
@@ -19,8 +15,8 @@ fn run_case(rt: &HostRuntime, i: usize) {
     let mut sheet = [0u8; 32768];
     let drafted = form_lib::write_draft(Draft::Sheet, &form[..n], &mut sheet);
     io::write_all(STDOUT_FILENO, &name[..k]);
-    write_number(b" refused=", model::wide(drafted.refused));
-    write_number(b" row=", drafted.line);
+    show_number(STDOUT_FILENO, b" refused=", model::wide(drafted.refused));
+    show_number(STDOUT_FILENO, b" row=", drafted.line);
     io::write_all(STDOUT_FILENO, b"\n");
     let used = drafted.bytes;
     io::write_all(STDOUT_FILENO, &sheet[..used]);

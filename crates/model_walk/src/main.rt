@@ -12,17 +12,11 @@ const STDOUT_FILENO: i32 = 1;
 
 const STDERR_FILENO: i32 = 2;
 
-fn tell(rt: &HostRuntime, refused: bool) {
-    if program_io::has_argument(rt, 1) {
-        program_io::tell_of(false, refused);
-    }
-}
-
 fn say_refused(rt: &HostRuntime, text: Text, line: usize, refused: u8) {
     let mut said = [0u8; 64];
     let used = write_report::write_fault(&mut said, text, line, refused);
     io::write_all(STDERR_FILENO, &said[..used]);
-    tell(rt, true);
+    program_io::tell(rt, false, true);
 }
 
 fn say_ending(ending: Ending) {
@@ -59,6 +53,6 @@ fn main(rt: HostRuntime) {
     let ending = done.ending;
     if io::write_all(STDOUT_FILENO, &out[..used]) {
         say_ending(ending);
-        tell(&rt, false);
+        program_io::tell(&rt, false, false);
     }
 }

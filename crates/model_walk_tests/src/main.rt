@@ -3,11 +3,10 @@
 // Promised by `model_walk_lib`: all of it but the name. A paper is a line of cases.py, and make.py writes the rest.
 #![tactic(auto)]
 
-ghost use Rattle.std.specs.Prelude.{◌≤◌};
-
 use model::Text;
 use model_walk_lib::Modelled;
 use model_walk_spec::Ending;
+use program_io::show_count;
 
 const STDOUT_FILENO: i32 = 1;
 
@@ -17,28 +16,9 @@ const FOUND: u8 = b'#';
 // No model walk has more bytes.
 const ROOM: usize = 17428;
 
-fn print_count(key: &[u8], n: usize) {
-    io::write_all(STDOUT_FILENO, key);
-    io::print_decimal(STDOUT_FILENO, n as u64);
-    io::write_all(STDOUT_FILENO, b"\n");
-}
-
-fn one_if_found(b: u8) -> usize
-    ensures { result ≤ 1 }
-{
-    if b == FOUND {
-        return 1;
-    }
-    0
-}
-
 // How many bytes are as they were found.
-fn as_found(buffer: &[u8; ROOM]) -> usize {
-    let mut n: usize = 0;
-    for i in 0..ROOM {
-        n += one_if_found(buffer[i]);
-    }
-    n
+fn as_found(buffer: &[u8]) -> usize {
+    buffer.iter().filter(|b| **b == FOUND).count()
 }
 
 fn print_text(text: Text) {
@@ -78,21 +58,21 @@ fn print_ending(ending: Ending) {
 fn print_answered(done: Modelled, found: usize) {
     let text = done.text;
     let ending = done.ending;
-    print_count(b"refused=", model::wide(done.refused));
+    show_count(STDOUT_FILENO, b"refused=", model::wide(done.refused));
     print_text(text);
-    print_count(b"line=", done.line);
+    show_count(STDOUT_FILENO, b"line=", done.line);
     print_ending(ending);
-    print_count(b"steps=", done.steps as usize);
-    print_count(b"written=", done.written);
-    print_count(b"found=", found);
+    show_count(STDOUT_FILENO, b"steps=", done.steps as usize);
+    show_count(STDOUT_FILENO, b"written=", done.written);
+    show_count(STDOUT_FILENO, b"found=", found);
 }
 
 // The number in a buffer of n bytes, and how many bytes stay as found.
 fn print_room(sheet: &[u8], given: bool, start: &[u8], n: usize) {
     let mut out = [FOUND; ROOM];
-    let size = model::smaller(n, ROOM);
+    let size = n.min(ROOM);
     let done = model_walk_lib::model_walk(sheet, given, start, &mut out[..size]);
-    print_count(b"room=", size);
+    show_count(STDOUT_FILENO, b"room=", size);
     print_answered(done, as_found(&out));
 }
 

@@ -33,6 +33,7 @@ pub fn read_text<R: std::io::Read>(file: &mut R, text: &mut [u8]) -> std::io::Re
     ensures { IfOk result (λ n. IsPrefixLen n text.new) }
 {
     let mut size: usize = 0;
+    // Bytes are counted, and no index: std's `read_exact` wants as many as there is room, and its `read_to_end` memory that grows.
     while size < text.len() {
         let more = file.read(&mut text[size..])?;
         if more == 0 {
@@ -73,6 +74,7 @@ fn read_until_failed<R: std::io::Read>(file: &mut R, text: &mut [u8]) -> usize
     ensures { IsPrefixLen result text.new }
 {
     let mut size: usize = 0;
+    // As in `read_text`, but for what a read that fails leaves.
     while size < text.len() {
         let more = read_some(file, &mut text[size..]).unwrap_or(0);
         if more == 0 {
@@ -166,19 +168,35 @@ pub fn tell_of(unread: bool, refused: bool) {
     io::write_all(HEARD, told);
 }
 
-// What a program prints, and then that all of it was written, where a script hears: its report says what is refused.
-pub fn finish<E: Env>(rt: &E, out: &[u8], unread: bool) {
-    if io::write_all(STDOUT_FILENO, out) && has_argument(rt, 1) {
-        tell_of(unread, false);
+// The same, where a script hears: it has called the program with an argument.
+pub fn tell<E: Env>(rt: &E, unread: bool, refused: bool) {
+    if has_argument(rt, 1) {
+        tell_of(unread, refused);
     }
+}
+
+// What a program prints, and then that all of it was written: its report says what is refused.
+pub fn finish<E: Env>(rt: &E, out: &[u8], unread: bool) {
+    if io::write_all(STDOUT_FILENO, out) {
+        tell(rt, unread, false);
+    }
+}
+
+// A key and a number, on standard output or on standard error.
+pub fn show_number(to: i32, key: &[u8], n: usize) {
+    io::write_all(to, key);
+    io::print_decimal(to, n as u64);
+}
+
+// The same as a line.
+pub fn show_count(to: i32, key: &[u8], n: usize) {
+    show_number(to, key, n);
+    io::write_all(to, b"\n");
 }
 
 // On standard error: the text that is refused, the line at fault, and the number.
 pub fn say_fault(text: &[u8], line: usize, refused: u8) {
     io::write_all(STDERR_FILENO, text);
-    io::write_all(STDERR_FILENO, b"line=");
-    io::print_decimal(STDERR_FILENO, line as u64);
-    io::write_all(STDERR_FILENO, b"\nrefused=");
-    io::print_decimal(STDERR_FILENO, refused as u64);
-    io::write_all(STDERR_FILENO, b"\n");
+    show_count(STDERR_FILENO, b"line=", line);
+    show_count(STDERR_FILENO, b"refused=", refused as usize);
 }

@@ -2,48 +2,35 @@
 // `NAME refused=N line=L start=S size=Z`, with the line at fault by its number and as a part of the text. make.py writes the cases.
 #![tactic(auto)]
 
+use program_io::show_number;
+
 const STDOUT_FILENO: i32 = 1;
-
-fn ends_in(name: &[u8], end: &[u8]) -> bool {
-    if name.len() < end.len() {
-        return false;
-    }
-    let start = name.len() - end.len();
-    check::same(&name[start..], end)
-}
-
-fn write_number(key: &[u8], n: usize) {
-    io::write_all(STDOUT_FILENO, key);
-    io::print_decimal(STDOUT_FILENO, n as u64);
-}
 
 // Only after 2 to 5 is there a line at fault; else the part is empty.
 fn write_reading(name: &[u8], text: &[u8], refused: u8, place: usize) {
-    let mut line: usize = 0;
-    let mut size: usize = 0;
-    match refused {
-        2..=5 => {
-            line = read_lines::line_number(text, place);
-            size = read_lines::line_size(text, place);
-        }
-        _ => {}
-    }
+    let (line, size) = match refused {
+        2..=5 => (
+            read_lines::line_number(text, place),
+            read_lines::line_size(text, place),
+        ),
+        _ => (0, 0),
+    };
     io::write_all(STDOUT_FILENO, name);
-    write_number(b" refused=", model::wide(refused));
-    write_number(b" line=", line);
-    write_number(b" start=", place);
-    write_number(b" size=", size);
+    show_number(STDOUT_FILENO, b" refused=", model::wide(refused));
+    show_number(STDOUT_FILENO, b" line=", line);
+    show_number(STDOUT_FILENO, b" start=", place);
+    show_number(STDOUT_FILENO, b" size=", size);
     io::write_all(STDOUT_FILENO, b"\n");
 }
 
 fn read_text(name: &[u8], text: &[u8]) {
-    if ends_in(name, b".sheet") {
+    if name.ends_with(b".sheet") {
         let mut tables = [0u32; 2002];
         let mut program = [0u32; 1282];
         let read = read_sheet::fill_sheet(text, &mut tables, &mut program);
         write_reading(name, text, read.refused, read.place);
     }
-    if ends_in(name, b".answer") {
+    if name.ends_with(b".answer") {
         let mut answer = [0u32; 3073];
         let read = read_answer::fill_answer(text, &mut answer);
         write_reading(name, text, read.refused, read.place);

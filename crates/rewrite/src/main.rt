@@ -6,21 +6,13 @@
 use model::Text;
 use read_lines::LONGEST;
 
-const STDOUT_FILENO: i32 = 1;
-
 const STDERR_FILENO: i32 = 2;
-
-fn tell(rt: &HostRuntime, refused: bool) {
-    if program_io::has_argument(rt, 1) {
-        program_io::tell_of(false, refused);
-    }
-}
 
 fn say_refused(rt: &HostRuntime, line: usize, refused: u8) {
     let mut said = [0u8; 64];
     let used = write_report::write_fault(&mut said, Text::Sheet, line, refused);
     io::write_all(STDERR_FILENO, &said[..used]);
-    tell(rt, true);
+    program_io::tell(rt, false, true);
 }
 
 // The text has room for a byte more than it may have, so that a longer one still gets 1.
@@ -35,7 +27,5 @@ fn main(rt: HostRuntime) {
         return;
     }
     let used = done.written;
-    if io::write_all(STDOUT_FILENO, &out[..used]) {
-        tell(&rt, false);
-    }
+    program_io::finish(&rt, &out[..used], false);
 }

@@ -2,9 +2,8 @@
 // they were found, then the rewritten sheet and what `judge` prints of it and the answer. Promised by `rewrite_lib` and `judge_lib`; make.py writes the cases.
 #![tactic(auto)]
 
-ghost use Rattle.std.specs.Prelude.{◌≤◌};
-
 use judge_spec::LENT_BYTES;
+use program_io::show_count;
 use read_lines::LONGEST;
 use rewrite_lib::Rewritten;
 
@@ -13,35 +12,16 @@ const STDOUT_FILENO: i32 = 1;
 // What every byte of the buffer holds before, and no sheet has.
 const FOUND: u8 = b'#';
 
-fn print_count(key: &[u8], n: usize) {
-    io::write_all(STDOUT_FILENO, key);
-    io::print_decimal(STDOUT_FILENO, n as u64);
-    io::write_all(STDOUT_FILENO, b"\n");
-}
-
-fn one_if_found(b: u8) -> usize
-    ensures { result ≤ 1 }
-{
-    if b == FOUND {
-        return 1;
-    }
-    0
-}
-
 // How many bytes are as they were found.
-fn as_found(buffer: &[u8; LONGEST]) -> usize {
-    let mut n: usize = 0;
-    for i in 0..LONGEST {
-        n += one_if_found(buffer[i]);
-    }
-    n
+fn as_found(buffer: &[u8]) -> usize {
+    buffer.iter().filter(|b| **b == FOUND).count()
 }
 
 fn print_answered(done: Rewritten, found: usize) {
-    print_count(b"refused=", model::wide(done.refused));
-    print_count(b"line=", done.line);
-    print_count(b"written=", done.written);
-    print_count(b"found=", found);
+    show_count(STDOUT_FILENO, b"refused=", model::wide(done.refused));
+    show_count(STDOUT_FILENO, b"line=", done.line);
+    show_count(STDOUT_FILENO, b"written=", done.written);
+    show_count(STDOUT_FILENO, b"found=", found);
 }
 
 // What the judge makes of a rewritten sheet.

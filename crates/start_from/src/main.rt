@@ -7,24 +7,14 @@
 use judge_lib::next::Next;
 use judge_spec::LENT_BYTES;
 use model::Text;
-
-const STDOUT_FILENO: i32 = 1;
+use program_io::show_count;
 
 const STDERR_FILENO: i32 = 2;
 
-fn tell(rt: &HostRuntime, unread: bool, refused: bool) {
-    if program_io::has_argument(rt, 1) {
-        program_io::tell_of(unread, refused);
-    }
-}
-
 // After a refused step: how many were allowed before it, and the number.
 fn say_step(accepted: usize, refused: u8) {
-    io::write_all(STDERR_FILENO, b"accepted=");
-    io::print_decimal(STDERR_FILENO, accepted as u64);
-    io::write_all(STDERR_FILENO, b"\nrefused=");
-    io::print_decimal(STDERR_FILENO, refused as u64);
-    io::write_all(STDERR_FILENO, b"\n");
+    show_count(STDERR_FILENO, b"accepted=", accepted);
+    show_count(STDERR_FILENO, b"refused=", refused as usize);
 }
 
 fn say_refused(next: Next) {
@@ -59,11 +49,9 @@ fn main(rt: HostRuntime) {
     );
     if next.refused != 0 {
         say_refused(next);
-        tell(&rt, read.is_none(), true);
+        program_io::tell(&rt, read.is_none(), true);
         return;
     }
     let used = next.used;
-    if io::write_all(STDOUT_FILENO, &out[..used]) {
-        tell(&rt, read.is_none(), false);
-    }
+    program_io::finish(&rt, &out[..used], read.is_none());
 }

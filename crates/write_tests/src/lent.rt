@@ -14,15 +14,13 @@ fn word_of(high: u32, low: u32) -> u32 {
 // Lines `PLACE,HIGH,LOW`, up to the first that is none.
 pub(crate) fn read_words(text: &[u8], all: &mut [u32; 6358]) {
     let mut at: usize = 0;
-    let mut turns: usize = 0;
-    while turns < 8000 {
+    for _ in 0..8000 {
         let line = numbers_within(text, at, Digits::Seven, Limits::Three(6358, 65536, 65536));
         let Numbers::Got(n, next) = line else {
             return;
         };
         put_word(all, n.first as usize, word_of(n.second, n.third));
         at = next;
-        turns += 1;
     }
 }
 
@@ -30,16 +28,13 @@ pub(crate) fn lend(all: &[u32; 6358], start: usize, count: usize, words: &mut [u
     requires start_bound { start ≤ 6358 }
     requires count_bound { count ≤ 6358 }
 {
-    let mut i: usize = 0;
-    while i < count {
+    for i in 0..count {
         put_word(words, i, mask_at(all, start + i));
-        i += 1;
     }
 }
 
 pub(crate) fn room_of(all: &[u32; 6358]) -> usize
     ensures { result ≤ 40000 }
 {
-    let room = mask_at(all, 6356) as usize;
-    if room < 40000 { room } else { 40000 }
+    (mask_at(all, 6356) as usize).min(40000)
 }

@@ -9,17 +9,10 @@ ghost use Rattle.std.specs.Prelude.{◌≤◌};
 ghost use Rattle.io.specs.Counts.{IsPrefixLen};
 
 use lent::{lend, read_words, room_of};
+use program_io::show_number;
 use write_texts::Written;
 
 const STDOUT_FILENO: i32 = 1;
-
-fn ends_in(name: &[u8], end: &[u8]) -> bool {
-    if name.len() < end.len() {
-        return false;
-    }
-    let start = name.len() - end.len();
-    check::same(&name[start..], end)
-}
 
 fn pen_sheet(tables: &[u32; 2002], program: &[u32; 1282], out: &mut [u8]) -> Written
     ensures { IsPrefixLen result.bytes out.new }
@@ -73,32 +66,15 @@ fn same_answer(text: &[u8]) -> bool {
 }
 
 fn same_text(name: &[u8], text: &[u8]) -> bool {
-    if ends_in(name, b".sheet") {
+    if name.ends_with(b".sheet") {
         return same_sheet(text);
     }
     same_answer(text)
 }
 
-fn one_if(test: bool) -> usize
-    ensures { result ≤ 1 }
-{
-    if test { 1 } else { 0 }
-}
-
 // Bytes that no writer writes stand in the buffer first; how many of them are there yet from a place on.
 fn untouched(out: &[u8], from: usize) -> usize {
-    let mut n: usize = 0;
-    let mut i = from;
-    while i < out.len() {
-        n += one_if(out[i] == b'~');
-        i += 1;
-    }
-    n
-}
-
-fn show(key: &[u8], n: usize) {
-    io::write_all(STDOUT_FILENO, key);
-    io::print_decimal(STDOUT_FILENO, n as u64);
+    out.iter().skip(from).filter(|b| **b == b'~').count()
 }
 
 fn show_text(out: &[u8], bytes: usize) {
@@ -108,10 +84,10 @@ fn show_text(out: &[u8], bytes: usize) {
 
 // A long text is told by its length alone.
 fn show_written(refused: u8, bytes: usize, read: u8, out: &[u8]) {
-    show(b" refused=", refused as usize);
-    show(b" bytes=", bytes);
-    show(b" read=", read as usize);
-    show(b" beside=", untouched(out, bytes));
+    show_number(STDOUT_FILENO, b" refused=", refused as usize);
+    show_number(STDOUT_FILENO, b" bytes=", bytes);
+    show_number(STDOUT_FILENO, b" read=", read as usize);
+    show_number(STDOUT_FILENO, b" beside=", untouched(out, bytes));
     io::write_all(STDOUT_FILENO, b"\n");
     if bytes < 1000 {
         show_text(out, bytes);
@@ -160,7 +136,7 @@ fn run_text(rt: &HostRuntime, i: usize) {
     let mut buffer = [0u8; 70000];
     let n = program_io::read_named(rt, &name[..k], &mut buffer).unwrap_or(0);
     io::write_all(STDOUT_FILENO, &name[..k]);
-    if ends_in(&name[..k], b".words") {
+    if name[..k].ends_with(b".words") {
         write_words(&buffer[..n]);
         return;
     }
