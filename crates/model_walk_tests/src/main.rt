@@ -70,7 +70,7 @@ fn print_answered(done: Modelled, found: usize) {
 // The number in a buffer of n bytes, and how many bytes stay as found.
 fn print_room(sheet: &[u8], given: bool, start: &[u8], n: usize) {
     let mut out = [FOUND; ROOM];
-    let size = model::smaller(n, ROOM);
+    let size = n.min(ROOM);
     let done = model_walk_lib::model_walk(sheet, given, start, &mut out[..size]);
     show_count(STDOUT_FILENO, b"room=", size);
     print_answered(done, as_found(&out));

@@ -147,6 +147,7 @@ pub fn take_names<R: Read, F: FnMut(&[u8]) -> Went>(input: &mut R, mut take: F) 
         unread: false,
         written: true,
     };
+    // A loop that is proved ends, so it counts its turns.
     for _ in 0..u64::MAX {
         let Some(next) = names.next_part(&mut name, 0) else {
             break;

@@ -33,6 +33,7 @@ pub fn read_text<R: std::io::Read>(file: &mut R, text: &mut [u8]) -> std::io::Re
     ensures { IfOk result (λ n. IsPrefixLen n text.new) }
 {
     let mut size: usize = 0;
+    // Bytes are counted, and no index: std's `read_exact` wants as many as there is room, and its `read_to_end` memory that grows.
     while size < text.len() {
         let more = file.read(&mut text[size..])?;
         if more == 0 {
@@ -73,6 +74,7 @@ fn read_until_failed<R: std::io::Read>(file: &mut R, text: &mut [u8]) -> usize
     ensures { IsPrefixLen result text.new }
 {
     let mut size: usize = 0;
+    // As in `read_text`, but for what a read that fails leaves.
     while size < text.len() {
         let more = read_some(file, &mut text[size..]).unwrap_or(0);
         if more == 0 {
