@@ -1,4 +1,4 @@
--- A line that is put into what was read so far (Laws; Placed: as it was placed), a line of one number and what a whole text comes to (Chain), and that no other answer fits (Once).
+-- A line put into what was read so far (Laws), as it was placed (Placed); a line of one number, what a whole text comes to (Chain); no other answer (Once).
 pub mod Laws
 pub mod Placed
 pub mod Chain

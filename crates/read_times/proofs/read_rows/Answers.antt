@@ -2,14 +2,11 @@ use mathlib.Core.Path.{sym}
 use native.Mathlib.Nat.{zero-add}
 use native.Mathlib.Omega.{arith}
 use Rattle.read_items.proofs.Laws.{handed_on}
-use Rattle.read_lines.proofs.Runs.{upto-start, upto_turn, upto-stop, upto-end}
+use Rattle.read_lines.proofs.Runs.{upto_turn, upto-stop, upto-end}
 use Rattle.times_spec.specs.Text.{time}
 use Rattle.read_times.specs.Says.{filled}
 use Rattle.read_times.proofs.Laws.{row_read, row-refused}
 use Rattle.read_times.proofs.read_rows.Goals as goal
-
-pub loop-row-init : goal.loop-row-init
-loop-row-init c par = upto-start time _ 0 _ _ _ _ c.place_in-at.ensures
 
 pub slice_bounds-time_line-count : goal.slice_bounds-time_line-count
 slice_bounds-time_line-count c = omega (arith, (c.loop-row.invariant 0).within)
