@@ -133,10 +133,7 @@ fn place_of(standing: Standing) -> usize
 fn sum_of(a: usize, b: usize) -> usize
     ensures { result ≡ sum a b }
 {
-    if usize::MAX - a < b {
-        return usize::MAX;
-    }
-    a + b
+    a.saturating_add(b)
 }
 
 // The line counted.

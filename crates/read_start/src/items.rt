@@ -87,6 +87,7 @@ fn items_then(
     }
     let mut i = at;
     let mut n: usize = 0;
+    // From item to item, as far as each one reached: no place is counted.
     while i < s.len() {
         let (pair, more, next) = item_then(s, i, end, tickets)?;
         put_item(slots, n, pair);
