@@ -4,6 +4,7 @@
 // candidate is one write, and the first write that fails ends it. On descriptor 3 it tells that all was written, and whether every answer was read.
 #![tactic(auto)]
 
+use judge_spec::Paper;
 use model::Text;
 use page_found::found_of;
 use page_lib::tops;
@@ -16,20 +17,16 @@ const STDOUT_FILENO: i32 = 1;
 // `longest` in crates/page_spec/specs/Room.antt: no candidate has more, and neither has the page's top.
 const LONGEST: usize = 294912;
 
-// The paper's texts.
+// The paper, and the times where there are some.
 #[derive(Clone, Copy)]
-struct Paper<'a> {
-    sheet: &'a [u8],
-    start: &'a [u8],
-    times: &'a [u8],
+struct Set<'a> {
+    paper: Paper<'a>,
+    times: Option<&'a [u8]>,
 }
 
-// Whether the paper has a start and times; whether the candidates are counted or written, and how many were; whether something could not be read, and whether
-// all was written.
+// Whether the candidates are counted or written, and how many were; whether something could not be read, and whether all was written.
 #[derive(Clone, Copy)]
 struct Sat {
-    given: bool,
-    marked: bool,
     counting: bool,
     candidates: usize,
     unread: bool,
@@ -43,8 +40,6 @@ fn print(block: &[u8], used: usize) -> bool {
 
 fn one_more(sat: Sat, unread: bool, written: bool) -> Sat {
     Sat {
-        given: sat.given,
-        marked: sat.marked,
         counting: sat.counting,
         candidates: wrapping_add_usize(sat.candidates, 1),
         unread: sat.unread | unread,
@@ -73,20 +68,19 @@ fn write_answer(
     block: &mut [u8],
     sat: Sat,
     found: Found,
-    sheet: &[u8],
-    start: &[u8],
+    paper: Paper<'_>,
     answer: &[u8],
     path: &[u8],
 ) -> Sat {
     let mut report = [0u8; 8192];
-    let n = judge_lib::print(sheet, sat.given, start, answer, &mut report);
+    let n = judge_lib::print(paper, answer, &mut report);
     let from = base_from(path);
     let used = page_lib::write_candidate(
         block,
         sat.candidates,
         &path[from..],
         found,
-        sheet,
+        paper.sheet,
         answer,
         &report[..n],
     );
@@ -98,7 +92,7 @@ fn run_answer(
     block: &mut [u8],
     counts: &mut [usize; 41],
     sat: Sat,
-    paper: Paper<'_>,
+    set: Set<'_>,
     listed: Listed<'_>,
 ) -> Sat {
     let path = listed.name;
@@ -106,28 +100,13 @@ fn run_answer(
     let Ok(size) = program_io::read_named(rt, listed.path, &mut answer) else {
         return run_unreadable(block, counts, sat, path);
     };
-    let row = register_lib::row_of(
-        paper.sheet,
-        sat.given,
-        paper.start,
-        sat.marked,
-        paper.times,
-        &answer[..size],
-    );
+    let row = register_lib::row_of(set.paper, set.times, &answer[..size]);
     let found = found_of(row, &answer[..size]);
     if sat.counting {
         count(counts, found.group);
         return one_more(sat, false, true);
     }
-    write_answer(
-        block,
-        sat,
-        found,
-        paper.sheet,
-        paper.start,
-        &answer[..size],
-        path,
-    )
+    write_answer(block, sat, found, set.paper, &answer[..size], path)
 }
 
 // What stands before the candidates, once they are counted.
@@ -153,8 +132,6 @@ fn begin(rt: &HostRuntime, block: &mut [u8], counts: &mut [usize; 41], sat: Sat)
     let written = print(block, used);
     let n = tops::write_counts(block, sat.candidates, counts);
     Sat {
-        given: sat.given,
-        marked: sat.marked,
         counting: false,
         candidates: 0,
         unread: sat.unread,
@@ -168,7 +145,7 @@ fn run_name(
     block: &mut [u8],
     counts: &mut [usize; 41],
     sat: Sat,
-    paper: Paper<'_>,
+    set: Set<'_>,
     name: &[u8],
 ) -> Sat {
     if name.len() == 0 {
@@ -178,24 +155,16 @@ fn run_name(
     if !listed.plain {
         return run_unreadable(block, counts, sat, listed.name);
     }
-    run_answer(rt, block, counts, sat, paper, listed)
+    run_answer(rt, block, counts, sat, set, listed)
 }
 
-fn run_names(
-    rt: &HostRuntime,
-    block: &mut [u8],
-    paper: Paper<'_>,
-    given: bool,
-    marked: bool,
-) -> Sat {
+fn run_names(rt: &HostRuntime, block: &mut [u8], set: Set<'_>) -> Sat {
     let mut input = rt.stdin();
     let mut name = [0u8; 4097];
     let mut bytes = [0u8; 65536];
     let mut counts = [0usize; 41];
     let mut names = program_input::no_parts_yet();
     let mut sat = Sat {
-        given,
-        marked,
         counting: true,
         candidates: 0,
         unread: false,
@@ -211,12 +180,10 @@ fn run_names(
         if !next.there {
             break;
         }
-        sat = run_name(rt, block, &mut counts, sat, paper, &name[..size]);
+        sat = run_name(rt, block, &mut counts, sat, set, &name[..size]);
         turns -= 1;
     }
     Sat {
-        given,
-        marked,
         counting: sat.counting,
         candidates: sat.candidates,
         unread: sat.unread | names.failed,
@@ -240,14 +207,14 @@ fn say_fault(rt: &HostRuntime, text: Text, line: usize, refused: u8) {
     program_io::tell_of(false, true);
 }
 
-fn run(rt: &HostRuntime, block: &mut [u8], paper: Paper<'_>, given: bool, marked: bool) {
-    let verdict = outcome_lib::paper_verdict(paper.sheet, given, paper.start, marked, paper.times);
+fn run(rt: &HostRuntime, block: &mut [u8], set: Set<'_>) {
+    let verdict = outcome_lib::paper_verdict(set.paper, set.times);
     if verdict.refused != 0 {
         let text = verdict.text;
         say_fault(rt, text, verdict.line, verdict.refused);
         return;
     }
-    let sat = run_names(rt, block, paper, given, marked);
+    let sat = run_names(rt, block, set);
     if !sat.written {
         return;
     }
@@ -267,15 +234,13 @@ fn main(rt: HostRuntime) {
     let mut start = [0u8; 8193];
     let l = argument(&rt, 3, &mut path);
     let begun = program_io::read_start(&rt, &path[..l], &mut start);
-    let b = begun.unwrap_or(0);
     let mut times = [0u8; 32769];
     let m = argument(&rt, 4, &mut path);
     let timed = program_io::read_start(&rt, &path[..m], &mut times);
-    let t = timed.unwrap_or(0);
     let paper = Paper {
         sheet: &sheet[..n],
-        start: &start[..b],
-        times: &times[..t],
+        start: begun.map(|b| &start[..b]),
     };
-    run(&rt, &mut block, paper, begun.is_some(), timed.is_some());
+    let times = timed.map(|t| &times[..t]);
+    run(&rt, &mut block, Set { paper, times });
 }

@@ -4,6 +4,7 @@
 // ends it. On descriptor 3 it tells that all was written, and whether every answer was read.
 #![tactic(auto)]
 
+use judge_spec::Paper;
 use model::Text;
 use program_input::{Listed, argument, at_most, base_from, next_part, read_listed};
 use register_lib::{row_of, write_row};
@@ -13,14 +14,11 @@ const STDOUT_FILENO: i32 = 1;
 // A name of 4,096 bytes, each shown as four at most, and the cells after it.
 const LONGEST: usize = 16600;
 
-// The sheet, and the start and the times where there are some.
+// The paper, and the times where there are some.
 #[derive(Clone, Copy)]
-struct Paper<'a> {
-    sheet: &'a [u8],
-    given: bool,
-    start: &'a [u8],
-    marked: bool,
-    times: &'a [u8],
+struct Set<'a> {
+    paper: Paper<'a>,
+    times: Option<&'a [u8]>,
 }
 
 // Whether something could not be read, and whether all was written.
@@ -45,20 +43,13 @@ fn run_unreadable(block: &mut [u8], path: &[u8]) -> Went {
     }
 }
 
-fn run_answer(rt: &HostRuntime, block: &mut [u8], paper: Paper<'_>, listed: Listed<'_>) -> Went {
+fn run_answer(rt: &HostRuntime, block: &mut [u8], set: Set<'_>, listed: Listed<'_>) -> Went {
     let path = listed.name;
     let mut answer = [0u8; 32769];
     let Ok(size) = program_io::read_named(rt, listed.path, &mut answer) else {
         return run_unreadable(block, path);
     };
-    let row = row_of(
-        paper.sheet,
-        paper.given,
-        paper.start,
-        paper.marked,
-        paper.times,
-        &answer[..size],
-    );
+    let row = row_of(set.paper, set.times, &answer[..size]);
     let from = base_from(path);
     let used = write_row(block, 0, &path[from..], row);
     Went {
@@ -68,15 +59,15 @@ fn run_answer(rt: &HostRuntime, block: &mut [u8], paper: Paper<'_>, listed: List
 }
 
 // A name after its mark.
-fn run_name(rt: &HostRuntime, block: &mut [u8], paper: Paper<'_>, name: &[u8]) -> Went {
+fn run_name(rt: &HostRuntime, block: &mut [u8], set: Set<'_>, name: &[u8]) -> Went {
     let listed = read_listed(name);
     if !listed.plain {
         return run_unreadable(block, listed.name);
     }
-    run_answer(rt, block, paper, listed)
+    run_answer(rt, block, set, listed)
 }
 
-fn run_names(rt: &HostRuntime, block: &mut [u8], paper: Paper<'_>) -> Went {
+fn run_names(rt: &HostRuntime, block: &mut [u8], set: Set<'_>) -> Went {
     let mut input = rt.stdin();
     let mut name = [0u8; 4097];
     let mut bytes = [0u8; 65536];
@@ -93,7 +84,7 @@ fn run_names(rt: &HostRuntime, block: &mut [u8], paper: Paper<'_>) -> Went {
         if !next.there {
             break;
         }
-        let went = run_name(rt, block, paper, &name[..size]);
+        let went = run_name(rt, block, set, &name[..size]);
         unread = unread | went.unread;
         written = went.written;
         turns -= 1;
@@ -120,14 +111,8 @@ fn say_fault(rt: &HostRuntime, text: Text, line: usize, refused: u8) {
     program_io::tell_of(false, true);
 }
 
-fn run(rt: &HostRuntime, block: &mut [u8], paper: Paper<'_>) {
-    let verdict = outcome_lib::paper_verdict(
-        paper.sheet,
-        paper.given,
-        paper.start,
-        paper.marked,
-        paper.times,
-    );
+fn run(rt: &HostRuntime, block: &mut [u8], set: Set<'_>) {
+    let verdict = outcome_lib::paper_verdict(set.paper, set.times);
     if verdict.refused != 0 {
         let text = verdict.text;
         say_fault(rt, text, verdict.line, verdict.refused);
@@ -137,7 +122,7 @@ fn run(rt: &HostRuntime, block: &mut [u8], paper: Paper<'_>) {
     if !print(block, used) {
         return;
     }
-    let went = run_names(rt, block, paper);
+    let went = run_names(rt, block, set);
     if went.written {
         program_io::tell_of(went.unread, false);
     }
@@ -153,17 +138,13 @@ fn main(rt: HostRuntime) {
     let mut start = [0u8; 8193];
     let l = argument(&rt, 3, &mut path);
     let begun = program_io::read_start(&rt, &path[..l], &mut start);
-    let b = begun.unwrap_or(0);
     let mut times = [0u8; 32769];
     let m = argument(&rt, 4, &mut path);
     let timed = program_io::read_start(&rt, &path[..m], &mut times);
-    let t = timed.unwrap_or(0);
     let paper = Paper {
         sheet: &sheet[..n],
-        given: begun.is_some(),
-        start: &start[..b],
-        marked: timed.is_some(),
-        times: &times[..t],
+        start: begun.map(|b| &start[..b]),
     };
-    run(&rt, &mut block, paper);
+    let times = timed.map(|t| &times[..t]);
+    run(&rt, &mut block, Set { paper, times });
 }

@@ -4,7 +4,7 @@
 
 ghost use Rattle.std.specs.Prelude.{◌≤◌};
 
-use judge_spec::LENT_BYTES;
+use judge_spec::{LENT_BYTES, Paper};
 use read_lines::LONGEST;
 use rewrite_lib::Rewritten;
 
@@ -48,7 +48,7 @@ fn print_answered(done: Rewritten, found: usize) {
 fn print_judged(sheet: &[u8], answer: &[u8]) {
     io::write_all(STDOUT_FILENO, sheet);
     let mut report = [0u8; LENT_BYTES];
-    let used = judge_lib::print(sheet, false, b"", answer, &mut report);
+    let used = judge_lib::print(Paper { sheet, start: None }, answer, &mut report);
     io::write_all(STDOUT_FILENO, &report[..used]);
 }
 

@@ -4,19 +4,12 @@
 // write that fails ends it. On descriptor 3 it tells that all was written, and whether every answer was read.
 #![tactic(auto)]
 
+use judge_spec::Paper;
 use model::Text;
 use program_input::{Listed, argument, at_most, next_part, read_listed};
 use sitting_lib::LONGEST;
 
 const STDOUT_FILENO: i32 = 1;
-
-// The sheet, and the start where there is one.
-#[derive(Clone, Copy)]
-struct Paper<'a> {
-    sheet: &'a [u8],
-    given: bool,
-    start: &'a [u8],
-}
 
 // How many candidates there were, whether something could not be read, and whether all was written.
 #[derive(Clone, Copy)]
@@ -57,14 +50,7 @@ fn run_answer(
     let Ok(size) = program_io::read_named(rt, listed.path, &mut answer) else {
         return run_unread(block, name, went);
     };
-    let used = sitting_lib::write_candidate(
-        block,
-        name,
-        paper.sheet,
-        paper.given,
-        paper.start,
-        &answer[..size],
-    );
+    let used = sitting_lib::write_candidate(block, name, paper, &answer[..size]);
     one_more(went, false, print(block, used))
 }
 
@@ -155,20 +141,13 @@ fn is_refused(rt: &HostRuntime, text: Text, line: usize, refused: u8) -> bool {
     true
 }
 
-fn paper_refused(
-    rt: &HostRuntime,
-    sheet: &[u8],
-    given: bool,
-    start: &[u8],
-    timed: bool,
-    times: &[u8],
-) -> bool {
-    if sitting_lib::is_aeolus(sheet) {
-        let verdict = sitting_lib::plans::paper_verdict(sheet);
+fn paper_refused(rt: &HostRuntime, paper: Paper<'_>, times: Option<&[u8]>) -> bool {
+    if sitting_lib::is_aeolus(paper.sheet) {
+        let verdict = sitting_lib::plans::paper_verdict(paper.sheet);
         let text = verdict.text;
         return is_refused(rt, text, verdict.line, verdict.refused);
     }
-    let verdict = outcome_lib::paper_verdict(sheet, given, start, timed, times);
+    let verdict = outcome_lib::paper_verdict(paper, times);
     let text = verdict.text;
     is_refused(rt, text, verdict.line, verdict.refused)
 }
@@ -183,25 +162,14 @@ fn main(rt: HostRuntime) {
     let mut start = [0u8; 8193];
     let l = argument(&rt, 3, &mut path);
     let begun = program_io::read_start(&rt, &path[..l], &mut start);
-    let b = begun.unwrap_or(0);
     let mut times = [0u8; 32769];
     let m = argument(&rt, 4, &mut path);
     let timed = program_io::read_start(&rt, &path[..m], &mut times);
-    let t = timed.unwrap_or(0);
-    let refused = paper_refused(
-        &rt,
-        &sheet[..n],
-        begun.is_some(),
-        &start[..b],
-        timed.is_some(),
-        &times[..t],
-    );
-    if !refused {
-        let paper = Paper {
-            sheet: &sheet[..n],
-            given: begun.is_some(),
-            start: &start[..b],
-        };
+    let paper = Paper {
+        sheet: &sheet[..n],
+        start: begun.map(|b| &start[..b]),
+    };
+    if !paper_refused(&rt, paper, timed.map(|t| &times[..t])) {
         sit(&rt, &mut block, paper);
     }
 }
