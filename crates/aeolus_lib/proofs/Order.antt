@@ -6,9 +6,8 @@ use mathlib.Core.Path.{◌≡◌, refl}
 use lib.ListN.{length}
 use Rattle.read_chain.specs.declared.Place.{Place}
 use Rattle.read_chain.specs.Whole.{Whole, whole, beside}
-use Rattle.judge_spec.specs.Course.{reached, short_start}
-use Rattle.judge_lib.specs.declared.pairs.Outcome.{Outcome}
-use Rattle.judge_lib.specs.declared.pairs.Outcome.TheVariants.{InSheet, InStart, InAnswer, Reached}
+use Rattle.model.specs.declared.Text.{Text}
+use Rattle.judge_spec.specs.Course.{faulty, reached, short_start}
 use Rattle.judge_lib.specs.Came.{alone_as, outcome_of, came}
 use Rattle.start_spec.specs.Paper.{nothing as unstarted}
 use Rattle.judge_lib.proofs.Order.{in_order_is, begins-alone, unbegun, Told, told-then}
@@ -22,20 +21,21 @@ use Rattle.aeolus_judge_spec.specs.Course.{both, course}
 module _ (s a : List ℕ) where
   -- of what the two readers answered, x beside the universe and y beside the plan
   pub both-comes : (x y : Place) (u : Universe) (g : Plan) → beside x u ≡ whole no_universe sheet s → beside y g ≡ whole no_plan (plan u.count) a
-      → (came (outcome_of (length s) (alone_as x) (length a) y) (u, g) ≡ both s a) × Told s unstarted a (both s a)
+      → (came (outcome_of (length s) (alone_as x) (length a) y) (λ _. (u, g)) ≡ both s a) × Told s unstarted a (both s a)
   unfolding both short_start
   both-comes x y u g is also =
       in_order_is sheet (λ _. reached tt) (λ u. plan u.count) (λ u _ g. (u, g)) s unstarted a no_universe no_plan {r = beside x u} {b = unbegun} {y = beside y g} is (λ p l e. begins-alone) also
       (sheet-stops s) (plan-stops u.count a)
 
   -- the course goes on with the run of what they say, from c, where nothing is deployed
-  pub outcome-runs : (o : Outcome) (u : Universe) (g : Plan) {w : Ran} {c : Configuration} → came o (u, g) ≡ both s a → c ≡ nothing
-      → w ≡ run u c (actions_of g) → came o (u, w) ≡ course s a
+  pub run-goes : (u : Universe) (g : Plan) {w : Ran} {c : Configuration} → reached (u, g) ≡ both s a → c ≡ nothing
+      → w ≡ run u c (actions_of g) → reached (u, w) ≡ course s a
   unfolding course
-  outcome-runs (InSheet n at) u g e z f = rw (← e)
-  outcome-runs (InStart n at) u g e z f = rw (← e)
-  outcome-runs (InAnswer n at) u g e z f = rw (← e)
-  outcome-runs Reached u g e z f = rw (← e, f, z)
+  run-goes u g e z f = rw (← e, f, z)
+
+  pub fault-goes : (x : Text) (n at : ℕ) → faulty x n at ≡ both s a → faulty x n at ≡ course s a
+  unfolding course
+  fault-goes x n at e = rw (← e)
 
   -- a fault lies in its text
   pub course-told : Told s unstarted a (course s a)

@@ -1,9 +1,10 @@
 -- The place of the offending line lies within its text.
 -- Assumes nothing.
-use Prim.Native.Nat.{ℕ, zero-le}
+use Prim.Native.Nat.{ℕ, ◌≤◌, min, zero-le}
 use mathlib.Core.List.{List}
-use mathlib.Core.Bool.{false}
 use mathlib.Core.Path.{◌≡◌, refl}
+use native.Mathlib.Omega.{arith}
+use denote.Ref.{Bor}
 use lib.Dec.{leb}
 use lib.ListN.{length}
 use Rattle.item_spec.proofs.Tests.{by-test}
@@ -12,7 +13,8 @@ use Rattle.model.specs.declared.Text.TheVariants as text
 use Rattle.judge_spec.specs.Course.{Course}
 use Rattle.judge_spec.specs.declared.Place.{Place}
 use Rattle.judge_spec.specs.Judged.{text_of, paper_text}
-use Rattle.start_spec.specs.Paper.{nothing, paper}
+use Rattle.start_spec.specs.Paper.{nothing, nothing_up}
+use Rattle.judge_lib.specs.Part.{Part, holder, PartAt}
 use Rattle.judge_lib.proofs.Order.{Told, in-sheet, in_start, in-answer, walks}
 use Rattle.judge_lib.proofs.Places.{Within, fault-within, step-within}
 use Rattle.aeolus_model.specs.Model.{Universe}
@@ -35,13 +37,22 @@ place-within s a room = go (course-told s a)
     go (in-answer {n} {at} f) = fault-within (λ x. text_of x s a) text.Answer n at f
     go (walks {x}) = run-within (λ x. text_of x s a) room x.1 (report x.0 x.1)
 
--- the two texts as those of a paper with nothing up, whatever bytes stand for its start
-pub paper-within : (s b a : List ℕ) (p : Place) → Within (λ x. text_of x s a) p → Within (λ x. paper_text x (paper s false b) a) p
-paper-within s b a p h = rw (same p.text) h
+-- the two texts are those of a paper with nothing up
+pub as-paper : (x : Text) (s a : List ℕ) → paper_text x (nothing_up s) a ≡ text_of x s a
+as-paper text.Neither s a = refl
+as-paper text.Sheet s a = refl
+as-paper text.Answer s a = refl
+as-paper text.Times s a = refl
+as-paper text.Start s a = refl
+
+-- the place that is promised tells a part of its text: no start is at fault, so it doesn't matter what stands for one
+pub part_placed : (s a : Bor (List ℕ)) (p q : Place) (r : Bor (List ℕ)) → p ≡ q → Within (λ x. text_of x s.now a.now) q
+    → Part (holder p.text s s a) (min p.start (length (holder p.text s s a).now)) p.size r → PartAt q s s a r
+part_placed s a p q r e w h = rw (in-text q.text q.start (omega arith)) at (rw e at h)
   where
-    same : (x : Text) → paper_text x (paper s false b) a ≡ text_of x s a
-    same text.Neither = refl
-    same text.Sheet = refl
-    same text.Answer = refl
-    same text.Times = refl
-    same text.Start = refl
+    in-text : (x : Text) (n : ℕ) → n ≤ length (text_of x s.now a.now) → min n (length (holder x s s a).now) ≡ n
+    in-text text.Neither n h = omega arith
+    in-text text.Sheet n h = omega arith
+    in-text text.Answer n h = omega arith
+    in-text text.Times n h = omega arith
+    in-text text.Start n h = omega arith

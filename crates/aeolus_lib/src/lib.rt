@@ -3,7 +3,7 @@
 #![tactic(auto)]
 
 ghost use Rattle.std.specs.Prelude.{◌≡◌, List, ℕ, ◌≤◌, ◌<◌, leb, length};
-ghost use Rattle.judge_spec.specs.Judged.{step_place, fault_place, over};
+ghost use Rattle.judge_spec.specs.Judged.{text_of, step_place, fault_place, over};
 ghost use Rattle.judge_lib.specs.Came.{came};
 ghost use Rattle.judge_lib.specs.Counts.{Counts};
 ghost use Rattle.judge_lib.specs.Part.{PartAt};
@@ -21,9 +21,9 @@ use aeolus_model::{Deployed, Plan, Universe, clear_deployed, types};
 use aeolus_step::Passed;
 use aeolus_write_report::write_report;
 use item_spec::BUFFER_SHORT;
-use judge_lib::pairs::{Outcome, alone, outcome_of};
-use judge_lib::parts::{fault_or_report, part_at};
-use judge_spec::{LENT_BYTES, Place};
+use judge_lib::pairs::{TextFault, alone, outcome_of};
+use judge_lib::parts::{fault_or_report, part_at, text_of};
+use judge_spec::{LENT_BYTES, Paper, Place};
 use model::{Text, smaller};
 
 // No report that two texts come to has more bytes.
@@ -32,8 +32,13 @@ const LARGEST: usize = 1811;
 // ---- the two texts
 
 // What both texts say, in lent words.
-fn read_both(sheet: &[u8], answer: &[u8], universe: &mut Universe, plan: &mut Plan) -> Outcome
-    ensures { came result (universe_in universe.new, plan_in plan.new) ≡ both sheet.now answer.now }
+fn read_both(
+    sheet: &[u8],
+    answer: &[u8],
+    universe: &mut Universe,
+    plan: &mut Plan,
+) -> Result<(), TextFault>
+    ensures { came result (λ _. (universe_in universe.new, plan_in plan.new)) ≡ both sheet.now answer.now }
 {
     let said = aeolus_read_sheet::fill_universe(sheet, universe);
     let n = types(universe);
@@ -41,22 +46,20 @@ fn read_both(sheet: &[u8], answer: &[u8], universe: &mut Universe, plan: &mut Pl
     outcome_of(sheet, alone(said), answer, given)
 }
 
-// How far the two texts came, and the run where both are read.
-#[derive(Clone, Copy)]
-struct Came {
-    outcome: Outcome,
-    passed: Passed,
-}
-
-fn run_texts(sheet: &[u8], answer: &[u8], universe: &mut Universe, deployed: &mut Deployed) -> Came
-    ensures { came result.outcome (universe_in universe.new, ran result.passed (configuration_in deployed.new))
+// The run, where both texts are read.
+fn run_texts(
+    sheet: &[u8],
+    answer: &[u8],
+    universe: &mut Universe,
+    deployed: &mut Deployed,
+) -> Result<Passed, TextFault>
+    ensures { came result (λ p. (universe_in universe.new, ran p (configuration_in deployed.new)))
         ≡ course sheet.now answer.now }
 {
     let mut plan = [0u32; 4097];
-    let outcome = read_both(sheet, answer, universe, &mut plan);
+    read_both(sheet, answer, universe, &mut plan)?;
     clear_deployed(deployed);
-    let passed = aeolus_step::run(universe, &plan, deployed);
-    Came { outcome, passed }
+    Ok(aeolus_step::run(universe, &plan, deployed))
 }
 
 // ---- what they come to
@@ -153,12 +156,14 @@ pub struct Judged {
     pub place: Place,
 }
 
-fn judge_fault(x: Text, s: &[u8], n: u8, at: usize) -> Judged
-    ensures verdict { result.verdict ≡ (after_fault x n at s.now).verdict }
-    ensures place { result.place ≡ fault_place x n at s.now }
+fn judge_fault(sheet: &[u8], answer: &[u8], fault: TextFault) -> Judged
+    ensures verdict { result.verdict ≡ (after_fault fault.text fault.refused fault.at (text_of fault.text sheet.now answer.now)).verdict }
+    ensures place { result.place ≡ fault_place fault.text fault.refused fault.at (text_of fault.text sheet.now answer.now) }
 {
-    let verdict = fault_verdict(x, s, n, at);
-    let place = judge_verdicts::fault_place(x, s, n, at);
+    let text = fault.text;
+    let s = text_of(Paper { sheet, start: None }, answer, text);
+    let verdict = fault_verdict(text, s, fault.refused, fault.at);
+    let place = judge_verdicts::fault_place(text, s, fault.refused, fault.at);
     Judged { verdict, place }
 }
 
@@ -192,14 +197,9 @@ pub fn judge_and_place(sheet: &[u8], answer: &[u8], report: &mut [u8]) -> Judged
 {
     let mut universe = [0u32; 12881];
     let mut deployed = [0u32; 577];
-    let came = run_texts(sheet, answer, &mut universe, &mut deployed);
-    let outcome = came.outcome;
-    let passed = came.passed;
-    match outcome {
-        Outcome::InSheet(n, at) => judge_fault(Text::Sheet, sheet, n, at),
-        Outcome::InStart(n, at) => judge_fault(Text::Start, b"", n, at),
-        Outcome::InAnswer(n, at) => judge_fault(Text::Answer, answer, n, at),
-        Outcome::Reached => judge_run(&universe, &deployed, passed, answer, report),
+    match run_texts(sheet, answer, &mut universe, &mut deployed) {
+        Ok(passed) => judge_run(&universe, &deployed, passed, answer, report),
+        Err(fault) => judge_fault(sheet, answer, fault),
     }
 }
 

@@ -14,7 +14,7 @@ ghost use Rattle.compare_batch.specs.Within.{Small, Inside};
 use flow::{Flow, flush, gather, place_for};
 use header::{HEADER, Header, read_header};
 use judge_lib::Judged;
-use judge_spec::{Place, Verdict};
+use judge_spec::{Paper, Place, Verdict};
 use model::{Concerned, Text};
 use std::io::Read;
 
@@ -52,10 +52,10 @@ fn write_place(out: &mut [u8], at: usize, place: Place, written: usize) -> usize
     write_items::write_byte(out, d, b'\n')
 }
 
-fn judge_answer(sheet: &[u8], given: bool, start: &[u8], answer: &[u8], report: &mut [u8]) -> Judged
+fn judge_answer(paper: Paper<'_>, answer: &[u8], report: &mut [u8]) -> Judged
     ensures { IsPrefixLen result.verdict.written report.new }
 {
-    judge_lib::judge_and_place(sheet, given, start, answer, report)
+    judge_lib::judge_and_place(paper, answer, report)
 }
 
 fn judge_plan(sheet: &[u8], answer: &[u8], report: &mut [u8]) -> Judged
@@ -90,7 +90,12 @@ fn judge(case: &[u8], header: Header, report: &mut [u8]) -> Judged
     if header.plan {
         judge_plan(&case[a..b], &case[c..d], report)
     } else {
-        judge_answer(&case[a..b], header.given, &case[b..c], &case[c..d], report)
+        let start = &case[b..c];
+        let paper = Paper {
+            sheet: &case[a..b],
+            start: header.given.then_some(start),
+        };
+        judge_answer(paper, &case[c..d], report)
     }
 }
 

@@ -5,6 +5,7 @@
 #![tactic(auto)]
 
 use faults_lib::FAULTS_BYTES;
+use judge_spec::Paper;
 
 // Each text has room for a byte more than it may have, so that a longer one still gets 1.
 fn main(rt: HostRuntime) {
@@ -13,18 +14,13 @@ fn main(rt: HostRuntime) {
     let n = program_io::read_as_far(&rt, b"sheet.txt", &mut sheet);
     let mut start = [0u8; 8193];
     let begun = program_io::read_start(&rt, b"start.txt", &mut start);
-    let k = begun.unwrap_or(0);
     let mut times = [0u8; 32769];
     let timed = program_io::read_start(&rt, b"times.txt", &mut times);
-    let m = timed.unwrap_or(0);
+    let paper = Paper {
+        sheet: &sheet[..n],
+        start: begun.map(|k| &start[..k]),
+    };
     let mut out = [0u8; FAULTS_BYTES];
-    let used = faults_lib::faults_print(
-        &sheet[..n],
-        begun.is_some(),
-        &start[..k],
-        timed.is_some(),
-        &times[..m],
-        &mut out,
-    );
+    let used = faults_lib::faults_print(paper, timed.map(|m| &times[..m]), &mut out);
     program_io::finish(&rt, &out[..used], false);
 }

@@ -2,12 +2,10 @@
 -- Assumes nothing.
 use Prim.Native.Nat.{ℕ, ◌≤◌}
 use mathlib.Core.Bool.{Bool, true}
-use mathlib.Core.List.{List, [], ◌∷◌, ◌++◌}
-use mathlib.Core.Logic.{◌≢◌, ⊎_elim}
+use mathlib.Core.List.{List, ◌++◌}
+use mathlib.Core.Logic.{◌≢◌}
 use mathlib.Core.Path.{◌≡◌, refl, sym, ap, ◌∙◌}
 use native.Mathlib.Omega.{arith}
-use types.Run.{OneOf}
-use denote.Enum.Declared.{tag_of}
 use lib.Dec.{eqb}
 use lib.ListN.{length, length-append}
 use lib.Seq.{length-take-le}
@@ -15,7 +13,6 @@ use Rattle.io.specs.Counts.{IsPrefixLen}
 use Rattle.item_spec.proofs.Tests.{by-test}
 use Rattle.model.specs.declared.Text.{Text}
 use Rattle.model.specs.declared.Text.TheVariants as text
-use Rattle.model.specs.contracts.Text.{the_type}
 use Rattle.read_spec.specs.Limits.{length_ok}
 use Rattle.read_spec.specs.Lines.{Run, on, stop}
 use Rattle.start_spec.specs.Paper.{Paper}
@@ -44,16 +41,15 @@ module _ (s : Paper) (f : PaperFault) (is : f ≡ paper_fault s) where
   pub at-start : f.text ≡ text.Start → f ≡ start_fault s
   at-start e = sym (ap (λ (x : Text). of_start x f) e) ∙ as-paper
 
-  -- 0 to 3 are the tags of Neither, Sheet, Answer and Times
-  pub elsewhere : OneOf (0 ∷ 1 ∷ 2 ∷ 3 ∷ []) (tag_of the_type f.text) → no_fault ≡ start_fault s
+  pub elsewhere : (f.text ≡ text.Start → ⊥) → no_fault ≡ start_fault s
   elsewhere h = go f.text h ∙ as-paper
     where
-      go : (x : Text) → OneOf (0 ∷ 1 ∷ 2 ∷ 3 ∷ []) (tag_of the_type x) → no_fault ≡ of_start x f
+      go : (x : Text) → (x ≡ text.Start → ⊥) → no_fault ≡ of_start x f
       go text.Neither h = refl
       go text.Sheet h = refl
       go text.Answer h = refl
       go text.Times h = refl
-      go text.Start h = absurd (⊎_elim (λ z. omega (arith, z)) (⊎_elim (λ z. omega (arith, z)) (⊎_elim (λ z. omega (arith, z)) (λ z. omega (arith, z)))) h)
+      go text.Start h = absurd (h refl)
 
 -- ---- the times
 

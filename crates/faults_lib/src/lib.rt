@@ -3,58 +3,42 @@
 #![tactic(auto)]
 
 ghost use Rattle.std.specs.Prelude.{◌≡◌, ◌++◌, length};
+ghost use Rattle.std.specs.Option.{is_some};
 ghost use Rattle.io.specs.Counts.{IsPrefixLen};
-ghost use Rattle.start_spec.specs.Paper.{paper};
 ghost use Rattle.judge_spec.specs.Judged.{over};
-ghost use Rattle.judge_lib.specs.Alone.{no_fault, paper_fault};
+ghost use Rattle.judge_spec.specs.Lent.{lent, text_lent};
+ghost use Rattle.judge_lib.specs.Alone.{paper_fault};
 ghost use Rattle.write_items.specs.Written.{Written};
 ghost use Rattle.faults_spec.specs.Faults.{sheet_fault, start_fault, times_fault, times_fault_if, found_text, faults_text};
 
-use judge_lib::papers::{PaperFault, read_paper};
+use judge_lib::papers::{PaperFault, no_fault, read_paper};
+use judge_spec::Paper;
 use model::Text;
 
 // What is printed has always room in so many bytes.
 pub const FAULTS_BYTES: usize = 256;
 
-fn no_fault() -> PaperFault
-    ensures { result ≡ no_fault }
-{
-    PaperFault {
-        text: Text::Neither,
-        refused: 0,
-        line: 0,
-    }
-}
-
 // What the sheet and the start say is not looked at here.
-fn paper_fault(sheet: &[u8], given: bool, start: &[u8]) -> PaperFault
-    ensures { result ≡ paper_fault (paper sheet.now given start.now) }
+fn paper_fault(paper: Paper<'_>) -> PaperFault
+    ensures { result ≡ paper_fault (lent paper.entry) }
 {
     let mut tables = [0u32; 2002];
     let mut program = [0u32; 1282];
     let mut state = [0u32; 930];
     let mut begun = [0u32; 288];
-    read_paper(
-        sheet,
-        given,
-        start,
-        &mut tables,
-        &mut program,
-        &mut state,
-        &mut begun,
-    )
+    read_paper(paper, &mut tables, &mut program, &mut state, &mut begun)
 }
 
 pub fn sheet_fault(sheet: &[u8]) -> PaperFault
     ensures { result ≡ sheet_fault sheet.now }
 {
-    paper_fault(sheet, false, b"")
+    paper_fault(Paper { sheet, start: None })
 }
 
-pub fn start_fault(sheet: &[u8], given: bool, start: &[u8]) -> PaperFault
-    ensures { result ≡ start_fault (paper sheet.now given start.now) }
+pub fn start_fault(paper: Paper<'_>) -> PaperFault
+    ensures { result ≡ start_fault (lent paper.entry) }
 {
-    let fault = paper_fault(sheet, given, start);
+    let fault = paper_fault(paper);
     let text = fault.text;
     match text {
         Text::Start => fault,
@@ -79,13 +63,13 @@ pub fn times_fault(times: &[u8]) -> PaperFault
     }
 }
 
-fn times_fault_if(timed: bool, times: &[u8]) -> PaperFault
-    ensures { result ≡ times_fault_if timed times.now }
+fn times_fault_if(times: Option<&[u8]>) -> PaperFault
+    ensures { result ≡ times_fault_if (is_some times.entry) (text_lent times.entry) }
 {
-    if timed {
-        return times_fault(times);
+    match times {
+        Some(times) => times_fault(times),
+        None => no_fault(),
     }
-    no_fault()
 }
 
 // text=, line=, refused=, or nothing where nothing is at fault.
@@ -109,20 +93,13 @@ fn write_faults(t: &mut [u8], sheet: PaperFault, start: PaperFault, times: Paper
 }
 
 // What the `faults` program prints.
-pub fn faults_print(
-    sheet: &[u8],
-    given: bool,
-    start: &[u8],
-    timed: bool,
-    times: &[u8],
-    out: &mut [u8; FAULTS_BYTES],
-) -> usize
-    ensures prints { (result ≡ length (faults_text (paper sheet.now given start.now) timed times.now))
-        × (out.new ≡ over (faults_text (paper sheet.now given start.now) timed times.now) out.old) }
+pub fn faults_print(paper: Paper<'_>, times: Option<&[u8]>, out: &mut [u8; FAULTS_BYTES]) -> usize
+    ensures prints { (result ≡ length (faults_text (lent paper.entry) (is_some times.entry) (text_lent times.entry)))
+        × (out.new ≡ over (faults_text (lent paper.entry) (is_some times.entry) (text_lent times.entry)) out.old) }
     ensures counts { IsPrefixLen result out.new }
 {
-    let in_sheet = sheet_fault(sheet);
-    let in_start = start_fault(sheet, given, start);
-    let in_times = times_fault_if(timed, times);
+    let in_sheet = sheet_fault(paper.sheet);
+    let in_start = start_fault(paper);
+    let in_times = times_fault_if(times);
     write_faults(out, in_sheet, in_start, in_times)
 }

@@ -4,6 +4,7 @@
 #![tactic(auto)]
 
 use foretell_lib::FORESEEN_BYTES;
+use judge_spec::Paper;
 
 // Each text has room for a byte more than it may have, so that a longer one still gets 1.
 fn main(rt: HostRuntime) {
@@ -12,8 +13,11 @@ fn main(rt: HostRuntime) {
     let n = program_io::read_as_far(&rt, b"sheet.txt", &mut sheet);
     let mut start = [0u8; 8193];
     let begun = program_io::read_start(&rt, b"start.txt", &mut start);
-    let k = begun.unwrap_or(0);
+    let paper = Paper {
+        sheet: &sheet[..n],
+        start: begun.map(|k| &start[..k]),
+    };
     let mut out = [0u8; FORESEEN_BYTES];
-    let used = foretell_lib::foretell_print(&sheet[..n], begun.is_some(), &start[..k], &mut out);
+    let used = foretell_lib::foretell_print(paper, &mut out);
     program_io::finish(&rt, &out[..used], false);
 }

@@ -1,8 +1,8 @@
 -- What the paper's reader answered, as what is foreseen.
 -- Assumes nothing.
 use Prim.Native.Nat.{ℕ, ◌≤◌, ◌<◌}
-use mathlib.Core.List.{List, [], ◌∷◌}
-use mathlib.Core.Logic.{◌≢◌, by_cases, ⊎_elim}
+use mathlib.Core.List.{List}
+use mathlib.Core.Logic.{◌≢◌, by_cases}
 use mathlib.Core.Path.{◌≡◌, refl, sym, ap, ◌∙◌}
 use native.Mathlib.Omega.{arith}
 use native.Mathlib.Decide.{ℕ_discrete}
@@ -10,9 +10,6 @@ use Rattle.model.specs.declared.Tables.{Tables}
 use Rattle.model.specs.declared.Program.{Program}
 use Rattle.model.specs.declared.Text.{Text}
 use Rattle.model.specs.declared.Text.TheVariants as text
-use Rattle.model.specs.contracts.Text.{the_type}
-use types.Run.{OneOf}
-use denote.Enum.Declared.{tag_of}
 use lib.ListN.{length, length-append}
 use lib.Seq.{length-take-le}
 use Rattle.io.specs.Counts.{IsPrefixLen}
@@ -80,9 +77,9 @@ shown-short f = go f.text
     go text.Times = omega (arith, fault-short text.Times f.line f.refused)
     go text.Start = omega (arith, fault-short text.Start f.line f.refused)
 
--- a text at fault: 1 to 4 are the tags of Sheet, Answer, Times and Start
-pub of-text : (x : Text) → OneOf (1 ∷ 2 ∷ 3 ∷ 4 ∷ []) (tag_of the_type x) → (f : Foreseen) → shown_as x f ≡ fault_text x f.line f.refused
-of-text text.Neither h f = absurd (⊎_elim (λ z. omega (arith, z)) (⊎_elim (λ z. omega (arith, z)) (⊎_elim (λ z. omega (arith, z)) (λ z. omega (arith, z)))) h)
+-- a text at fault
+pub of-text : (x : Text) → (x ≡ text.Neither → ⊥) → (f : Foreseen) → shown_as x f ≡ fault_text x f.line f.refused
+of-text text.Neither h f = absurd (h refl)
 of-text text.Sheet h f = refl
 of-text text.Answer h f = refl
 of-text text.Times h f = refl

@@ -7,8 +7,8 @@ mod names;
 
 ghost use Rattle.std.specs.Prelude.{◌≡◌, length};
 ghost use Rattle.io.specs.Counts.{IsPrefixLen};
-ghost use Rattle.start_spec.specs.Paper.{paper};
 ghost use Rattle.judge_spec.specs.Judged.{over};
+ghost use Rattle.judge_spec.specs.Lent.{lent};
 ghost use Rattle.foretell_spec.specs.Names.{foretold, foretold_from};
 ghost use Rattle.write_items.specs.Written.{Written};
 ghost use Rattle.words.specs.Words.{tables_in, program_in, program_from, state_in};
@@ -16,6 +16,7 @@ ghost use Rattle.step_walk.specs.Fits.{PortsFit};
 ghost use Rattle.foretell_lib.specs.Foresees.{told_of, line_of, foreseen, refused_text, told_text, foreseen_text};
 
 use judge_lib::papers::read_paper;
+use judge_spec::Paper;
 use model::Text;
 use names::keep_names;
 use read_lines::line_number;
@@ -104,22 +105,14 @@ fn foretold_line(sheet: &[u8], program: &ProgramWords, next: u32, refused: u32) 
 }
 
 // What is foretold of a paper, a sheet with or without a start, before any answer exists.
-pub fn foretell(sheet: &[u8], given: bool, start: &[u8]) -> Foreseen
-    ensures { result ≡ foreseen (paper sheet.now given start.now) }
+pub fn foretell(paper: Paper<'_>) -> Foreseen
+    ensures { result ≡ foreseen (lent paper.entry) }
 {
     let mut tables = [0u32; 2002];
     let mut program = [0u32; 1282];
     let mut state = [0u32; 930];
     let mut begun = [0u32; 288];
-    let fault = read_paper(
-        sheet,
-        given,
-        start,
-        &mut tables,
-        &mut program,
-        &mut state,
-        &mut begun,
-    );
+    let fault = read_paper(paper, &mut tables, &mut program, &mut state, &mut begun);
     let text = fault.text;
     if fault.refused != 0 {
         return Foreseen {
@@ -130,7 +123,7 @@ pub fn foretell(sheet: &[u8], given: bool, start: &[u8]) -> Foreseen
         };
     }
     let told = foretell_program(&tables, &program, &begun, &mut state);
-    let line = foretold_line(sheet, &program, told.next, told.refused);
+    let line = foretold_line(paper.sheet, &program, told.next, told.refused);
     Foreseen {
         refused: told.refused as u8,
         next: told.next,
@@ -156,17 +149,12 @@ fn write_told(t: &mut [u8], next: u32, refused: u8, line: usize) -> usize
 }
 
 // What the `foretell` program prints: those three lines, or the three of a text at fault.
-pub fn foretell_print(
-    sheet: &[u8],
-    given: bool,
-    start: &[u8],
-    out: &mut [u8; FORESEEN_BYTES],
-) -> usize
-    ensures prints { (result ≡ length (foreseen_text (paper sheet.now given start.now)))
-        × (out.new ≡ over (foreseen_text (paper sheet.now given start.now)) out.old) }
+pub fn foretell_print(paper: Paper<'_>, out: &mut [u8; FORESEEN_BYTES]) -> usize
+    ensures prints { (result ≡ length (foreseen_text (lent paper.entry)))
+        × (out.new ≡ over (foreseen_text (lent paper.entry)) out.old) }
     ensures counts { IsPrefixLen result out.new }
 {
-    let f = foretell(sheet, given, start);
+    let f = foretell(paper);
     let text = f.text;
     match text {
         Text::Neither => write_told(out, f.next, f.refused, f.line),

@@ -3,6 +3,7 @@
 #![tactic(auto)]
 
 use foretell_lib::FORESEEN_BYTES;
+use judge_spec::Paper;
 
 const STDOUT_FILENO: i32 = 1;
 
@@ -15,9 +16,12 @@ fn run_case(rt: &HostRuntime, i: usize) {
     let l = sitting_shown::path_of(&mut path, &name[..k], b".start");
     let mut start = [0u8; 8193];
     let begun = program_io::read_start(rt, &path[..l], &mut start);
-    let b = begun.unwrap_or(0);
+    let paper = Paper {
+        sheet: &sheet[..n],
+        start: begun.map(|b| &start[..b]),
+    };
     let mut out = [0u8; FORESEEN_BYTES];
-    let used = foretell_lib::foretell_print(&sheet[..n], begun.is_some(), &start[..b], &mut out);
+    let used = foretell_lib::foretell_print(paper, &mut out);
     io::write_all(STDOUT_FILENO, b"case=");
     io::write_all(STDOUT_FILENO, &name[..k]);
     io::write_all(STDOUT_FILENO, b"\n");

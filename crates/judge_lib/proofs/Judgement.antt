@@ -2,7 +2,7 @@
 -- Assumes nothing.
 use Prim.Native.Nat.{ℕ, ◌≤◌, min}
 use mathlib.Core.List.{List}
-use mathlib.Core.Path.{◌≡◌, refl, sym, ap, ◌∙◌}
+use mathlib.Core.Path.{◌≡◌, refl, ap, ◌∙◌}
 use lib.ListN.{length}
 use Rattle.model.specs.declared.Walked.{Walked}
 use Rattle.model.specs.declared.Text.{Text}
@@ -37,10 +37,6 @@ module _ (s : Paper) (a : List ℕ) where
     unfolding after_fault over
     fault-judges x n at e h = judges (judged-fault (length old) x n at e) h refl
 
-    -- where the text at fault holds y
-    pub fault-judges-in : (x : Text) (n at : ℕ) (y : List ℕ) → paper_text x s a ≡ y → faulty x n at ≡ course s a → v ≡ (after_fault x n at y).verdict → Judges s a old v old
-    fault-judges-in x n at y q e h = fault-judges x n at e (h ∙ ap (λ (z : List ℕ). (after_fault x n at z).verdict) (sym q))
-
     pub walk-judges : {after : List ℕ} (w : Walked) → reached w ≡ course s a → v ≡ (in_room (length old) w (report w) a).verdict
         → after ≡ over (in_room (length old) w (report w) a).bytes old → Judges s a old v after
     walk-judges w e = judges (judged-walk (length old) w e)
@@ -50,9 +46,6 @@ module _ (s : Paper) (a : List ℕ) where
     pub fault-places : (x : Text) (n at : ℕ) → faulty x n at ≡ course s a → p ≡ fault_place x n at (paper_text x s a) → Places s a room p
     unfolding after_fault
     fault-places x n at e h = record { place_is = h ∙ ap (λ (j : Judgement). j.place) (judged-fault room x n at e) }
-
-    pub fault-places-in : (x : Text) (n at : ℕ) (y : List ℕ) → paper_text x s a ≡ y → faulty x n at ≡ course s a → p ≡ fault_place x n at y → Places s a room p
-    fault-places-in x n at y q e h = fault-places x n at e (h ∙ ap (λ (z : List ℕ). fault_place x n at z) (sym q))
 
     pub walk-places : (w : Walked) → reached w ≡ course s a → p ≡ (in_room room w (report w) a).place → Places s a room p
     walk-places w e h = record { place_is = h ∙ ap (λ (j : Judgement). j.place) (judged-walk room w e) }

@@ -9,7 +9,6 @@ use native.Mathlib.Numerals.{add-one}
 use lib.ListN.{length-set, length, take, set}
 use lib.Seq.{take_all, take-suc-set}
 use borrow.Author.Tests.{le-leb, eq-eqb, ne_eqb}
-use Rattle.model.specs.declared.Text.{Text}
 use Rattle.model.specs.declared.Text.TheVariants as text
 use Rattle.model.specs.declared.Walked.{Walked}
 use Rattle.model.specs.View.{list_of}
@@ -23,11 +22,12 @@ use Rattle.step_walk.specs.Reached.{walked}
 use Rattle.start_spec.specs.Paper.{Paper}
 use Rattle.start_spec.specs.Round.{start_of}
 use Rattle.judge_spec.specs.Course.{faulty, reached, course}
-use Rattle.judge_spec.specs.Judged.{Judgement, paper_text, fault_line, after_fault, after_walk, in_room, judged, over}
+use Rattle.judge_spec.specs.Judged.{Judgement, after_fault, after_walk, in_room, judged, over}
 use Rattle.judge_spec.specs.Next.{whole_course, next_of, next_start, NextStartsFit}
 use Rattle.judge_spec.specs.Room.{ReportsFit}
 use Rattle.judge_spec.proofs.Room.{reports-fit}
 use Rattle.judge_spec.proofs.Next.{course-from, next-starts-fit}
+use Rattle.judge_lib.specs.declared.pairs.TextFault.{TextFault}
 use Rattle.judge_lib.specs.declared.next.Next.{Next}
 use Rattle.judge_lib.specs.Counts.{Counts}
 use Rattle.judge_lib.specs.Room.{Short}
@@ -76,10 +76,10 @@ module _ (s : Paper) (a : List ℕ) where
   next-short w ps bs ws e = record { few = rw e (next-starts-fit s a); small = (reached-short s a w ws (course-from s a e)).small }
 
 module _ (s : Paper) (a old : List ℕ) {r : Next} where
-  pub fault-starts : (x : Text) (n at : ℕ) (y : List ℕ) → paper_text x s a ≡ y → faulty x n at ≡ whole_course s a → FaultTold x n at y r → Starts s a old r old × Counts r.used old
+  pub fault-starts : (f : TextFault) → faulty f.text f.refused f.at ≡ whole_course s a → FaultTold s a f r → Starts s a old r old × Counts r.used old
   unfolding after_fault over next_start next_of
-  fault-starts x n at y q e h =
-      let j = judged-fault s a 8192 x n at (course-from s a e) in
+  fault-starts f e h =
+      let j = judged-fault s a 8192 f.text f.refused f.at (course-from s a e) in
       let none : next_start s a ≡ [] = ap next_of (sym e) in
       let used : r.used ≡ length (next_start s a) = ap (λ (z : Next). z.used) h ∙ sym (ap length none) in
       let array : old ≡ over (next_start s a) old = sym (ap (λ (z : List ℕ). over z old) none) in (
@@ -87,7 +87,7 @@ module _ (s : Paper) (a old : List ℕ) {r : Next} where
           refused-is = ap (λ (z : Next). z.refused) h ∙ ap (λ (z : Judgement). z.verdict.refused) j;
           accepted-is = ap (λ (z : Next). z.accepted) h ∙ ap (λ (z : Judgement). z.verdict.accepted) j;
           text-is = ap (λ (z : Next). z.text) h ∙ ap (λ (z : Judgement). z.verdict.text) j;
-          line-is = ap (λ (z : Next). z.line) h ∙ sym (ap (λ (z : List ℕ). fault_line n at z) q) ∙ ap (λ (z : Judgement). z.verdict.line) j;
+          line-is = ap (λ (z : Next). z.line) h ∙ ap (λ (z : Judgement). z.verdict.line) j;
           used-is = used;
           array-is = array;
         },

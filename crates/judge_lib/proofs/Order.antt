@@ -2,13 +2,14 @@
 -- Assumes nothing.
 use Prim.Native.Nat.{ℕ, ◌-◌, ◌<◌, ◌≤◌, zero-le}
 use mathlib.Core.List.{List}
-use mathlib.Core.Bool.{Bool, true, false, ◌&&◌, true≢false}
-use lib.Dec.{ltb}
+use mathlib.Core.Bool.{Bool, true, false, true≢false}
 use mathlib.Core.Path.{◌≡◌, refl, sym, ap, subst, ◌∙◌}
 use mathlib.Core.Logic.{by_cases, ⊎_elim}
+use Rattle.std.specs.Prelude.{Result, Ok, Err}
+use Rattle.std.specs.Result.{IsErrAnd}
 use native.Mathlib.Omega.{arith}
 use native.Mathlib.Decide.{ℕ_discrete, dec_lt}
-use borrow.Author.Tests.{le-leb, lt-leb, leb-true, ltb-true, ltb-false, ne_eqb}
+use borrow.Author.Tests.{le-leb, lt-leb, leb-true, ltb-true, ltb-false, le-ltb, lt-ltb, ne_eqb}
 use lib.ListN.{length, length-take}
 use Rattle.item_spec.proofs.Tests.{and_left, by-test}
 use Rattle.model.specs.declared.Tables.{Tables}
@@ -35,7 +36,7 @@ use Rattle.read_chain.specs.declared.Place.{Place}
 use Rattle.read_chain.specs.Whole.{Whole, outcome, whole, beside}
 use Rattle.read_sheet.specs.Sheet.{sheet_read}
 use Rattle.read_answer.specs.Answer.{answer_read}
-use Rattle.start_spec.specs.Paper.{Beginning, nothing, given, Paper, beginning_of, start_bytes}
+use Rattle.start_spec.specs.Paper.{Beginning, nothing, given, Paper, start_bytes}
 use Rattle.start_spec.specs.Text.{Outset, start_lines}
 use Rattle.start_spec.specs.Served.{some_unserved}
 use Rattle.start_spec.proofs.Proper.{start-stops}
@@ -52,11 +53,22 @@ use Rattle.step_walk.specs.Fits.{PortsFit, LawfulPortsFit}
 use Rattle.step_walk.specs.Held.{held_walk, HeldWalkIsTheWalk}
 use Rattle.step_walk.proofs.Fits.{lawful-ports-fit}
 use Rattle.step_walk.proofs.Held.{held-walk-is-the-walk}
-use Rattle.judge_lib.specs.declared.pairs.Outcome.{Outcome}
-use Rattle.judge_lib.specs.declared.pairs.Outcome.TheVariants.{InSheet, InStart, InAnswer, Reached}
+use Rattle.judge_lib.specs.declared.pairs.TextFault.{TextFault}
 use Rattle.judge_lib.specs.declared.pairs.Opened.{Opened}
-use Rattle.judge_lib.specs.Came.{begin_read, answered, start_long, outcome_of, opened_as, came, report_in}
+use Rattle.judge_lib.specs.Came.{begin_read, answered, start_long, Outcome, refused_in, and_then, outcome_of, opened_as, came, report_in}
 use Rattle.judge_lib.specs.Room.{Short}
+
+-- ---- a fault that is passed on
+
+pub passed-on : {A : Type 0} (r : Result A TextFault) (e : TextFault) → IsErrAnd r (λ y. y ≡ e) → r ≡ Err e
+passed-on (Ok x) e h = absurd h
+passed-on (Err y) e h = ap Err h
+
+pub halts : {a : Outcome} (o : Outcome) {e : TextFault} → a ≡ Err e → Err e ≡ and_then a o
+halts o h = rw h
+
+pub goes-on : {a o q : Outcome} → a ≡ Ok tt → q ≡ o → q ≡ and_then a o
+goes-on h k = rw h k
 
 -- ---- the length of a text
 
@@ -103,14 +115,6 @@ pub data Told {A : Type 0} (s : List ℕ) (g : Beginning) (a : List ℕ) : Cours
   in_start : {n at : ℕ} → given (start_bytes g) ≡ g → at ≤ length (start_bytes g) → Told s g a (faulty text.Start n at)
   in-answer : {n at : ℕ} → at ≤ length a → Told s g a (faulty text.Answer n at)
   walks : {x : A} → Told s g a (reached x)
-
--- a fault in a start lies in the bytes that were lent
-pub started : {A : Type 0} {s a : List ℕ} {z : Course A} {n at : ℕ} (b : Bool) (x : List ℕ) → Told s (beginning_of b x) a z → z ≡ faulty text.Start n at → start_bytes (beginning_of b x) ≡ x
-started true x t e = refl
-started false x (in-sheet h) e = let z : ◌≡◌ {A = ℕ} 0 1 = cc in absurd (omega arith)
-started false x (in_start q h) e = let z : ◌≡◌ {A = ℕ} 0 1 = cc in absurd (omega arith)
-started false x (in-answer h) e = let z : ◌≡◌ {A = ℕ} 0 1 = cc in absurd (omega arith)
-started false x walks e = let z : ◌≡◌ {A = ℕ} 0 1 = cc in absurd (omega arith)
 
 -- what the start's reader answered where a start isn't too long, z being what comes of it
 pub record BeginsAs {B : Type 0} (z : Course B) (g : Beginning) (b : Whole B) : Type 0 where
@@ -162,19 +166,19 @@ module _ {A B C D : Type 0} (m : Lines A) (begins : A → Course B) (next : A �
     abbrev said : D
     said = all r.value b.value y.value
 
-    came-to : (o : Outcome) → comes ≡ o → came o said ≡ in_order → Told s g a (came o said) → (came comes said ≡ in_order) × Told s g a in_order
+    came-to : (o : Outcome) → comes ≡ o → came o (λ _. said) ≡ in_order → Told s g a (came o (λ _. said)) → (came comes (λ _. said) ≡ in_order) × Told s g a in_order
     came-to o e h t = (rw e h, subst (Told s g a) h t)
 
     -- the course is that of their outcome, and a fault lies in its text
-    pub in_order_is : (came comes said ≡ in_order) × Told s g a in_order
+    pub in_order_is : (came comes (λ _. said) ≡ in_order) × Told s g a in_order
     unfolding outcome_of
     in_order_is =
-        by_cases (dec_lt 32768 (length s)) (λ h. came-to (InSheet 1 0) (rw (lt-leb (length s) 32768 h)) (rw (long text.Sheet s h)) (in-sheet zero-le)) (λ h.
+        by_cases (dec_lt 32768 (length s)) (λ h. came-to (refused_in text.Sheet 1 0) (rw (lt-ltb 32768 (length s) h)) (rw (long text.Sheet s h)) (in-sheet zero-le)) (λ h.
         let p : length s ≤ 32768 = omega arith in
         by-test (start_long g)
-        (λ l. came-to (InStart 1 0) (rw (le-leb (length s) 32768 p, l)) (rw (not-long text.Sheet s p, start-long g l)) (long-told s a g l)) (λ l.
+        (λ l. came-to (refused_in text.Start 1 0) (rw (le-ltb 32768 (length s) p, l)) (rw (not-long text.Sheet s p, start-long g l)) (long-told s a g l)) (λ l.
         by_cases (dec_lt 32768 (length a))
-        (λ k. came-to (InAnswer 1 0) (rw (le-leb (length s) 32768 p, l, lt-leb (length a) 32768 k)) (rw (not-long text.Sheet s p, start-short g l, long text.Answer a k)) (in-answer zero-le)) (λ k.
+        (λ k. came-to (refused_in text.Answer 1 0) (rw (le-ltb 32768 (length s) p, l, lt-ltb 32768 (length a) k)) (rw (not-long text.Sheet s p, start-short g l, long text.Answer a k)) (in-answer zero-le)) (λ k.
         let q : length a ≤ 32768 = omega arith in
         let one = whole-read text.Sheet m none s p stops is in
         let three = whole-read text.Answer (next r.value) nil a q ends also in
@@ -182,10 +186,10 @@ module _ {A B C D : Type 0} (m : Lines A) (begins : A → Course B) (next : A �
         let two = begun p l e in
         by_cases (ℕ_discrete b.refused 0) (λ f.
         by_cases (ℕ_discrete y.refused 0)
-        (λ z. came-to Reached (rw (le-leb (length s) 32768 p, l, le-leb (length a) 32768 q, e, f, z)) (rw (not-long text.Sheet s p, start-short g l, not-long text.Answer a q, one.reaches e, two.reaches f, three.reaches z)) walks)
-        (λ z. came-to (InAnswer y.refused y.place) (rw (le-leb (length s) 32768 p, l, le-leb (length a) 32768 q, e, f, ne_eqb _ 0 z)) (rw (not-long text.Sheet s p, start-short g l, not-long text.Answer a q, one.reaches e, two.reaches f, three.faults z)) (in-answer three.within)))
-        (λ f. came-to (InStart b.refused b.place) (rw (le-leb (length s) 32768 p, l, le-leb (length a) 32768 q, e, ne_eqb _ 0 f)) (rw (not-long text.Sheet s p, start-short g l, not-long text.Answer a q, one.reaches e, two.faults f)) (in_start (two.up f) two.within)))
-        (λ e. came-to (InSheet r.refused r.place) (rw (le-leb (length s) 32768 p, l, le-leb (length a) 32768 q, ne_eqb _ 0 e)) (rw (not-long text.Sheet s p, start-short g l, not-long text.Answer a q, one.faults e)) (in-sheet one.within)))))
+        (λ z. came-to (Ok tt) (rw (le-ltb 32768 (length s) p, l, le-ltb 32768 (length a) q, e, f, z)) (rw (not-long text.Sheet s p, start-short g l, not-long text.Answer a q, one.reaches e, two.reaches f, three.reaches z)) walks)
+        (λ z. came-to (refused_in text.Answer y.refused y.place) (rw (le-ltb 32768 (length s) p, l, le-ltb 32768 (length a) q, e, f, ne_eqb _ 0 z)) (rw (not-long text.Sheet s p, start-short g l, not-long text.Answer a q, one.reaches e, two.reaches f, three.faults z)) (in-answer three.within)))
+        (λ f. came-to (refused_in text.Start b.refused b.place) (rw (le-ltb 32768 (length s) p, l, le-ltb 32768 (length a) q, e, ne_eqb _ 0 f)) (rw (not-long text.Sheet s p, start-short g l, not-long text.Answer a q, one.reaches e, two.faults f)) (in_start (two.up f) two.within)))
+        (λ e. came-to (refused_in text.Sheet r.refused r.place) (rw (le-ltb 32768 (length s) p, l, le-ltb 32768 (length a) q, ne_eqb _ 0 e)) (rw (not-long text.Sheet s p, start-short g l, not-long text.Answer a q, one.faults e)) (in-sheet one.within)))))
 
 -- ---- a paper's texts
 
@@ -240,10 +244,6 @@ module _ (s : List ℕ) where
       go (on v r) e q = sheet-begun s _ _ _ e
       go (stop n r) e q = let l = sheet-stops s n r e in absurd (omega (arith, q, l.1))
 
-  pub long-is : (b : Bool) (x : List ℕ) → (b && ltb 8192 (length x)) ≡ start_long (beginning_of b x)
-  long-is true x = refl
-  long-is false x = refl
-
   pub depth-few : depth_of default_depth (sheet_read s).value.0 ≤ 8
   unfolding whole SheetsAreLawful no_tables
   depth-few =
@@ -256,7 +256,7 @@ module _ (s : List ℕ) where
 module _ (s : Paper) (a : List ℕ) where
   module _ {r : Whole (Tables × Program)} {b : Whole (Configuration × Begun)} {y : Whole Answer} (is : r ≡ sheet_read s.sheet)
       (begins : b ≡ begin_read r.value.1.edition (depth_of default_depth r.value.0) r.value.0 s.beginning) (also : y ≡ answer_read a) where
-    all-comes : (came (outcome_of (length s.sheet) (opened_as r (start_long s.beginning) b) (length a) (answered y)) (r.value.0, begun_by r.value.1 b.value.1, b.value.0, y.value)
+    all-comes : (came (outcome_of (length s.sheet) (opened_as r (start_long s.beginning) b) (length a) (answered y)) (λ _. (r.value.0, begun_by r.value.1 b.value.1, b.value.0, y.value))
         ≡ all_under default_depth s a) × Told s.sheet s.beginning a (all_under default_depth s a)
     unfolding all_under
     all-comes =
@@ -272,9 +272,9 @@ module _ (s : Paper) (a : List ℕ) where
   -- of what was read into words
   pub outcome-comes : {o : Outcome} {w : Opened} {t : Tables} {p : Program} {c : Configuration} {x : Begun} {z : Place} {y : Answer} → o ≡ outcome_of (length s.sheet) w (length a) z
       → beside w.sheet (t, p) ≡ sheet_read s.sheet → w.long ≡ start_long s.beginning
-      → beside w.start (c, x) ≡ begin_read p.edition (depth_of default_depth t) t s.beginning → beside z y ≡ answer_read a → came o (t, begun_by p x, c, y) ≡ all_under default_depth s a
+      → beside w.start (c, x) ≡ begin_read p.edition (depth_of default_depth t) t s.beginning → beside z y ≡ answer_read a → came o (λ _. (t, begun_by p x, c, y)) ≡ all_under default_depth s a
   outcome-comes {w} {t} {p} {c} {x} {z} {y} e is l begins also =
-      ap (λ (u : Outcome). came u (t, begun_by p x, c, y)) (e ∙ ap (λ (q : Bool). outcome_of (length s.sheet) (record { sheet = w.sheet; long = q; start = w.start }) (length a) z) l)
+      ap (λ (u : Outcome). came u (λ _. (t, begun_by p x, c, y))) (e ∙ ap (λ (q : Bool). outcome_of (length s.sheet) (record { sheet = w.sheet; long = q; start = w.start }) (length a) z) l)
       ∙ (all-comes {r = beside w.sheet (t, p)} {b = beside w.start (c, x)} {y = beside z y} is begins also).0
 
   -- the ports that a program names fit where its sheet is read
@@ -283,23 +283,22 @@ module _ (s : Paper) (a : List ℕ) where
   ports-fit t p c y e = lawful-ports-fit t.count p (all-lawful s a (t, p, c, y) (sym e)).0.1
 
   -- the course goes on with the walk of what they say, beside its program
-  pub outcome-walks : (o : Outcome) (t : Tables) (p : Program) (c : Configuration) (y : Answer) {w : Walked} → came o (t, p, c, y) ≡ all_under default_depth s a
-      → w ≡ held_walk default_depth t p c (steps_of y) → came o (p, w) ≡ whole_course s a
+  pub walk-goes : (t : Tables) (p : Program) (c : Configuration) (y : Answer) {w : Walked} → reached (t, p, c, y) ≡ all_under default_depth s a
+      → w ≡ held_walk default_depth t p c (steps_of y) → reached (p, w) ≡ whole_course s a
   unfolding whole_course walk_from HeldWalkIsTheWalk
-  outcome-walks (InSheet n at) t p c y e f = rw (← e)
-  outcome-walks (InStart n at) t p c y e f = rw (← e)
-  outcome-walks (InAnswer n at) t p c y e f = rw (← e)
-  outcome-walks Reached t p c y e f = rw (← e, f, held-walk-is-the-walk default_depth t p c (steps_of y) (ports-fit t p c y e))
+  walk-goes t p c y e f = rw (← e, f, held-walk-is-the-walk default_depth t p c (steps_of y) (ports-fit t p c y e))
+
+  pub fault-goes : (x : Text) (n at : ℕ) → faulty x n at ≡ all_under default_depth s a → faulty x n at ≡ whole_course s a
+  unfolding whole_course
+  fault-goes x n at e = rw (← e)
 
   -- that walk alone
-  pub came-course : (o : Outcome) (p : Program) (w : Walked) → came o (p, w) ≡ whole_course s a → came o w ≡ course s a
-  came-course o p w e = left o ∙ course-from s a e
+  pub came-course : {A : Type 0} (o : Result A TextFault) (f : A → Program × Walked) → came o f ≡ whole_course s a → came o (λ x. (f x).1) ≡ course s a
+  came-course {A = A} o f e = left o ∙ course-from s a e
     where
-      left : (o : Outcome) → came o w ≡ go_on {A = Program × Walked} (came o (p, w)) (λ x. reached x.1)
-      left (InSheet n at) = refl
-      left (InStart n at) = refl
-      left (InAnswer n at) = refl
-      left Reached = refl
+      left : (o : Result A TextFault) → came o (λ x. (f x).1) ≡ go_on {A = Program × Walked} (came o f) (λ x. reached x.1)
+      left (Err z) = refl
+      left (Ok x) = refl
 
 -- ---- what is known of a walk, and of a fault
 

@@ -2,7 +2,6 @@
 -- Assumes nothing.
 use Prim.Native.Nat.{ℕ, ◌+◌, ◌-◌, ◌≤◌, min, zero-le}
 use mathlib.Core.List.{List, [], ◌∷◌}
-use mathlib.Core.Bool.{Bool, true, false}
 use mathlib.Core.Path.{◌≡◌, refl, sym, ap, ◌∙◌}
 use mathlib.Core.Logic.{⊎_elim, by_cases}
 use native.Mathlib.Omega.{arith}
@@ -20,7 +19,10 @@ use Rattle.model.specs.declared.Text.TheVariants as text
 use Rattle.model.specs.contracts.Text.{the_type}
 use Rattle.read_spec.specs.Place.{up_to_lf}
 use Rattle.report_spec.specs.Report.{report}
-use Rattle.start_spec.specs.Paper.{Paper, paper}
+use Rattle.start_spec.specs.Paper.{Paper, from}
+use Rattle.judge_spec.specs.declared.Paper.{Paper as Lent}
+use Rattle.judge_spec.specs.Lent.{begins, lent}
+use Rattle.std.specs.Prelude.{Option, Some, None, unwrap_or}
 use Rattle.judge_spec.specs.declared.Place.{Place}
 use Rattle.judge_spec.specs.Course.{Course}
 use Rattle.judge_spec.specs.Judged.{paper_text, lineless, fault_place, after_fault, no_room, step_place, after_walk, in_room, ending, judged}
@@ -83,15 +85,16 @@ part-taken s at n size e =
     (λ h. ap (λ (k : ℕ). take k (drop at s)) (let q : at + n - at ≡ size = omega arith in q))
     (λ h. take_all (at + n - at) (drop at s) (omega (arith, length-drop at s)) ∙ sym (take_all size (drop at s) (omega (arith, length-drop at s))))
 
--- a place within its text tells a part of it, q being what is promised of p; the start's bytes are lent whether there is one or not
-pub part_placed : (s : Bor (List ℕ)) (given : Bool) (b a : Bor (List ℕ)) (p q : Place) (r : Bor (List ℕ)) → p ≡ q → Within (λ x. paper_text x (paper s.now given b.now) a.now) q
-    → Part (holder p.text s b a) (min p.start (length (holder p.text s b a).now)) p.size r → PartAt q s b a r
-part_placed s given b a p q r e w h = rw (in-text given q.text q.start (omega arith)) at (rw e at h)
+-- a place within its text tells a part of it, q being what is promised of p; no place is in a start that is not lent
+pub part_placed : (s : Lent) (a : Bor (List ℕ)) (p q : Place) (r : Bor (List ℕ)) → p ≡ q → Within (λ x. paper_text x (lent s) a.now) q
+    → Part (holder p.text s.sheet (unwrap_or s.start a) a) (min p.start (length (holder p.text s.sheet (unwrap_or s.start a) a).now)) p.size r → PartAt q s.sheet (unwrap_or s.start a) a r
+part_placed s a p q r e w h = rw (in-text s.start q.text q.start (omega arith)) at (rw e at h)
   where
-    in-text : (given : Bool) (x : Text) (n : ℕ) → n ≤ length (paper_text x (paper s.now given b.now) a.now) → min n (length (holder x s b a).now) ≡ n
-    in-text given text.Neither n h = omega arith
-    in-text given text.Sheet n h = omega arith
-    in-text given text.Answer n h = omega arith
-    in-text given text.Times n h = omega arith
-    in-text true text.Start n h = omega arith
-    in-text false text.Start n h = omega arith
+    in-text : (b : Option (Bor (List ℕ))) (x : Text) (n : ℕ) → n ≤ length (paper_text x (from s.sheet.now (begins b)) a.now)
+        → min n (length (holder x s.sheet (unwrap_or b a) a).now) ≡ n
+    in-text b text.Neither n h = omega arith
+    in-text b text.Sheet n h = omega arith
+    in-text b text.Answer n h = omega arith
+    in-text b text.Times n h = omega arith
+    in-text (Some x) text.Start n h = omega arith
+    in-text None text.Start n h = omega arith

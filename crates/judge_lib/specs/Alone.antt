@@ -10,8 +10,6 @@ use Rattle.read_chain.specs.declared.Place.{Place}
 use Rattle.start_spec.specs.Paper.{Paper}
 use Rattle.judge_spec.specs.Course.{Course, faulty, reached, paper_course}
 use Rattle.judge_spec.specs.Judged.{paper_text, fault_line}
-use Rattle.judge_lib.specs.declared.pairs.Outcome.{Outcome}
-use Rattle.judge_lib.specs.declared.pairs.Outcome.TheVariants.{InSheet, InStart, InAnswer, Reached}
 use Rattle.judge_lib.specs.declared.papers.PaperFault.{PaperFault}
 
 -- what stands in an answer's place: nothing at fault
@@ -23,13 +21,6 @@ no_fault = record { text = text.Neither; refused = 0; line = 0 }
 
 abbrev pub fault_at : Text → ℕ → ℕ → List ℕ → PaperFault
 fault_at x n at s = record { text = x; refused = n; line = fault_line n at s }
-
--- of an outcome, where the sheet is s and the start x
-abbrev pub fault_of : List ℕ → List ℕ → Outcome → PaperFault
-fault_of s x (InSheet n at) = fault_at text.Sheet n at s
-fault_of s x (InStart n at) = fault_at text.Start n at x
-fault_of s x (InAnswer n at) = no_fault
-fault_of s x Reached = no_fault
 
 -- of what the paper s comes to
 abbrev pub fault_in : {A : Type 0} → Paper → Course A → PaperFault

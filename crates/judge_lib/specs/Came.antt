@@ -1,5 +1,6 @@
--- How far the texts came: the order of what is looked at, and the definition's course for each case of the outcome.
-use Rattle.std.specs.Prelude.{ℕ, List, Bool, true, false, cond, leb, ltb, eqb, length}
+-- How far the texts came: the order of what is looked at, and the definition's course, with a text's fault or with none.
+use Rattle.std.specs.Prelude.{ℕ, List, Bool, false, cond, ltb, eqb, length, Result, Ok, Err}
+use Rattle.model.specs.declared.Text.{Text}
 use Rattle.model.specs.declared.Text.TheVariants as text
 use Rattle.model.specs.declared.Tables.{Tables}
 use Rattle.model.specs.declared.Begun.{Begun}
@@ -10,21 +11,26 @@ use Rattle.read_chain.specs.declared.Place.{Place}
 use Rattle.read_chain.specs.Whole.{Whole}
 use Rattle.read_start.specs.Start.{start_read}
 use Rattle.judge_spec.specs.Course.{Course, faulty, reached}
-use Rattle.judge_spec.specs.Judged.{Judgement, in_room}
+use Rattle.judge_spec.specs.Judged.{Judgement, paper_text, after_fault, in_room}
 use Rattle.words.specs.Words.{state_in}
 use Rattle.step_walk.specs.declared.Passed.{Passed}
 use Rattle.step_walk.specs.Reached.{walked}
-use Rattle.judge_lib.specs.declared.pairs.Outcome.{Outcome}
-use Rattle.judge_lib.specs.declared.pairs.Outcome.TheVariants.{InSheet, InStart, InAnswer, Reached}
+use Rattle.judge_lib.specs.declared.pairs.TextFault.{TextFault}
 use Rattle.judge_lib.specs.declared.pairs.Opened.{Opened}
-use Rattle.start_spec.specs.Paper.{Beginning, nothing, given}
+use Rattle.start_spec.specs.Paper.{Beginning, nothing, given, Paper}
 
--- the course of an outcome, with x where all are read
-abbrev pub came : {A : Type 0} → Outcome → A → Course A
-came (InSheet n at) x = faulty text.Sheet n at
-came (InStart n at) x = faulty text.Start n at
-came (InAnswer n at) x = faulty text.Answer n at
-came Reached x = reached x
+-- a text is refused, or all are read
+abbrev pub Outcome : Type 0
+Outcome = Result (Unit {0}) TextFault
+
+-- text x is refused with n at a place of it
+abbrev pub refused_in : Text → ℕ → ℕ → Outcome
+refused_in x n at = Err (record { text = x; refused = n; at = at })
+
+-- the course, with what f makes of the value where all are read
+abbrev pub came : {A B : Type 0} → Result A TextFault → (A → B) → Course B
+came (Err e) f = faulty e.text e.refused e.at
+came (Ok x) f = reached (f x)
 
 -- what a reader answered beside the value
 abbrev pub answered : {A : Type 0} → Whole A → Place
@@ -35,19 +41,28 @@ abbrev pub start_long : Beginning → Bool
 start_long nothing = false
 start_long (given x) = ltb 8192 (length x)
 
+-- "with 1" where a text is too long
+abbrev pub short_as : Text → Bool → Outcome
+short_as x long = cond long (refused_in x 1 0) (Ok tt)
+
+-- what the reader of a text answered
+abbrev pub read_as : Text → Place → Outcome
+read_as x p = cond (eqb p.refused 0) (Ok tt) (refused_in x p.refused p.place)
+
+-- the first of two that is refused
+abbrev pub and_then : Outcome → Outcome → Outcome
+and_then (Err e) o = Err e
+and_then (Ok x) o = o
+
 -- "The three lengths come first (sheet, start, answer), then the lines in that order", of a sheet and an answer of m and n bytes
 unfoldable pub outcome_of : ℕ → Opened → ℕ → Place → Outcome
 outcome_of m o n a =
-    cond (leb m 32768)
-    (cond o.long (InStart 1 0)
-    (cond (leb n 32768)
-    (cond (eqb o.sheet.refused 0)
-    (cond (eqb o.start.refused 0)
-    (cond (eqb a.refused 0) Reached (InAnswer a.refused a.place))
-    (InStart o.start.refused o.start.place))
-    (InSheet o.sheet.refused o.sheet.place))
-    (InAnswer 1 0)))
-    (InSheet 1 0)
+    and_then (short_as text.Sheet (ltb 32768 m))
+    (and_then (short_as text.Start o.long)
+    (and_then (short_as text.Answer (ltb 32768 n))
+    (and_then (read_as text.Sheet o.sheet)
+    (and_then (read_as text.Start o.start)
+    (read_as text.Answer a)))))
 
 -- where a paper begins, of a start where there is one: "no file: nothing up"
 unfoldable pub begin_read : ℕ → ℕ → Tables → Beginning → Whole (Configuration × Begun)
@@ -69,3 +84,7 @@ report_in w ws = report (walked w (state_in ws))
 -- the judgement of a walk in a lent buffer
 abbrev pub in_room_of : List ℕ → Passed → List ℕ → List ℕ → Judgement
 in_room_of lent w ws a = in_room (length lent) (walked w (state_in ws)) (report_in w ws) a
+
+-- the judgement of a paper and an answer of which a text is at fault
+abbrev pub fault_judged : Paper → List ℕ → TextFault → Judgement
+fault_judged s a e = after_fault e.text e.refused e.at (paper_text e.text s a)

@@ -1,19 +1,19 @@
 -- What `next_start` promises, and that no other outcome fits.
 use Rattle.std.specs.Prelude.{ℕ, List, ◌≡◌, length}
-use Rattle.model.specs.declared.Text.{Text}
 use Rattle.model.specs.declared.Text.TheVariants as text
 use Rattle.start_spec.specs.Paper.{Paper}
 use Rattle.words.specs.Words.{program_from, state_in}
 use Rattle.step_walk.specs.declared.Passed.{Passed}
 use Rattle.step_walk.specs.Reached.{walked}
 use Rattle.judge_spec.specs.Course.{reached}
-use Rattle.judge_spec.specs.Judged.{fault_line, judged, over, lent_bytes}
+use Rattle.judge_spec.specs.Judged.{paper_text, fault_line, judged, over, lent_bytes}
 use Rattle.judge_spec.specs.Next.{next_of, next_start}
+use Rattle.judge_lib.specs.declared.pairs.TextFault.{TextFault}
 use Rattle.judge_lib.specs.declared.next.Next.{Next}
 
--- after a fault in a text x that holds y
-abbrev pub FaultTold : Text → ℕ → ℕ → List ℕ → Next → Type 0
-FaultTold x n at y r = r ≡ record { refused = n; accepted = 0; text = x; line = fault_line n at y; used = 0 }
+-- after a fault in a text of a paper and an answer
+abbrev pub FaultTold : Paper → List ℕ → TextFault → Next → Type 0
+FaultTold s a e r = r ≡ record { refused = e.refused; accepted = 0; text = e.text; line = fault_line e.refused e.at (paper_text e.text s a); used = 0 }
 
 -- the start's bytes, of a walk of the program in the words ps, begun with the words bs, that has come to what the words ws of the state say
 abbrev pub next_in : Passed → List ℕ → List ℕ → List ℕ → List ℕ

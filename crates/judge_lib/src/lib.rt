@@ -7,22 +7,20 @@ pub mod pairs;
 pub mod papers;
 pub mod parts;
 
-ghost use Rattle.std.specs.Prelude.{◌≡◌, ◌+◌, length};
-ghost use Rattle.start_spec.specs.Paper.{paper};
-ghost use Rattle.judge_spec.specs.Judged.{after_fault, fault_place, judged, over};
+ghost use Rattle.std.specs.Prelude.{◌≡◌, ◌+◌, length, unwrap_or};
+ghost use Rattle.judge_spec.specs.Judged.{judged, over};
+ghost use Rattle.judge_spec.specs.Lent.{lent};
 ghost use Rattle.judge_spec.specs.Once.{Judges, Places, Promised, Prints};
-ghost use Rattle.words.specs.Words.{state_in};
-ghost use Rattle.step_walk.specs.Reached.{walked};
-ghost use Rattle.judge_lib.specs.Came.{report_in, in_room_of};
+ghost use Rattle.judge_lib.specs.Came.{report_in, in_room_of, fault_judged};
 ghost use Rattle.judge_lib.specs.Room.{room_for, Short};
 ghost use Rattle.judge_lib.specs.Counts.{Counts};
 ghost use Rattle.judge_lib.specs.Part.{PartAt};
 
-use judge_spec::{LENT_BYTES, Place, Verdict};
+use judge_spec::{LENT_BYTES, Paper, Place, Verdict};
 use judge_verdicts::{after_fault, fault_place, no_room, walk_place, walk_verdict};
-use model::{Text, smaller};
-use pairs::{Outcome, walk_texts};
-use parts::{fault_or_report, part_at};
+use model::smaller;
+use pairs::{TextFault, walk_texts};
+use parts::{fault_or_report, part_at, text_of};
 use step_walk::Passed;
 use words::StateWords;
 use words::state::done;
@@ -50,12 +48,14 @@ pub struct Judged {
     pub place: Place,
 }
 
-fn judge_fault(x: Text, s: &[u8], n: u8, at: usize) -> Judged
-    ensures verdict { result.verdict ≡ (after_fault x n at s.now).verdict }
-    ensures place { result.place ≡ fault_place x n at s.now }
+fn judge_fault(paper: Paper<'_>, answer: &[u8], fault: TextFault) -> Judged
+    ensures verdict { result.verdict ≡ (fault_judged (lent paper.entry) answer.now fault).verdict }
+    ensures place { result.place ≡ (fault_judged (lent paper.entry) answer.now fault).place }
 {
-    let verdict = after_fault(x, s, n, at);
-    let place = fault_place(x, s, n, at);
+    let text = fault.text;
+    let s = text_of(paper, answer, text);
+    let verdict = after_fault(text, s, fault.refused, fault.at);
+    let place = fault_place(text, s, fault.refused, fault.at);
     Judged { verdict, place }
 }
 
@@ -81,73 +81,47 @@ fn judge_walk(w: Passed, state: &StateWords, answer: &[u8], lent: &mut [u8]) -> 
 }
 
 // The verdict, the report in the lent buffer, and the place of the line at fault.
-pub fn judge_and_place(
-    sheet: &[u8],
-    given: bool,
-    start: &[u8],
-    answer: &[u8],
-    report: &mut [u8],
-) -> Judged
-    ensures { Promised (paper sheet.now given start.now) answer.now report.old result.verdict report.new result.place }
+pub fn judge_and_place(paper: Paper<'_>, answer: &[u8], report: &mut [u8]) -> Judged
+    ensures { Promised (lent paper.entry) answer.now report.old result.verdict report.new result.place }
 {
     let mut state = [0u32; 930];
-    let came = walk_texts(sheet, given, start, answer, &mut state);
-    let outcome = came.outcome;
-    let passed = came.passed;
-    match outcome {
-        Outcome::InSheet(n, at) => judge_fault(Text::Sheet, sheet, n, at),
-        Outcome::InStart(n, at) => judge_fault(Text::Start, start, n, at),
-        Outcome::InAnswer(n, at) => judge_fault(Text::Answer, answer, n, at),
-        Outcome::Reached => judge_walk(passed, &state, answer, report),
+    match walk_texts(paper, answer, &mut state) {
+        Ok(passed) => judge_walk(passed, &state, answer, report),
+        Err(fault) => judge_fault(paper, answer, fault),
     }
 }
 
 // The verdict, and the report in the lent buffer.
-pub fn judge(sheet: &[u8], given: bool, start: &[u8], answer: &[u8], report: &mut [u8]) -> Verdict
-    ensures { Judges (paper sheet.now given start.now) answer.now report.old result report.new }
+pub fn judge(paper: Paper<'_>, answer: &[u8], report: &mut [u8]) -> Verdict
+    ensures { Judges (lent paper.entry) answer.now report.old result report.new }
 {
-    judge_and_place(sheet, given, start, answer, report).verdict
+    judge_and_place(paper, answer, report).verdict
 }
 
 // Which text held the line at fault, where the line starts, and how many bytes it has. No report needs more room than 8,192 bytes.
-pub fn place(sheet: &[u8], given: bool, start: &[u8], answer: &[u8], room: usize) -> Place
-    ensures { Places (paper sheet.now given start.now) answer.now room result }
+pub fn place(paper: Paper<'_>, answer: &[u8], room: usize) -> Place
+    ensures { Places (lent paper.entry) answer.now room result }
 {
     let mut scratch = [0u8; LENT_BYTES];
     let n = smaller(room, LENT_BYTES);
-    judge_and_place(sheet, given, start, answer, &mut scratch[..n]).place
+    judge_and_place(paper, answer, &mut scratch[..n]).place
 }
 
 // The line at fault, as a part of whichever text held it.
-pub fn offending<'a>(
-    sheet: &'a [u8],
-    given: bool,
-    start: &'a [u8],
-    answer: &'a [u8],
-    room: usize,
-) -> &'a [u8]
-    ensures { PartAt (judged (paper sheet.now given start.now) answer.now room).place sheet.entry start.entry answer.entry result }
+pub fn offending<'a>(paper: Paper<'a>, answer: &'a [u8], room: usize) -> &'a [u8]
+    ensures { PartAt (judged (lent paper.entry) answer.now room).place paper.entry.sheet (unwrap_or paper.entry.start answer.entry) answer.entry result }
 {
-    part_at(
-        place(sheet, given, start, answer, room),
-        sheet,
-        start,
-        answer,
-    )
+    // no place is in a start that isn't lent
+    let start = paper.start.unwrap_or(answer);
+    part_at(place(paper, answer, room), paper.sheet, start, answer)
 }
 
 // What the `judge` program prints: the report, or after 1 to 5 the three lines.
-pub fn print(
-    sheet: &[u8],
-    given: bool,
-    start: &[u8],
-    answer: &[u8],
-    out: &mut [u8; LENT_BYTES],
-) -> usize
-    ensures prints { Prints (paper sheet.now given start.now) answer.now out.old result out.new }
+pub fn print(paper: Paper<'_>, answer: &[u8], out: &mut [u8; LENT_BYTES]) -> usize
+    ensures prints { Prints (lent paper.entry) answer.now out.old result out.new }
     ensures counts { Counts result out.new }
 {
-    let verdict = judge(sheet, given, start, answer, out);
+    let verdict = judge(paper, answer, out);
     let text = verdict.text;
     fault_or_report(out, text, verdict.line, verdict.refused, verdict.written)
 }

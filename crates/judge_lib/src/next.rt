@@ -1,17 +1,18 @@
 // Where an answer ends, as the start of another paper: a long paper can be cut in two.
 // Promised: on any bytes, every byte of the array is what crates/judge_spec/specs/Next says, and where nothing is written the verdict's number and line.
-ghost use Rattle.std.specs.Prelude.{◌≡◌, ◌≤◌, length, set};
-ghost use Rattle.start_spec.specs.Paper.{paper};
+ghost use Rattle.std.specs.Prelude.{◌≡◌, ◌≤◌, length};
 ghost use Rattle.start_spec.specs.Round.{last_of, lasts_of, start_of};
 ghost use Rattle.write_items.specs.Written.{Written};
 ghost use Rattle.judge_spec.specs.Judged.{lent_bytes};
+ghost use Rattle.judge_spec.specs.Lent.{lent};
 ghost use Rattle.words.specs.Words.{program_from, state_in};
 ghost use Rattle.judge_lib.specs.Room.{Short};
 ghost use Rattle.judge_lib.specs.Counts.{Counts};
 ghost use Rattle.judge_lib.specs.Next.{Starts, FaultTold, next_in, WalkTold};
 
-use crate::pairs::{Outcome, walk_paper};
-use judge_spec::LENT_BYTES;
+use crate::pairs::{TextFault, walk_paper};
+use crate::parts::text_of;
+use judge_spec::{LENT_BYTES, Paper};
 use judge_verdicts::after_fault;
 use model::Text;
 use step_instructions::tickets::last_stamp;
@@ -31,14 +32,16 @@ pub struct Next {
     pub used: usize,
 }
 
-fn after_text(x: Text, s: &[u8], n: u8, at: usize) -> Next
-    ensures { FaultTold x n at s.now result }
+fn after_text(paper: Paper<'_>, answer: &[u8], fault: TextFault) -> Next
+    ensures { FaultTold (lent paper.entry) answer.now fault result }
 {
-    let verdict = after_fault(x, s, n, at);
+    let text = fault.text;
+    let refused = fault.refused;
+    let verdict = after_fault(text, text_of(paper, answer, text), refused, fault.at);
     Next {
-        refused: n,
+        refused,
         accepted: 0,
-        text: x,
+        text,
         line: verdict.line,
         used: 0,
     }
@@ -57,24 +60,16 @@ fn last_of(program: &ProgramWords, begun: &BegunWords, state: &StateWords, i: u3
     0
 }
 
-// A place past the last takes nothing.
-fn put_last(lasts: &mut [usize], at: usize, x: usize)
-    ensures { lasts.new ≡ set lasts.old at x }
-{
-    if at < lasts.len() {
-        lasts[at] = x;
-    }
-}
-
-fn fill_lasts(program: &ProgramWords, begun: &BegunWords, state: &StateWords, lasts: &mut [usize])
-    requires { length lasts.old ≡ 32 }
+fn fill_lasts(
+    program: &ProgramWords,
+    begun: &BegunWords,
+    state: &StateWords,
+    lasts: &mut [usize; 32],
+)
     ensures { lasts.new ≡ lasts_of (program_from program.now begun.now) (state_in state.now) }
 {
-    let mut i: u32 = 0;
-    while i < 32 {
-        let x = last_of(program, begun, state, i);
-        put_last(lasts, i as usize, x);
-        i += 1;
+    for i in 0..32 {
+        lasts[i as usize] = last_of(program, begun, state, i);
     }
 }
 
@@ -126,34 +121,15 @@ fn after_steps(
     }
 }
 
-pub fn next_start(
-    sheet: &[u8],
-    given: bool,
-    start: &[u8],
-    answer: &[u8],
-    out: &mut [u8; LENT_BYTES],
-) -> Next
-    ensures starts { Starts (paper sheet.now given start.now) answer.now out.old result out.new }
+pub fn next_start(paper: Paper<'_>, answer: &[u8], out: &mut [u8; LENT_BYTES]) -> Next
+    ensures starts { Starts (lent paper.entry) answer.now out.old result out.new }
     ensures counts { Counts result.used out.new }
 {
     let mut program = [0u32; 1282];
     let mut begun = [0u32; 288];
     let mut state = [0u32; 930];
-    let came = walk_paper(
-        sheet,
-        given,
-        start,
-        answer,
-        &mut program,
-        &mut begun,
-        &mut state,
-    );
-    let outcome = came.outcome;
-    let passed = came.passed;
-    match outcome {
-        Outcome::InSheet(n, at) => after_text(Text::Sheet, sheet, n, at),
-        Outcome::InStart(n, at) => after_text(Text::Start, start, n, at),
-        Outcome::InAnswer(n, at) => after_text(Text::Answer, answer, n, at),
-        Outcome::Reached => after_steps(passed, &program, &begun, &state, out),
+    match walk_paper(paper, answer, &mut program, &mut begun, &mut state) {
+        Ok(passed) => after_steps(passed, &program, &begun, &state, out),
+        Err(fault) => after_text(paper, answer, fault),
     }
 }

@@ -1,11 +1,26 @@
 // A line as a part of the text that holds it, and what is printed after a fault: what every judge's doors end in.
 // Promised: for any text and any place, the part lies in the text's own memory; every byte of the buffer.
-ghost use Rattle.std.specs.Prelude.{min, length};
+ghost use Rattle.std.specs.Prelude.{◌≡◌, min, length};
+ghost use Rattle.judge_spec.specs.Judged.{paper_text};
+ghost use Rattle.judge_spec.specs.Lent.{lent};
 ghost use Rattle.judge_lib.specs.Part.{Part, holder};
 ghost use Rattle.judge_lib.specs.Shown.{Shown};
 
-use judge_spec::Place;
+use judge_spec::{Paper, Place};
 use model::{Text, smaller};
+
+// What a text of a paper or its answer holds: nothing where it isn't lent.
+pub fn text_of<'a>(paper: Paper<'a>, answer: &'a [u8], text: Text) -> &'a [u8]
+    ensures { result.now ≡ paper_text text (lent paper.entry) answer.now }
+{
+    match text {
+        Text::Neither => b"",
+        Text::Sheet => paper.sheet,
+        Text::Answer => answer,
+        Text::Times => b"",
+        Text::Start => paper.start.unwrap_or(b""),
+    }
+}
 
 // So many bytes of a text from a place on, as far as it goes.
 pub fn part_of<'a>(s: &'a [u8], start: usize, size: usize) -> &'a [u8]

@@ -1,5 +1,5 @@
 -- Document 01 as one function (Course, Judged), its marked cases (Cases), what the board asks of it (Room, Shams, Once), and the
--- judge with the old list of connections (Listed); a paper alone (Alone).
+-- judge with the old list of connections (Listed); a paper alone (Alone), and as it is lent (Lent).
 pub mod Course
 pub mod Judged
 pub mod Cases
@@ -11,3 +11,4 @@ pub mod Listed
 pub mod StartCases
 pub mod Next
 pub mod Alone
+pub mod Lent

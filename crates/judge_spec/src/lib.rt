@@ -29,3 +29,10 @@ pub struct Place {
     pub start: usize,
     pub size: usize,
 }
+
+// What a setter lends: the sheet, and the start where there is one ("no file: nothing up").
+#[derive(Clone, Copy)]
+pub struct Paper<'a> {
+    pub sheet: &'a [u8],
+    pub start: Option<&'a [u8]>,
+}

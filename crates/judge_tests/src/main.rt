@@ -3,27 +3,18 @@
 // Promised by `judge_lib`: every byte between the name and the place, and the place. A pair is a line of pairs.py or papers.py, and make.py writes the rest.
 #![tactic(auto)]
 
-use judge_spec::LENT_BYTES;
+use judge_spec::{LENT_BYTES, Paper};
 
 const STDOUT_FILENO: i32 = 1;
 
-fn print_case(name: &[u8], sheet: &[u8], given: bool, start: &[u8], answer: &[u8]) {
+fn print_case(name: &[u8], paper: Paper<'_>, answer: &[u8]) {
     let mut out = [0u8; LENT_BYTES];
-    let used = judge_lib::print(sheet, given, start, answer, &mut out);
+    let used = judge_lib::print(paper, answer, &mut out);
     io::write_all(STDOUT_FILENO, b"case=");
     io::write_all(STDOUT_FILENO, name);
     io::write_all(STDOUT_FILENO, b"\n");
     io::write_all(STDOUT_FILENO, &out[..used]);
-    sitting_shown::print_place(judge_lib::place(sheet, given, start, answer, LENT_BYTES));
-}
-
-fn run_started(rt: &HostRuntime, name: &[u8], sheet: &[u8], answer: &[u8]) {
-    let mut path = [0u8; 80];
-    let l = sitting_shown::path_of(&mut path, name, b".start");
-    let mut start = [0u8; 8193];
-    let begun = program_io::read_start(rt, &path[..l], &mut start);
-    let b = begun.unwrap_or(0);
-    print_case(name, sheet, begun.is_some(), &start[..b], answer);
+    sitting_shown::print_place(judge_lib::place(paper, answer, LENT_BYTES));
 }
 
 fn run_case(rt: &HostRuntime, i: usize) {
@@ -33,7 +24,15 @@ fn run_case(rt: &HostRuntime, i: usize) {
     let n = sitting_shown::read_named(rt, &name[..k], b".sheet", &mut sheet);
     let mut answer = [0u8; 32769];
     let m = sitting_shown::read_named(rt, &name[..k], b".answer", &mut answer);
-    run_started(rt, &name[..k], &sheet[..n], &answer[..m]);
+    let mut path = [0u8; 80];
+    let l = sitting_shown::path_of(&mut path, &name[..k], b".start");
+    let mut start = [0u8; 8193];
+    let begun = program_io::read_start(rt, &path[..l], &mut start);
+    let paper = Paper {
+        sheet: &sheet[..n],
+        start: begun.map(|b| &start[..b]),
+    };
+    print_case(&name[..k], paper, &answer[..m]);
 }
 
 fn main(rt: HostRuntime) {

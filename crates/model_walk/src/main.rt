@@ -5,6 +5,7 @@
 // written, or that a text was refused.
 #![tactic(auto)]
 
+use judge_spec::Paper;
 use model::Text;
 use model_walk_spec::Ending;
 
@@ -41,9 +42,12 @@ fn main(rt: HostRuntime) {
     let n = program_io::read_as_far(&rt, b"sheet.txt", &mut sheet);
     let mut start = [0u8; 8193];
     let begun = program_io::read_start(&rt, b"start.txt", &mut start);
-    let k = begun.unwrap_or(0);
+    let paper = Paper {
+        sheet: &sheet[..n],
+        start: begun.map(|k| &start[..k]),
+    };
     let mut out = [0u8; 17428];
-    let done = model_walk_lib::model_walk(&sheet[..n], begun.is_some(), &start[..k], &mut out);
+    let done = model_walk_lib::model_walk(paper, &mut out);
     let text = done.text;
     if done.refused != 0 {
         say_refused(&rt, text, done.line, done.refused);

@@ -9,9 +9,9 @@ mod turns;
 
 ghost use Rattle.std.specs.Prelude.{◌≡◌, ◌≤◌, length, take};
 ghost use Rattle.io.specs.Counts.{IsPrefixLen};
-ghost use Rattle.start_spec.specs.Paper.{paper};
 ghost use Rattle.judge_spec.specs.Course.{default_depth};
 ghost use Rattle.judge_spec.specs.Judged.{over};
+ghost use Rattle.judge_spec.specs.Lent.{lent};
 ghost use Rattle.words.specs.Words.{tables_in, program_from, state_in, answer_in};
 ghost use Rattle.step_walk.specs.Fits.{PortsFit};
 ghost use Rattle.model_walk_spec.specs.Walk.{model_steps, model_reached};
@@ -19,6 +19,7 @@ ghost use Rattle.model_walk_lib.specs.Models.{no_model, model_in, bytes_in, Mode
 
 use endings::{MOST_STEPS, ending_of};
 use judge_lib::papers::read_paper;
+use judge_spec::Paper;
 use model::Text;
 use model_walk_spec::Ending;
 use turns::{ORDERED, ordered, turn};
@@ -111,23 +112,15 @@ fn write_model(
 }
 
 // The model walk of a paper, a sheet with or without a start, in the lent buffer.
-pub fn model_walk(sheet: &[u8], given: bool, start: &[u8], out: &mut [u8]) -> Modelled
-    ensures models { Models (paper sheet.now given start.now) out.old result out.new }
+pub fn model_walk(paper: Paper<'_>, out: &mut [u8]) -> Modelled
+    ensures models { Models (lent paper.entry) out.old result out.new }
     ensures counts { IsPrefixLen result.written out.new }
 {
     let mut tables = [0u32; 2002];
     let mut program = [0u32; 1282];
     let mut state = [0u32; 930];
     let mut begun = [0u32; 288];
-    let fault = read_paper(
-        sheet,
-        given,
-        start,
-        &mut tables,
-        &mut program,
-        &mut state,
-        &mut begun,
-    );
+    let fault = read_paper(paper, &mut tables, &mut program, &mut state, &mut begun);
     let text = fault.text;
     if fault.refused != 0 {
         return no_model(fault.refused, text, fault.line);

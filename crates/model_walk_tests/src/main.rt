@@ -3,6 +3,7 @@
 // Promised by `model_walk_lib`: all of it but the name. A paper is a line of cases.py, and make.py writes the rest.
 #![tactic(auto)]
 
+use judge_spec::Paper;
 use model::Text;
 use model_walk_lib::Modelled;
 use model_walk_spec::Ending;
@@ -68,24 +69,24 @@ fn print_answered(done: Modelled, found: usize) {
 }
 
 // The number in a buffer of n bytes, and how many bytes stay as found.
-fn print_room(sheet: &[u8], given: bool, start: &[u8], n: usize) {
+fn print_room(paper: Paper<'_>, n: usize) {
     let mut out = [FOUND; ROOM];
     let size = n.min(ROOM);
-    let done = model_walk_lib::model_walk(sheet, given, start, &mut out[..size]);
+    let done = model_walk_lib::model_walk(paper, &mut out[..size]);
     show_count(STDOUT_FILENO, b"room=", size);
     print_answered(done, as_found(&out));
 }
 
-fn run_paper(sheet: &[u8], given: bool, start: &[u8]) {
+fn run_paper(paper: Paper<'_>) {
     let mut out = [FOUND; ROOM];
-    let done = model_walk_lib::model_walk(sheet, given, start, &mut out);
+    let done = model_walk_lib::model_walk(paper, &mut out);
     let found = as_found(&out);
     print_answered(done, found);
     let n = done.written;
     io::write_all(STDOUT_FILENO, &out[..n]);
     if 0 < n {
-        print_room(sheet, given, start, n);
-        print_room(sheet, given, start, n - 1);
+        print_room(paper, n);
+        print_room(paper, n - 1);
     }
 }
 
@@ -98,11 +99,14 @@ fn run_case(rt: &HostRuntime, i: usize) {
     let l = sitting_shown::path_of(&mut path, &name[..k], b".start");
     let mut start = [0u8; 8193];
     let begun = program_io::read_start(rt, &path[..l], &mut start);
-    let b = begun.unwrap_or(0);
     io::write_all(STDOUT_FILENO, b"case=");
     io::write_all(STDOUT_FILENO, &name[..k]);
     io::write_all(STDOUT_FILENO, b"\n");
-    run_paper(&sheet[..n], begun.is_some(), &start[..b]);
+    let paper = Paper {
+        sheet: &sheet[..n],
+        start: begun.map(|b| &start[..b]),
+    };
+    run_paper(paper);
 }
 
 fn main(rt: HostRuntime) {

@@ -24,14 +24,10 @@ use Rattle.judge_spec.specs.declared.Verdict.{Verdict}
 use Rattle.judge_spec.specs.Course.{Course, faulty, reached, short, read, sheet_course, course}
 use Rattle.judge_spec.specs.Judged.{judged, lent_bytes}
 use Rattle.judge_spec.specs.Once.{Judges, Places}
-use Rattle.judge_lib.specs.declared.pairs.Outcome as came-by
-use Rattle.judge_lib.specs.declared.pairs.Outcome.TheVariants.{InSheet, InStart, InAnswer, Reached}
-use Rattle.judge_lib.specs.Came.{came}
 use Rattle.timing_spec.specs.declared.Timed.{Timed}
 use Rattle.timing_spec.specs.Timed.{timed}
 use Rattle.timing_spec.specs.Once.{PromisedAnswer}
-use Rattle.outcome_spec.specs.Outcome.{said_program, outcome_of}
-use Rattle.outcome_lib.specs.Came.{outcome_after}
+use Rattle.outcome_spec.specs.Outcome.{said_program, fault_in, after_steps, outcome_of}
 
 -- ---- the sheet's program
 
@@ -68,13 +64,14 @@ module _ (s : List ℕ) where
 
 -- ---- the outcome of a walk that the texts come to
 
-pub outcome-is : (s : Paper) (a : List ℕ) (o : came-by.Outcome) (w : Walked) (p : Program) {ended : Bool} → came o w ≡ course s a → p ≡ said_program s.sheet
-    → ended ≡ all_done p w.configuration → outcome_after o w.refused ended ≡ outcome_of s a
+pub fault-is : (s : Paper) (a : List ℕ) (x : Text) (n at : ℕ) → faulty x n at ≡ course s a → fault_in x ≡ outcome_of s a
 unfolding outcome_of
-outcome-is s a (InSheet n at) w p e f g = rw (← e)
-outcome-is s a (InStart n at) w p e f g = rw (← e)
-outcome-is s a (InAnswer n at) w p e f g = rw (← e)
-outcome-is s a Reached w p e f g = rw (← e, g, f)
+fault-is s a x n at e = rw (← e)
+
+pub walk-is : (s : Paper) (a : List ℕ) (w : Walked) (p : Program) {ended : Bool} → reached w ≡ course s a → p ≡ said_program s.sheet
+    → ended ≡ all_done p w.configuration → after_steps w.refused ended ≡ outcome_of s a
+unfolding outcome_of
+walk-is s a w p e f g = rw (← e, g, f)
 
 -- ---- the verdict and the place in 8,192 bytes
 

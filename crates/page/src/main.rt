@@ -54,20 +54,14 @@ fn write_answer(
     path: &[u8],
 ) -> Went {
     let mut report = [0u8; 8192];
-    let n = judge_lib::print(
-        texts.sheet,
-        texts.start.is_some(),
-        texts.start.unwrap_or(&[]),
-        answer,
-        &mut report,
-    );
+    let n = judge_lib::print(texts.paper, answer, &mut report);
     let from = base_from(path);
     let used = page_lib::write_candidate(
         block,
         sat.candidates,
         &path[from..],
         found,
-        texts.sheet,
+        texts.paper.sheet,
         answer,
         &report[..n],
     );
@@ -90,14 +84,7 @@ fn run_answer(
     let Ok(size) = program_io::read_named(rt, path, &mut answer) else {
         return run_unreadable(block, sat, name);
     };
-    let row = register_lib::row_of(
-        texts.sheet,
-        texts.start.is_some(),
-        texts.start.unwrap_or(&[]),
-        texts.times.is_some(),
-        texts.times.unwrap_or(&[]),
-        &answer[..size],
-    );
+    let row = register_lib::row_of(texts.paper, texts.times, &answer[..size]);
     let found = found_of(row, &answer[..size]);
     if sat.counting {
         count(sat, found.group);
@@ -158,13 +145,7 @@ fn run_name(
 }
 
 fn run(rt: &HostRuntime, block: &mut [u8], texts: Texts<'_>) {
-    let verdict = outcome_lib::paper_verdict(
-        texts.sheet,
-        texts.start.is_some(),
-        texts.start.unwrap_or(&[]),
-        texts.times.is_some(),
-        texts.times.unwrap_or(&[]),
-    );
+    let verdict = outcome_lib::paper_verdict(texts.paper, texts.times);
     if verdict.refused != 0 {
         let text = verdict.text;
         program_input::say_fault(rt, b"page", text, verdict.line, verdict.refused);

@@ -11,6 +11,7 @@ ghost use Rattle.program_input.specs.declared.Left.TheVariants.{More};
 ghost use Rattle.program_input.specs.Last.{last_part};
 ghost use Rattle.program_input.specs.Listed.{is_plain, path_in, name_in};
 
+use judge_spec::Paper;
 use model::Text;
 use sitting_shown::Among;
 use std::env::FillError;
@@ -235,11 +236,10 @@ pub struct Room {
     pub times: [u8; 32769],
 }
 
-// A paper's texts: the sheet, and the start and the times where there are some.
+// A paper, and its times where there are some.
 #[derive(Clone, Copy)]
 pub struct Texts<'a> {
-    pub sheet: &'a [u8],
-    pub start: Option<&'a [u8]>,
+    pub paper: Paper<'a>,
     pub times: Option<&'a [u8]>,
 }
 
@@ -271,8 +271,8 @@ fn read_given<E: Env + Files>(rt: &E, text: Text, bytes: &mut [u8]) -> Option<us
 
 // The texts that the arguments name; a sheet that can't be read counts as empty.
 pub fn read_texts<'a, E: Env + Files>(rt: &E, room: &'a mut Room) -> Texts<'a>
-    ensures sheet { length result.sheet.now ≤ 32769 }
-    ensures start { IfSome result.start (λ s. length s.now ≤ 8193) }
+    ensures sheet { length result.paper.sheet.now ≤ 32769 }
+    ensures start { IfSome result.paper.start (λ s. length s.now ≤ 8193) }
     ensures times { IfSome result.times (λ s. length s.now ≤ 32769) }
 {
     let mut path = [0u8; 4096];
@@ -280,9 +280,12 @@ pub fn read_texts<'a, E: Env + Files>(rt: &E, room: &'a mut Room) -> Texts<'a>
     let n = program_io::read_named(rt, &path[..k], &mut room.sheet).unwrap_or(0);
     let start = read_given(rt, Text::Start, &mut room.start);
     let times = read_given(rt, Text::Times, &mut room.times);
-    Texts {
+    let paper = Paper {
         sheet: &room.sheet[..n],
         start: start.and_then(|k| room.start.get(..k)),
+    };
+    Texts {
+        paper,
         times: times.and_then(|k| room.times.get(..k)),
     }
 }

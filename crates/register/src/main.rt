@@ -31,14 +31,7 @@ fn run_answer(
     let Ok(size) = program_io::read_named(rt, path, &mut answer) else {
         return run_unreadable(block, name);
     };
-    let row = row_of(
-        texts.sheet,
-        texts.start.is_some(),
-        texts.start.unwrap_or(&[]),
-        texts.times.is_some(),
-        texts.times.unwrap_or(&[]),
-        &answer[..size],
-    );
+    let row = row_of(texts.paper, texts.times, &answer[..size]);
     let from = base_from(name);
     let used = write_row(block, 0, &name[from..], row);
     Went {
@@ -57,13 +50,7 @@ fn run_name(rt: &HostRuntime, block: &mut [u8], texts: Texts<'_>, marked: &[u8])
 }
 
 fn run(rt: &HostRuntime, block: &mut [u8], texts: Texts<'_>) {
-    let verdict = outcome_lib::paper_verdict(
-        texts.sheet,
-        texts.start.is_some(),
-        texts.start.unwrap_or(&[]),
-        texts.times.is_some(),
-        texts.times.unwrap_or(&[]),
-    );
+    let verdict = outcome_lib::paper_verdict(texts.paper, texts.times);
     if verdict.refused != 0 {
         let text = verdict.text;
         program_input::say_fault(rt, b"register", text, verdict.line, verdict.refused);

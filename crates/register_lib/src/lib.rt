@@ -3,15 +3,16 @@
 #![tactic(auto)]
 
 ghost use Rattle.std.specs.Prelude.{◌≡◌, cond, ◌++◌};
+ghost use Rattle.std.specs.Option.{is_some};
 ghost use Rattle.item_spec.specs.Reader.{bytes};
-ghost use Rattle.start_spec.specs.Paper.{paper};
 ghost use Rattle.judge_spec.specs.Judged.{lent_bytes};
+ghost use Rattle.judge_spec.specs.Lent.{lent, text_lent};
 ghost use Rattle.timing_spec.specs.Timed.{timed};
 ghost use Rattle.write_items.specs.Written.{Written};
 ghost use Rattle.register_spec.specs.Row.{line_of, row_of};
 ghost use Rattle.register_spec.specs.Text.{head_text, port_cell, pointed, walked, number_cell, row_text, unreadable_text};
 
-use judge_spec::{LENT_BYTES, Place, Verdict};
+use judge_spec::{LENT_BYTES, Paper, Place, Verdict};
 use model::Concerned;
 use outcome_spec::Outcome;
 use register_spec::Row;
@@ -30,39 +31,24 @@ fn line_of(outcome: Outcome, answer: &[u8], verdict: Verdict, place: Place) -> u
     }
 }
 
-fn mark_of(
-    sheet: &[u8],
-    given: bool,
-    start: &[u8],
-    marked: bool,
-    times: &[u8],
-    answer: &[u8],
-) -> usize
-    ensures { result
-        ≡ cond marked (timed (paper sheet.now given start.now) answer.now times.now lent_bytes).mark 0 }
+fn mark_of(paper: Paper<'_>, times: Option<&[u8]>, answer: &[u8]) -> usize
+    ensures { result ≡ cond (is_some times.entry) (timed (lent paper.entry) answer.now (text_lent times.entry) lent_bytes).mark 0 }
 {
-    if marked {
-        let mut report = [0u8; LENT_BYTES];
-        return timing_lib::timed(sheet, given, start, answer, times, &mut report).mark;
-    }
-    0
+    let Some(times) = times else {
+        return 0;
+    };
+    let mut report = [0u8; LENT_BYTES];
+    timing_lib::timed(paper, answer, times, &mut report).mark
 }
 
 // What the register says of an answer, with its mark where the paper has times.
-pub fn row_of(
-    sheet: &[u8],
-    given: bool,
-    start: &[u8],
-    marked: bool,
-    times: &[u8],
-    answer: &[u8],
-) -> Row
-    ensures { result ≡ row_of (paper sheet.now given start.now) marked times.now answer.now }
+pub fn row_of(paper: Paper<'_>, times: Option<&[u8]>, answer: &[u8]) -> Row
+    ensures { result ≡ row_of (lent paper.entry) (is_some times.entry) (text_lent times.entry) answer.now }
 {
     let mut report = [0u8; LENT_BYTES];
-    let judged = judge_lib::judge_and_place(sheet, given, start, answer, &mut report);
-    let told = outcome_lib::outcome(sheet, given, start, answer);
-    let mark = mark_of(sheet, given, start, marked, times, answer);
+    let judged = judge_lib::judge_and_place(paper, answer, &mut report);
+    let told = outcome_lib::outcome(paper, answer);
+    let mark = mark_of(paper, times, answer);
     let outcome = told.outcome;
     let verdict = judged.verdict;
     let place = judged.place;
@@ -76,7 +62,7 @@ pub fn row_of(
         accepted: verdict.accepted,
         next: verdict.next,
         program: told.program as usize,
-        marked,
+        marked: times.is_some(),
         mark,
     }
 }

@@ -2,7 +2,7 @@
 // they were found, then the rewritten sheet and what `judge` prints of it and the answer. Promised by `rewrite_lib` and `judge_lib`; make.py writes the cases.
 #![tactic(auto)]
 
-use judge_spec::LENT_BYTES;
+use judge_spec::{LENT_BYTES, Paper};
 use program_io::show_count;
 use read_lines::LONGEST;
 use rewrite_lib::Rewritten;
@@ -28,7 +28,7 @@ fn print_answered(done: Rewritten, found: usize) {
 fn print_judged(sheet: &[u8], answer: &[u8]) {
     io::write_all(STDOUT_FILENO, sheet);
     let mut report = [0u8; LENT_BYTES];
-    let used = judge_lib::print(sheet, false, b"", answer, &mut report);
+    let used = judge_lib::print(Paper { sheet, start: None }, answer, &mut report);
     io::write_all(STDOUT_FILENO, &report[..used]);
 }
 

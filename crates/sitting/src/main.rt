@@ -28,14 +28,7 @@ fn run_answer(
     let Ok(size) = program_io::read_named(rt, path, &mut answer) else {
         return run_unread(block, name);
     };
-    let used = sitting_lib::write_candidate(
-        block,
-        name,
-        texts.sheet,
-        texts.start.is_some(),
-        texts.start.unwrap_or(&[]),
-        &answer[..size],
-    );
+    let used = sitting_lib::write_candidate(block, name, texts.paper, &answer[..size]);
     Went {
         unread: false,
         written: print(block, used),
@@ -73,18 +66,12 @@ fn is_refused(rt: &HostRuntime, text: Text, line: usize, refused: u8) -> bool {
 }
 
 fn paper_refused(rt: &HostRuntime, texts: Texts<'_>) -> bool {
-    if sitting_lib::is_aeolus(texts.sheet) {
-        let verdict = sitting_lib::plans::paper_verdict(texts.sheet);
+    if sitting_lib::is_aeolus(texts.paper.sheet) {
+        let verdict = sitting_lib::plans::paper_verdict(texts.paper.sheet);
         let text = verdict.text;
         return is_refused(rt, text, verdict.line, verdict.refused);
     }
-    let verdict = outcome_lib::paper_verdict(
-        texts.sheet,
-        texts.start.is_some(),
-        texts.start.unwrap_or(&[]),
-        texts.times.is_some(),
-        texts.times.unwrap_or(&[]),
-    );
+    let verdict = outcome_lib::paper_verdict(texts.paper, texts.times);
     let text = verdict.text;
     is_refused(rt, text, verdict.line, verdict.refused)
 }

@@ -8,8 +8,8 @@ pub mod plans;
 ghost use Rattle.std.specs.Prelude.{◌≡◌, ◌&&◌, ◌-◌, ltb, drop};
 ghost use Rattle.item_spec.specs.Reader.{bytes};
 ghost use Rattle.read_spec.specs.Place.{up_to_lf, line_start};
-ghost use Rattle.start_spec.specs.Paper.{paper};
 ghost use Rattle.judge_spec.specs.Judged.{printed};
+ghost use Rattle.judge_spec.specs.Lent.{lent};
 ghost use Rattle.write_items.specs.Written.{Written};
 ghost use Rattle.outcome_spec.specs.Outcome.{outcome_text};
 ghost use Rattle.sitting_spec.specs.End.{told_text, instruction_text, asked_text};
@@ -18,7 +18,7 @@ ghost use Rattle.sitting_spec.specs.Candidate.{is_aeolus, either_block, name_tex
 
 use item_spec::TOO_LONG;
 use judge_lib::parts::part_of;
-use judge_spec::{LENT_BYTES, Place};
+use judge_spec::{LENT_BYTES, Paper, Place};
 use lines::{show_first, write_offending, write_where};
 use outcome_spec::Outcome;
 use plans::write_plan;
@@ -124,46 +124,33 @@ fn write_told(
 }
 
 // What the judge prints.
-fn write_print(
-    t: &mut [u8],
-    at: usize,
-    sheet: &[u8],
-    given: bool,
-    start: &[u8],
-    answer: &[u8],
-) -> usize
-    ensures { Written t.old (printed (paper sheet.now given start.now) answer.now) t.new at result }
+fn write_print(t: &mut [u8], at: usize, paper: Paper<'_>, answer: &[u8]) -> usize
+    ensures { Written t.old (printed (lent paper.entry) answer.now) t.new at result }
 {
     let mut report = [0u8; LENT_BYTES];
-    let used = judge_lib::print(sheet, given, start, answer, &mut report);
+    let used = judge_lib::print(paper, answer, &mut report);
     write_key(t, at, &report[..used])
 }
 
 // The block of an answer, at a position of a lent buffer.
-pub fn write_block(
-    t: &mut [u8],
-    at: usize,
-    sheet: &[u8],
-    given: bool,
-    start: &[u8],
-    answer: &[u8],
-) -> usize
-    ensures { Written t.old (block_text (paper sheet.now given start.now) answer.now) t.new at result }
+pub fn write_block(t: &mut [u8], at: usize, paper: Paper<'_>, answer: &[u8]) -> usize
+    ensures { Written t.old (block_text (lent paper.entry) answer.now) t.new at result }
 {
     let mut report = [0u8; LENT_BYTES];
-    let judged = judge_lib::judge_and_place(sheet, given, start, answer, &mut report);
+    let judged = judge_lib::judge_and_place(paper, answer, &mut report);
     let verdict = judged.verdict;
     let place = judged.place;
     let next = verdict.next;
-    let told = outcome_lib::outcome(sheet, given, start, answer);
+    let told = outcome_lib::outcome(paper, answer);
     let outcome = told.outcome;
     let count = told.program as usize;
+    let sheet = paper.sheet;
     let line = less(
         read_lines::line_number(sheet, sheet.len()),
         less(count, next),
     );
     let asked = asks_more(outcome, count, next, place.start, answer);
-    let a = write_print(t, at, sheet, given, start, answer);
+    let a = write_print(t, at, paper, answer);
     let b = write_told(t, a, outcome, verdict.refused, place, answer);
     write_asked(t, b, asked, sheet, next, line)
 }
@@ -176,21 +163,13 @@ pub fn is_aeolus(sheet: &[u8]) -> bool
 }
 
 // The block of an answer or of a plan.
-fn write_either(
-    t: &mut [u8],
-    at: usize,
-    sheet: &[u8],
-    given: bool,
-    start: &[u8],
-    answer: &[u8],
-) -> usize
-    ensures { Written t.old (either_block (paper sheet.now given start.now) answer.now)
-        t.new at result }
+fn write_either(t: &mut [u8], at: usize, paper: Paper<'_>, answer: &[u8]) -> usize
+    ensures { Written t.old (either_block (lent paper.entry) answer.now) t.new at result }
 {
-    if is_aeolus(sheet) {
-        return write_plan(t, at, sheet, answer);
+    if is_aeolus(paper.sheet) {
+        return write_plan(t, at, paper.sheet, answer);
     }
-    write_block(t, at, sheet, given, start, answer)
+    write_block(t, at, paper, answer)
 }
 
 fn write_name(t: &mut [u8], name: &[u8]) -> usize
@@ -202,19 +181,11 @@ fn write_name(t: &mut [u8], name: &[u8]) -> usize
 }
 
 // The name and the block, from the start of a lent buffer.
-pub fn write_candidate(
-    t: &mut [u8],
-    name: &[u8],
-    sheet: &[u8],
-    given: bool,
-    start: &[u8],
-    answer: &[u8],
-) -> usize
-    ensures { Written t.old
-        (candidate_text name.now (paper sheet.now given start.now) answer.now) t.new 0 result }
+pub fn write_candidate(t: &mut [u8], name: &[u8], paper: Paper<'_>, answer: &[u8]) -> usize
+    ensures { Written t.old (candidate_text name.now (lent paper.entry) answer.now) t.new 0 result }
 {
     let at = write_name(t, name);
-    write_either(t, at, sheet, given, start, answer)
+    write_either(t, at, paper, answer)
 }
 
 // The same of an answer that can't be read.

@@ -5,7 +5,7 @@
 #![tactic(auto)]
 
 use judge_lib::next::Next;
-use judge_spec::LENT_BYTES;
+use judge_spec::{LENT_BYTES, Paper};
 use model::Text;
 use program_io::show_count;
 
@@ -34,19 +34,16 @@ fn main(rt: HostRuntime) {
     let n = program_io::read_as_far(&rt, b"sheet.txt", &mut sheet);
     let mut start = [0u8; 8193];
     let begun = program_io::read_start(&rt, b"start.txt", &mut start);
-    let k = begun.unwrap_or(0);
     let mut answer = [0u8; 32769];
     let mut input = rt.stdin();
     let read = program_io::read_answer(&mut input, &mut answer, b"start-from: standard input");
     let m = read.unwrap_or(0);
+    let paper = Paper {
+        sheet: &sheet[..n],
+        start: begun.map(|k| &start[..k]),
+    };
     let mut out = [0u8; LENT_BYTES];
-    let next = judge_lib::next::next_start(
-        &sheet[..n],
-        begun.is_some(),
-        &start[..k],
-        &answer[..m],
-        &mut out,
-    );
+    let next = judge_lib::next::next_start(paper, &answer[..m], &mut out);
     if next.refused != 0 {
         say_refused(next);
         program_io::tell(&rt, read.is_none(), true);

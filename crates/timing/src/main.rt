@@ -3,7 +3,7 @@
 // Called with an argument, as bin/timing calls it, it tells on descriptor 3 that all was written, and whether the answer was read.
 #![tactic(auto)]
 
-use judge_spec::LENT_BYTES;
+use judge_spec::{LENT_BYTES, Paper};
 
 // Each text has room for a byte more than it may have, so that a longer one still gets 1 or 40.
 fn main(rt: HostRuntime) {
@@ -14,19 +14,15 @@ fn main(rt: HostRuntime) {
     let k = program_io::read_as_far(&rt, b"times.txt", &mut times);
     let mut start = [0u8; 8193];
     let begun = program_io::read_start(&rt, b"start.txt", &mut start);
-    let b = begun.unwrap_or(0);
     let mut answer = [0u8; 32769];
     let mut input = rt.stdin();
     let read = program_io::read_answer(&mut input, &mut answer, b"timing: standard input");
     let m = read.unwrap_or(0);
+    let paper = Paper {
+        sheet: &sheet[..n],
+        start: begun.map(|b| &start[..b]),
+    };
     let mut out = [0u8; LENT_BYTES];
-    let used = timing_lib::timed_print(
-        &sheet[..n],
-        begun.is_some(),
-        &start[..b],
-        &answer[..m],
-        &times[..k],
-        &mut out,
-    );
+    let used = timing_lib::timed_print(paper, &answer[..m], &times[..k], &mut out);
     program_io::finish(&rt, &out[..used], read.is_none());
 }

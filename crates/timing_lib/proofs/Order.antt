@@ -2,7 +2,6 @@
 -- Assumes nothing.
 use Prim.Native.Nat.{ℕ, ◌≤◌, zero-le}
 use mathlib.Core.List.{List}
-use mathlib.Core.Bool.{Bool, true, false}
 use mathlib.Core.Path.{◌≡◌, refl, sym}
 use mathlib.Core.Logic.{by_cases}
 use native.Mathlib.Omega.{arith}
@@ -14,7 +13,7 @@ use Rattle.model.specs.declared.Program.{Program}
 use Rattle.model.specs.declared.Answer.{Answer}
 use Rattle.model.specs.declared.Walked.{Walked}
 use Rattle.model.specs.declared.Configuration.{Configuration}
-use Rattle.start_spec.specs.Paper.{Beginning, given, Paper, beginning_of, start_bytes}
+use Rattle.start_spec.specs.Paper.{Beginning, given, Paper, start_bytes}
 use Rattle.model.specs.declared.Text.{Text}
 use Rattle.model.specs.declared.Text.TheVariants as text
 use Rattle.read_spec.specs.Lines.{Run, on, stop}
@@ -93,15 +92,6 @@ pub data TimedTold (s : List ℕ) (g : Beginning) (a x : List ℕ) : Course (Wal
   answer-fault : {n at : ℕ} → at ≤ length a → TimedTold s g a x (faulty text.Answer n at)
   times-fault : {n at : ℕ} → at ≤ length x → TimedTold s g a x (faulty text.Times n at)
   clocked-walk : {w : Walked} {m : ℕ} → TimedTold s g a x (reached (w, m))
-
--- a fault in a start lies in the bytes that were lent
-pub started : {s a x : List ℕ} {z : Course (Walked × ℕ)} {n at : ℕ} (b : Bool) (y : List ℕ) → TimedTold s (beginning_of b y) a x z → z ≡ faulty text.Start n at → start_bytes (beginning_of b y) ≡ y
-started true y t e = refl
-started false y (sheet-fault h) e = let z : ◌≡◌ {A = ℕ} 0 1 = cc in absurd (omega arith)
-started false y (start-fault q h) e = let z : ◌≡◌ {A = ℕ} 0 1 = cc in absurd (omega arith)
-started false y (answer-fault h) e = let z : ◌≡◌ {A = ℕ} 0 1 = cc in absurd (omega arith)
-started false y (times-fault h) e = let z : ◌≡◌ {A = ℕ} 0 1 = cc in absurd (omega arith)
-started false y clocked-walk e = let z : ◌≡◌ {A = ℕ} 0 1 = cc in absurd (omega arith)
 
 told-then : {s : List ℕ} {g : Beginning} {a x : List ℕ} {m : Course (Tables × Program × Configuration × Answer)} (f : Tables × Program × Configuration × Answer → Course (Walked × ℕ))
     → Told s g a m → ((z : Tables × Program × Configuration × Answer) → TimedTold s g a x (f z)) → TimedTold s g a x (go_on m f)

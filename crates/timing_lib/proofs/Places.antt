@@ -1,20 +1,19 @@
 -- The place of the line at fault lies within the text that it names, of the three that are lent.
 -- Assumes nothing.
 use Prim.Native.Nat.{ℕ, ◌≤◌, min}
-use mathlib.Core.List.{List, [], ◌∷◌}
+use mathlib.Core.List.{List}
 use mathlib.Core.Bool.{Bool, true, false}
 use mathlib.Core.Path.{◌≡◌, refl, sym, subst, ◌∙◌}
-use mathlib.Core.Logic.{⊎_elim}
 use native.Mathlib.Omega.{arith}
 use lib.ListN.{length}
-use types.Run.{OneOf}
 use denote.Ref.{Bor}
-use denote.Enum.Declared.{tag_of}
 use Rattle.model.specs.declared.Walked.{Walked}
 use Rattle.model.specs.declared.Text.{Text}
 use Rattle.model.specs.declared.Text.TheVariants as text
-use Rattle.model.specs.contracts.Text.{the_type}
-use Rattle.start_spec.specs.Paper.{Paper, paper}
+use Rattle.std.specs.Prelude.{Option, Some, None, unwrap_or}
+use Rattle.std.specs.Option.{is_some}
+use Rattle.start_spec.specs.Paper.{Paper, from, paper}
+use Rattle.judge_spec.specs.Lent.{begins}
 use Rattle.judge_spec.specs.declared.Place.{Place}
 use Rattle.judge_spec.specs.Course.{Course}
 use Rattle.judge_spec.specs.Judged.{after_fault}
@@ -42,13 +41,18 @@ timed-within s a x room = go (timed-told s a x)
 
 -- ---- as a part of the text
 
--- no part of the times: 0, 1, 2 and 4 are the tags of Neither, Sheet, Answer and Start
-pub elsewhere : (k : Text) → OneOf (0 ∷ 1 ∷ 2 ∷ 4 ∷ []) (tag_of the_type k) → (s b a x : Bor (List ℕ)) → holder k s b a ≡ lender k s b a x
+-- no part of the times
+pub elsewhere : (k : Text) → (k ≡ text.Times → ⊥) → (s b a x : Bor (List ℕ)) → holder k s b a ≡ lender k s b a x
 elsewhere text.Neither h s b a x = refl
 elsewhere text.Sheet h s b a x = refl
 elsewhere text.Answer h s b a x = refl
 elsewhere text.Start h s b a x = refl
-elsewhere text.Times h s b a x = absurd (⊎_elim (λ z. omega (arith, z)) (⊎_elim (λ z. omega (arith, z)) (⊎_elim (λ z. omega (arith, z)) (λ z. omega (arith, z)))) h)
+elsewhere text.Times h s b a x = absurd (h refl)
+
+-- the paper that is lent, by its start and what stands for one
+pub lent-paper : (s : List ℕ) (b : Option (Bor (List ℕ))) (a : Bor (List ℕ)) → paper s (is_some b) (unwrap_or b a).now ≡ from s (begins b)
+lent-paper s None a = refl
+lent-paper s (Some x) a = refl
 
 -- the part that one promised place tells is that of every other: they are one, and within its text
 pub part_placed : (s : Bor (List ℕ)) (given : Bool) (b a x : Bor (List ℕ)) {room : ℕ} {p : Place} (r : Bor (List ℕ)) → PromisedPlace (paper s.now given b.now) a.now x.now room p

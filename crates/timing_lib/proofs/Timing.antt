@@ -2,11 +2,10 @@
 -- Assumes nothing.
 use Prim.Native.Nat.{ℕ}
 use mathlib.Core.List.{List}
-use mathlib.Core.Path.{◌≡◌, refl, sym, ap, ◌∙◌}
+use mathlib.Core.Path.{◌≡◌, refl, ap, ◌∙◌}
 use lib.ListN.{length}
 use Rattle.model.specs.declared.Walked.{Walked}
 use Rattle.model.specs.declared.Text.{Text}
-use Rattle.model.specs.declared.Text.TheVariants as text
 use Rattle.start_spec.specs.Paper.{Paper}
 use Rattle.judge_spec.specs.declared.Place.{Place}
 use Rattle.judge_spec.specs.Course.{faulty, reached}
@@ -46,12 +45,6 @@ module _ (s : Paper) (a x : List ℕ) where
   unfolding after_fault over
   fault-answers old k n at e h = answers old (timed-fault (length old) k n at e) h refl
 
-  -- where the text at fault holds y
-  pub fault-answers-in : (old : List ℕ) (k : Text) (n at : ℕ) (y : List ℕ) {r : Timed} → lent_text k s a x ≡ y → faulty k n at ≡ timed_course s a x
-      → r ≡ record { verdict = (numbered (number_in k n) (after_fault k n at y)).verdict; mark = 0 } → PromisedAnswer s a x old r old
-  fault-answers-in old k n at y q e h =
-      fault-answers old k n at e (h ∙ ap (λ (z : List ℕ). record { verdict = (numbered (number_in k n) (after_fault k n at z)).verdict; mark = 0 }) (sym q))
-
   pub walk-answers : (old : List ℕ) (w : Walked) (m : ℕ) {r : Timed} {after : List ℕ} → reached (w, m) ≡ timed_course s a x
       → r.verdict ≡ (in_room (length old) w (marked_report w m) a).verdict → r.mark ≡ mark_in_room (length old) (marked_report w m) m
       → after ≡ over (in_room (length old) w (marked_report w m) a).bytes old → PromisedAnswer s a x old r after
@@ -62,9 +55,6 @@ module _ (s : Paper) (a x : List ℕ) where
       → PromisedPlace s a x room p
   unfolding after_fault
   fault-placed room k n at e h = place-promised (h ∙ ap (λ (j : Marked). j.judgement.place) (timed-fault room k n at e))
-
-  pub fault-placed-in : (room : ℕ) (k : Text) (n at : ℕ) (y : List ℕ) {p : Place} → lent_text k s a x ≡ y → faulty k n at ≡ timed_course s a x → p ≡ fault_place k n at y → PromisedPlace s a x room p
-  fault-placed-in room k n at y q e h = fault-placed room k n at e (h ∙ ap (λ (z : List ℕ). fault_place k n at z) (sym q))
 
   pub walk-placed : (room : ℕ) (w : Walked) (m : ℕ) {p : Place} → reached (w, m) ≡ timed_course s a x → p ≡ (in_room room w (marked_report w m) a).place
       → PromisedPlace s a x room p

@@ -3,26 +3,15 @@
 // Promised by `timing_lib`: every byte between the name and the place, and the place. A triple is a line of triples.py, and make.py writes the rest.
 #![tactic(auto)]
 
-use judge_spec::LENT_BYTES;
+use judge_spec::{LENT_BYTES, Paper};
 
 const STDOUT_FILENO: i32 = 1;
 
-fn print_case(sheet: &[u8], given: bool, start: &[u8], answer: &[u8], times: &[u8]) {
+fn print_case(paper: Paper<'_>, answer: &[u8], times: &[u8]) {
     let mut out = [0u8; LENT_BYTES];
-    let used = timing_lib::timed_print(sheet, given, start, answer, times, &mut out);
+    let used = timing_lib::timed_print(paper, answer, times, &mut out);
     io::write_all(STDOUT_FILENO, &out[..used]);
-    sitting_shown::print_place(timing_lib::timed_place(
-        sheet, given, start, answer, times, LENT_BYTES,
-    ));
-}
-
-fn run_started(rt: &HostRuntime, name: &[u8], sheet: &[u8], answer: &[u8], times: &[u8]) {
-    let mut path = [0u8; 80];
-    let l = sitting_shown::path_of(&mut path, name, b".start");
-    let mut start = [0u8; 8193];
-    let begun = program_io::read_start(rt, &path[..l], &mut start);
-    let b = begun.unwrap_or(0);
-    print_case(sheet, begun.is_some(), &start[..b], answer, times);
+    sitting_shown::print_place(timing_lib::timed_place(paper, answer, times, LENT_BYTES));
 }
 
 fn run_case(rt: &HostRuntime, i: usize) {
@@ -37,7 +26,15 @@ fn run_case(rt: &HostRuntime, i: usize) {
     let m = sitting_shown::read_named(rt, &name[..k], b".answer", &mut answer);
     let mut times = [0u8; 32769];
     let l = sitting_shown::read_named(rt, &name[..k], b".times", &mut times);
-    run_started(rt, &name[..k], &sheet[..n], &answer[..m], &times[..l]);
+    let mut path = [0u8; 80];
+    let p = sitting_shown::path_of(&mut path, &name[..k], b".start");
+    let mut start = [0u8; 8193];
+    let begun = program_io::read_start(rt, &path[..p], &mut start);
+    let paper = Paper {
+        sheet: &sheet[..n],
+        start: begun.map(|b| &start[..b]),
+    };
+    print_case(paper, &answer[..m], &times[..l]);
 }
 
 fn main(rt: HostRuntime) {

@@ -1,2 +1,0 @@
--- The outcome for each case of how far the texts came (Came).
-pub mod Came
