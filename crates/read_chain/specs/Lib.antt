@@ -1,3 +1,4 @@
--- What reading a whole text answers (Whole), and lines of one number, short texts (Chain).
+-- What reading a whole text answers (Whole), lines of one number, short texts (Chain), and lines after what was read so far (After).
 pub mod Whole
 pub mod Chain
+pub mod After
