@@ -111,7 +111,7 @@ pub fn place(paper: Paper<'_>, answer: &[u8], room: usize) -> Place
 pub fn offending<'a>(paper: Paper<'a>, answer: &'a [u8], room: usize) -> &'a [u8]
     ensures { PartAt (judged (lent paper.entry) answer.now room).place paper.entry.sheet (unwrap_or paper.entry.start answer.entry) answer.entry result }
 {
-    // no place is in a start that isn't lent
+    // No place is in a start that isn't lent
     let start = paper.start.unwrap_or(answer);
     part_at(place(paper, answer, room), paper.sheet, start, answer)
 }

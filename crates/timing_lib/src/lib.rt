@@ -208,7 +208,7 @@ pub fn timed_offending<'a>(
 {
     let place = timed_place(paper, answer, times, room);
     let text = place.text;
-    // no place is in a start that isn't lent
+    // No place is in a start that isn't lent
     let start = paper.start.unwrap_or(answer);
     match text {
         Text::Times => part_of(times, place.start, place.size),

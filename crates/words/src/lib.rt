@@ -23,7 +23,7 @@ pub type AnswerWords = [u32; 3073];
 
 pub type StateWords = [u32; 930];
 
-// RowsAt of words, one after the other: where the first stands, how many there are, and how many words each has.
+// Rows of words, one after the other: where the first stands, how many there are, and how many words each has.
 #[derive(Clone, Copy)]
 struct RowsAt {
     at: usize,
