@@ -5,6 +5,7 @@
 use model::Text;
 
 // `refused` is the number or 0; `written` the bytes of the report; `text` and `line` are told for 1 to 5 alone.
+// Not a Result: Promised (specs/Once) is of each field, and a refused plan has a report as well.
 #[derive(Drop)]
 pub struct Verdict {
     pub refused: u8,

@@ -115,6 +115,7 @@ fn at_step(refused: u32) -> u8
     refused as u8
 }
 
+// What was run is there whether or not the report fits, so `fits` is no Option of it.
 fn run_place(passed: Passed, fits: bool, answer: &[u8]) -> Place
     requires { passed.refused < 100 }
     ensures { (c : Configuration) (x : List ℕ) (room : ℕ)

@@ -214,6 +214,7 @@ pub fn step_at(plan: &Plan, n: usize) -> Step
     }
 }
 
+// A function for each array and field here, as in `words`: each is public with a promise of its own (docs/PROMISES.md) over what `areas` does once.
 pub fn clear_plan(plan: &mut Plan)
     ensures { plan_in plan.new ≡ no_plan }
 {

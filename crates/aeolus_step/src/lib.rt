@@ -17,6 +17,7 @@ use changes::carry_out;
 use checks::own_check;
 
 // How far a run came: the actions allowed, and 0 or the number.
+// Not a Result: `run` (crates/aeolus_rules_spec) answers both, and a refused run has its count too.
 #[derive(Clone, Copy)]
 pub struct Passed {
     pub accepted: u32,

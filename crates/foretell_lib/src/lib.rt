@@ -40,6 +40,7 @@ pub struct Foreseen {
 }
 
 // How many instructions the names allow, and the number of the one after them.
+// In words' widths what foretell_spec's Foretelling is: foretold_from is an equation of both fields.
 #[derive(Clone, Copy)]
 struct Told {
     next: u32,

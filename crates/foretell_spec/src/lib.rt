@@ -2,6 +2,7 @@
 #![tactic(auto)]
 
 // How many instructions the names allow, one after the other, and the number of the one after them, 0 where there is none.
+// Not a Result: foretold (specs/Names) is an equation of both, and a number stands beside a count.
 #[derive(Clone, Copy)]
 pub struct Foretelling {
     pub next: u32,

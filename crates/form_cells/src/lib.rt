@@ -13,6 +13,7 @@ ghost use Rattle.form_cells.specs.Cells.{lines_of, looked_at, cell_byte, cells_o
 use write_items::write_byte;
 
 // How far a row is: whether no comma was written in it yet, how many are not written yet, and where the next byte goes.
+// A state, of which no field depends on another.
 #[derive(Clone, Copy)]
 struct Row {
     first: bool,

@@ -18,6 +18,7 @@ use words::answer::StepWords;
 use words::tables::types;
 use words::{ProgramWords, StateWords, TableWords};
 
+// 01's number: the named form answers it beside those of 10 to 38, so it is one.
 const LIMIT_BROKEN: u32 = 7;
 
 // A configuration as it is lent: its words.

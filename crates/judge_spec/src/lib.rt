@@ -11,6 +11,7 @@ pub const DEFAULT_DEPTH: u8 = 8;
 pub const LENT_BYTES: usize = 8192;
 
 // `refused` is the number or 0; `port` the use port concerned, for 34 and 38 alone; `written` the bytes of the report; `text` and `line` are told for 1 to 5 alone.
+// Not a Result: Judges and NoOtherVerdict (specs/Once) are of each field, and a refused answer has a report as well.
 #[derive(Clone, Copy)]
 pub struct Verdict {
     pub refused: u8,

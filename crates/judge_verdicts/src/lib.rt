@@ -128,6 +128,7 @@ pub fn step_place(refused: u8, accepted: usize, answer: &[u8]) -> Place
     }
 }
 
+// The refusal is there whether or not the report fits, so `fits` is no Option of it.
 // Whether the report fits is known; "for 6, the empty start of the answer".
 pub fn walk_place(refused: u8, accepted: usize, fits: bool, answer: &[u8]) -> Place
     ensures { result ≡ place_for fits refused accepted answer.now }

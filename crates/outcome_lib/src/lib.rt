@@ -90,6 +90,7 @@ pub fn paper_verdict(paper: Paper<'_>, times: Option<&[u8]>) -> Verdict
 }
 
 // `done`, `unfinished`, `refused`, `fault`.
+// As sitting_shown's write_which, of another enum: a table of both would need a name of its own for each case.
 pub fn write_outcome(t: &mut [u8], at: usize, outcome: Outcome) -> usize
     ensures { Written t.old (outcome_text outcome) t.new at result }
 {

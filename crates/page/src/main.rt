@@ -13,6 +13,7 @@ use program_input::{Listed, Texts, Went, argument, base_from, print, read_listed
 const LONGEST: usize = 294912;
 
 // Whether the candidates are counted or written, and how many were, in all and in each group.
+// The flag chooses what is done with the counts, and hides none of them.
 #[derive(Drop)]
 struct Sat {
     counting: bool,

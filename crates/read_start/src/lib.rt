@@ -33,6 +33,7 @@ use words::{BegunWords, StateWords, TableWords};
 pub const LONGEST_START: usize = 8192;
 
 // "50 for an unserved use port, after the start's last line"
+// A number, as unserved_at_start (start_spec/specs/Served) is one: no line is refused with it.
 pub const UNSERVED_AT_START: u8 = 50;
 
 // A start that is not too long, at its beginning.

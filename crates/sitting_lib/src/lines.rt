@@ -19,6 +19,7 @@ pub(crate) fn show_first(t: &mut [u8], at: usize, line: &[u8]) -> usize
     sitting_shown::show(t, at, Among::Line, part_of(line, 0, WIDEST))
 }
 
+// Here and below `pointed` stays beside its place: the place is told in a line of its own where no line of the answer is pointed at.
 // The line at fault, as a part of the answer; an empty one where none is.
 fn offending_line<'a>(pointed: bool, place: Place, answer: &'a [u8]) -> &'a [u8]
     ensures { result.now ≡ offending_line pointed place answer.now }

@@ -124,6 +124,7 @@ pub fn show_cell(t: &mut [u8], at: usize, text: &[u8]) -> usize
     show(t, p, Among::Cell, &text[1..])
 }
 
+// As outcome_lib's write_outcome, of another enum.
 fn write_which(t: &mut [u8], at: usize, text: Text) -> usize
     ensures { Written t.old (which_text text) t.new at result }
 {

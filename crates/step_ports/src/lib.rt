@@ -26,6 +26,7 @@ pub struct Sets {
 }
 
 // The number of the refusal, or 0, and the use port concerned.
+// Not a Result: answer_at (crates/step_walk/specs/Reached) is an equation of both; a port is told with 34 and 38 alone.
 #[derive(Clone, Copy)]
 pub struct Answered {
     pub refused: u32,

@@ -30,6 +30,7 @@ use words::state::{done, put_done};
 use words::{AnswerWords, ProgramWords, StateWords, TableWords};
 
 // How far a walk came: the steps allowed, the number of the refusal, or 0, and the use port concerned.
+// Not a Result: held_walk (specs/Held) is an equation of all three; a refused walk has its count too.
 #[derive(Clone, Copy)]
 pub struct Passed {
     pub accepted: u32,

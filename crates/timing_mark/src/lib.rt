@@ -14,6 +14,7 @@ const FULL_MARK: usize = 1000;
 // 2,000 times more than a par can be: from there on the nearest is 0.
 const PAST_EVERY_PAR: usize = 8589934592000;
 
+// std's max, by the name that the promise has (docs/PROMISES.md).
 pub fn later(a: usize, b: usize) -> usize
     ensures { result ≡ max a b }
 {
