@@ -80,21 +80,15 @@ fn say_kind(pass: Pass) {
     };
 }
 
-// Says what is wrong, and whether something is.
-fn say_wrong(pass: Pass, wrong: Wrong) -> bool {
+fn say_wrong(pass: Pass, wrong: Wrong) {
     match wrong {
-        Wrong::Nothing => false,
         Wrong::Register => {
             io::write_all(
                 STDERR_FILENO,
                 b"passlist: the register has no head, or a line that is no row\n",
             );
-            true
         }
-        Wrong::Kind => {
-            say_kind(pass);
-            true
-        }
+        Wrong::Kind => say_kind(pass),
     }
 }
 
@@ -102,10 +96,13 @@ fn list<R: Read>(input: &mut R, pass: Pass, row: &mut [u8], bytes: &mut [u8]) {
     let mut line = [0u8; LONGEST];
     let mut counts = [0usize; 9];
     let went = take_parts(input, pass, row, bytes, &mut line, &mut counts);
-    let wrong = say_wrong(pass, passlist_lib::wrong_in(&counts));
+    let wrong = passlist_lib::wrong_in(&counts);
+    if let Some(why) = wrong {
+        say_wrong(pass, why);
+    }
     let used = passlist_lib::write_counts(&mut line, 0, &counts);
     if went.written && print(&line, used) {
-        program_io::tell_of(went.unread, wrong);
+        program_io::tell_of(went.unread, wrong.is_some());
     }
 }
 

@@ -209,18 +209,18 @@ pub fn write_counts(t: &mut [u8], at: usize, counts: &[usize; 9]) -> usize
     write_count(t, f, b"candidates=", candidates_of(counts))
 }
 
-// Whether there is no list, and why.
-pub fn wrong_in(counts: &[usize; 9]) -> Wrong
+// Why there is no list, where there is none.
+pub fn wrong_in(counts: &[usize; 9]) -> Option<Wrong>
     ensures { result ≡ wrong_in counts.now }
 {
     if counts[7] != 0 {
-        return Wrong::Register;
+        return Some(Wrong::Register);
     }
     if counts[8] == 0 {
-        return Wrong::Register;
+        return Some(Wrong::Register);
     }
     if counts[6] != 0 {
-        return Wrong::Kind;
+        return Some(Wrong::Kind);
     }
-    Wrong::Nothing
+    None
 }

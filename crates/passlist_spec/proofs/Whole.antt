@@ -21,10 +21,12 @@ use Rattle.passlist_spec.specs.declared.Pass.TheVariants.{AtLeast, NoTimes}
 use Rattle.passlist_spec.specs.declared.Said.{Said}
 use Rattle.passlist_spec.specs.declared.Said.TheVariants as said
 use Rattle.passlist_spec.specs.Row.{Mark}
-use Rattle.std.specs.declared.option.Option.TheVariants as mark
+use Rattle.std.specs.declared.option.Option.{Option}
+use Rattle.std.specs.declared.option.Option.TheVariants.{Some, None}
 use Rattle.passlist_spec.specs.declared.Standing.{Standing}
 use Rattle.passlist_spec.specs.declared.Standing.TheVariants as stands
-use Rattle.passlist_spec.specs.declared.Wrong.TheVariants as wrong
+use Rattle.passlist_spec.specs.declared.Wrong.{Wrong}
+use Rattle.passlist_spec.specs.declared.Wrong.TheVariants.{Register, Kind}
 use Rattle.passlist_spec.specs.Row.{over, row_says}
 use Rattle.passlist_spec.specs.Standing.{standing_by, standing, passed_line}
 use Rattle.passlist_spec.specs.Listed.{head_line, place_of, sum, none_counted, line_standing, counted, line_text, counts_text, wrong_in, lines_from, counted_all, lines_text, list_text, wrong_with}
@@ -33,24 +35,24 @@ use Rattle.passlist_spec.specs.Whole.{stands_as, passed_lines, how_many, AllRows
 -- ---- a row is no head
 
 by-few : (p : Pass) (o : Said) (m : Mark) → place_of (standing_by p o m) < 8
-by-few (AtLeast n) said.Done (mark.Some m) = by-test (leb n m) (λ e. rw e (lit< tt)) (λ e. rw e (lit< tt))
-by-few (AtLeast n) said.Done mark.None = lit< tt
-by-few NoTimes said.Done (mark.Some m) = lit< tt
-by-few NoTimes said.Done mark.None = lit< tt
-by-few (AtLeast n) said.Unfinished (mark.Some m) = lit< tt
-by-few (AtLeast n) said.Unfinished mark.None = lit< tt
-by-few NoTimes said.Unfinished (mark.Some m) = lit< tt
-by-few NoTimes said.Unfinished mark.None = lit< tt
-by-few (AtLeast n) said.Refused (mark.Some m) = lit< tt
-by-few (AtLeast n) said.Refused mark.None = lit< tt
-by-few NoTimes said.Refused (mark.Some m) = lit< tt
-by-few NoTimes said.Refused mark.None = lit< tt
-by-few (AtLeast n) said.Fault (mark.Some m) = lit< tt
-by-few (AtLeast n) said.Fault mark.None = lit< tt
-by-few NoTimes said.Fault (mark.Some m) = lit< tt
-by-few NoTimes said.Fault mark.None = lit< tt
-by-few p said.Absent (mark.Some m) = lit< tt
-by-few p said.Absent mark.None = lit< tt
+by-few (AtLeast n) said.Done (Some m) = by-test (leb n m) (λ e. rw e (lit< tt)) (λ e. rw e (lit< tt))
+by-few (AtLeast n) said.Done None = lit< tt
+by-few NoTimes said.Done (Some m) = lit< tt
+by-few NoTimes said.Done None = lit< tt
+by-few (AtLeast n) said.Unfinished (Some m) = lit< tt
+by-few (AtLeast n) said.Unfinished None = lit< tt
+by-few NoTimes said.Unfinished (Some m) = lit< tt
+by-few NoTimes said.Unfinished None = lit< tt
+by-few (AtLeast n) said.Refused (Some m) = lit< tt
+by-few (AtLeast n) said.Refused None = lit< tt
+by-few NoTimes said.Refused (Some m) = lit< tt
+by-few NoTimes said.Refused None = lit< tt
+by-few (AtLeast n) said.Fault (Some m) = lit< tt
+by-few (AtLeast n) said.Fault None = lit< tt
+by-few NoTimes said.Fault (Some m) = lit< tt
+by-few NoTimes said.Fault None = lit< tt
+by-few p said.Absent (Some m) = lit< tt
+by-few p said.Absent None = lit< tt
 
 standing-few : (p : Pass) (s : List ℕ) → place_of (standing p s) < 8
 unfolding standing
@@ -171,11 +173,11 @@ unfolding counted_all
 headed-all p [] counts h = h
 headed-all p (row ∷ rows) counts h = headed-all p rows (counted p counts row) (still-headed p counts row h)
 
-nothing-wrong : (counts : List ℕ) → get_or counts 7 0 ≡ 0 → get_or counts 6 0 ≡ 0 → 1 ≤ get_or counts 8 0 → wrong_in counts ≡ wrong.Nothing
+nothing-wrong : (counts : List ℕ) → get_or counts 7 0 ≡ 0 → get_or counts 6 0 ≡ 0 → 1 ≤ get_or counts 8 0 → wrong_in counts ≡ None
 unfolding wrong_in
 nothing-wrong counts a b c = rw (eq-eqb (get_or counts 7 0) 0 a, eq-eqb (get_or counts 6 0) 0 b, ne_eqb (get_or counts 8 0) 0 (λ e. omega (arith, e, c)))
 
-wrong-nothing : (counts : List ℕ) → wrong_in counts ≡ wrong.Nothing → (get_or counts 7 0 ≡ 0) × (get_or counts 6 0 ≡ 0) × (1 ≤ get_or counts 8 0)
+wrong-nothing : (counts : List ℕ) → wrong_in counts ≡ None → (get_or counts 7 0 ≡ 0) × (get_or counts 6 0 ≡ 0) × (1 ≤ get_or counts 8 0)
 unfolding wrong_in
 wrong-nothing counts e =
     by-test (eqb (get_or counts 7 0) 0)
@@ -186,10 +188,10 @@ wrong-nothing counts e =
     (λ c. absurd (kind (rw (a, b, c) at e)))))
     (λ a. absurd (register (rw a at e)))
   where
-    register : wrong.Register ≡ wrong.Nothing → ⊥
+    register : ◌≡◌ {A = Option Wrong} (Some Register) None → ⊥
     register q = let z : ◌≡◌ {A = ℕ} 0 1 = cc in omega arith
 
-    kind : wrong.Kind ≡ wrong.Nothing → ⊥
+    kind : ◌≡◌ {A = Option Wrong} (Some Kind) None → ⊥
     kind q = let z : ◌≡◌ {A = ℕ} 0 1 = cc in omega arith
 
     some : (n : ℕ) → (n ≡ 0 → ⊥) → 1 ≤ n
@@ -252,29 +254,29 @@ none-such p x (row ∷ rows) h a =
     rw (ne_eqb (place_of x) (place_of (standing p row)) (λ e. omega (arith, e, a.0)), how_many) (none-such p x rows h a.1)
 
 taken-lines : (p : Pass) (lines : List (List ℕ))
-    → (wrong_in (counted_all p none_counted lines) ≡ wrong.Nothing → IsRegister p lines) × (IsRegister p lines → wrong_in (counted_all p none_counted lines) ≡ wrong.Nothing)
+    → (wrong_in (counted_all p none_counted lines) ≡ None → IsRegister p lines) × (IsRegister p lines → wrong_in (counted_all p none_counted lines) ≡ None)
 unfolding counted_all
 taken-lines p [] = (λ e. absurd (omega (arith, (wrong-nothing none_counted e).2)), λ f. absurd f)
 taken-lines p (s ∷ rows) = (by-head (head_line s) refl, register)
   where
-    of-rows : wrong_in (counted_all p after-head rows) ≡ wrong.Nothing → AllRows p rows
+    of-rows : wrong_in (counted_all p after-head rows) ≡ None → AllRows p rows
     of-rows e =
         let w = wrong-nothing (counted_all p after-head rows) e in
         all-rows p rows
         (omega (arith, counts-so p stands.NoRow rows after-head head-met (omega arith), w.0))
         (omega (arith, counts-so p stands.OtherKind rows after-head head-met (omega arith), w.1))
 
-    by-head : (z : Reply (Unit {0})) → head_line s ≡ z → wrong_in (counted_all p (counted p none_counted s) rows) ≡ wrong.Nothing → IsRegister p (s ∷ rows)
+    by-head : (z : Reply (Unit {0})) → head_line s ≡ z → wrong_in (counted_all p (counted p none_counted s) rows) ≡ None → IsRegister p (s ∷ rows)
     by-head (got u r) e q =
         let l = head-back s e in
-        (l, of-rows (subst (λ (c : List ℕ). wrong_in (counted_all p c rows) ≡ wrong.Nothing) (ap (counted p none_counted) l ∙ head-counted p) q))
+        (l, of-rows (subst (λ (c : List ℕ). wrong_in (counted_all p c rows) ≡ None) (ap (counted p none_counted) l ∙ head-counted p) q))
     by-head (refused n) e q =
         let w = no-head p s n e in
         absurd (omega (arith, (wrong-nothing (counted_all p (counted p none_counted s) rows) q).0, stays p rows (counted p none_counted s) w.0 w.1))
 
-    register : IsRegister p (s ∷ rows) → wrong_in (counted_all p (counted p none_counted s) rows) ≡ wrong.Nothing
+    register : IsRegister p (s ∷ rows) → wrong_in (counted_all p (counted p none_counted s) rows) ≡ None
     register (l, a) =
-        subst (λ (c : List ℕ). wrong_in (counted_all p c rows) ≡ wrong.Nothing) (sym (ap (counted p none_counted) l ∙ head-counted p))
+        subst (λ (c : List ℕ). wrong_in (counted_all p c rows) ≡ None) (sym (ap (counted p none_counted) l ∙ head-counted p))
         (nothing-wrong (counted_all p after-head rows)
         (counts-so p stands.NoRow rows after-head head-met (omega arith) ∙ omega (arith, none-such p stands.NoRow rows (omega arith) a))
         (counts-so p stands.OtherKind rows after-head head-met (omega arith) ∙ omega (arith, none-such p stands.OtherKind rows (omega arith) a))

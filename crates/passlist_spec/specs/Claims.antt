@@ -1,6 +1,7 @@
 -- "A name is on the list exactly when its row is `done` with a mark of at least PASS; never by mark alone": from the bytes that the register writes of an answer
 -- to what the judge and the timing say of it; a row alone, and a whole register. Proved in proofs/Exactly, proofs/Read and proofs/Register.
 use Rattle.std.specs.Prelude.{ℕ, ◌≤◌, Bool, true, false, ◌&&◌, ◌||◌, not, List, [], ◌∷◌, ◌++◌, ◌≡◌, ◌≢◌, leb}
+use Rattle.std.specs.declared.option.Option.TheVariants.{None}
 use Rattle.item_spec.specs.Reader.{bytes}
 use Rattle.item_spec.specs.Write.{only_if}
 use Rattle.start_spec.specs.Paper.{Paper}
@@ -16,7 +17,6 @@ use Rattle.register_spec.specs.Text.{head_text, further_cells, row_text}
 use Rattle.passlist_spec.specs.declared.Pass.{Pass}
 use Rattle.passlist_spec.specs.declared.Pass.TheVariants.{AtLeast, NoTimes}
 use Rattle.passlist_spec.specs.declared.Standing.TheVariants.{Passed}
-use Rattle.passlist_spec.specs.declared.Wrong.TheVariants.{Nothing}
 use Rattle.passlist_spec.specs.Row.{name_cell}
 use Rattle.passlist_spec.specs.Standing.{standing}
 use Rattle.passlist_spec.specs.Listed.{none_counted, counts_text, counted_all, list_text, wrong_with}
@@ -103,4 +103,4 @@ AllJudged s (absent name ∷ cs) = AllJudged s cs
 -- and is never refused
 unfoldable pub RegistersAreTaken : Type 0
 RegistersAreTaken =
-    (s : Paper) (b : Bool) (x : List ℕ) (n : ℕ) (cs : List Candidate) → AllJudged s cs → wrong_with (pass_for b n) (joined (register_of s b x cs)) ≡ Nothing
+    (s : Paper) (b : Bool) (x : List ℕ) (n : ℕ) (cs : List Candidate) → AllJudged s cs → wrong_with (pass_for b n) (joined (register_of s b x cs)) ≡ None

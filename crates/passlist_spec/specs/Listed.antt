@@ -1,5 +1,7 @@
 -- The pass list of a register, line by line: the head is due first, then a row on each line.
 use Rattle.std.specs.Prelude.{ℕ, ◌+◌, min, true, false, cond, List, [], ◌∷◌, ◌++◌, eqb, get_or, set}
+use Rattle.std.specs.declared.option.Option.{Option}
+use Rattle.std.specs.declared.option.Option.TheVariants.{Some, None}
 use Rattle.item_spec.specs.Reader.{Reader, Reply, got, refused, byte, bytes, ◌>>◌}
 use Rattle.item_spec.specs.Read.{key}
 use Rattle.item_spec.specs.Write.{number_text, only_if}
@@ -8,7 +10,7 @@ use Rattle.passlist_spec.specs.declared.Pass.{Pass}
 use Rattle.passlist_spec.specs.declared.Standing.{Standing}
 use Rattle.passlist_spec.specs.declared.Standing.TheVariants as stands
 use Rattle.passlist_spec.specs.declared.Wrong.{Wrong}
-use Rattle.passlist_spec.specs.declared.Wrong.TheVariants as wrong
+use Rattle.passlist_spec.specs.declared.Wrong.TheVariants.{Register, Kind}
 use Rattle.passlist_spec.specs.Row.{over}
 use Rattle.passlist_spec.specs.Standing.{standing, passed_line}
 
@@ -73,10 +75,10 @@ counts_text counts =
     ++ count_text (bytes "absent=") (get_or counts 5 0)
     ++ count_text (bytes "candidates=") (candidates counts)
 
--- whether there is a list: a line that is no row, or no head, and it is no register
-unfoldable pub wrong_in : List ℕ → Wrong
+-- why there is no list, `None` where there is one: a line that is no row, or no head, and it is no register
+unfoldable pub wrong_in : List ℕ → Option Wrong
 wrong_in counts =
-    cond (eqb (get_or counts 7 0) 0) (cond (eqb (get_or counts 8 0) 0) wrong.Register (cond (eqb (get_or counts 6 0) 0) wrong.Nothing wrong.Kind)) wrong.Register
+    cond (eqb (get_or counts 7 0) 0) (cond (eqb (get_or counts 8 0) 0) (Some Register) (cond (eqb (get_or counts 6 0) 0) None (Some Kind))) (Some Register)
 
 -- ---- the whole register
 
@@ -108,5 +110,5 @@ lines_text p counts (s ∷ ls) = line_text p counts s ++ lines_text p (counted p
 unfoldable pub list_text : Pass → List ℕ → List ℕ
 list_text p s = lines_text p none_counted (lines_from [] s) ++ counts_text (counted_all p none_counted (lines_from [] s))
 
-unfoldable pub wrong_with : Pass → List ℕ → Wrong
+unfoldable pub wrong_with : Pass → List ℕ → Option Wrong
 wrong_with p s = wrong_in (counted_all p none_counted (lines_from [] s))

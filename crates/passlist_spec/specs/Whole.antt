@@ -1,11 +1,11 @@
 -- What is claimed of the list of a text, whatever its bytes are. Proved in proofs/Whole.
 use Rattle.std.specs.Prelude.{ℕ, suc, ◌<◌, Bool, true, false, List, [], ◌∷◌, ◌++◌, ◌≡◌, eqb, get_or}
+use Rattle.std.specs.declared.option.Option.TheVariants.{None}
 use Rattle.item_spec.specs.Write.{only_if}
 use Rattle.register_spec.specs.Text.{head_text}
 use Rattle.passlist_spec.specs.declared.Pass.{Pass}
 use Rattle.passlist_spec.specs.declared.Standing.{Standing}
 use Rattle.passlist_spec.specs.declared.Standing.TheVariants.{Passed}
-use Rattle.passlist_spec.specs.declared.Wrong.TheVariants.{Nothing}
 use Rattle.passlist_spec.specs.Standing.{standing, passed_line}
 use Rattle.passlist_spec.specs.Listed.{place_of, sum, none_counted, counts_text, lines_from, counted_all, list_text, wrong_with}
 
@@ -47,4 +47,4 @@ IsRegister p (line ∷ rows) = (line ≡ head_text) × AllRows p rows
 
 -- what is no register, an empty text too, is refused, and nothing else is
 unfoldable pub TakenExactly : Type 0
-TakenExactly = (p : Pass) (s : List ℕ) → (wrong_with p s ≡ Nothing → IsRegister p (lines_from [] s)) × (IsRegister p (lines_from [] s) → wrong_with p s ≡ Nothing)
+TakenExactly = (p : Pass) (s : List ℕ) → (wrong_with p s ≡ None → IsRegister p (lines_from [] s)) × (IsRegister p (lines_from [] s) → wrong_with p s ≡ None)

@@ -45,7 +45,6 @@ pub enum Standing {
 // Why no list is made: the text is no register, or the pass line is of the other kind.
 #[derive(Clone, Copy)]
 pub enum Wrong {
-    Nothing,
     Register,
     Kind,
 }
