@@ -36,6 +36,5 @@ found_of r a = record {
   line = looked_at r.outcome r.line a;
   next = next_of r.outcome r.next r.program;
   program = r.program;
-  marked = r.marked;
   mark = r.mark;
 }

@@ -54,7 +54,6 @@ pub fn found_of(row: Row, answer: &[u8]) -> Found
         line: looked_at(outcome, row.line, answer),
         next: next_of(outcome, row.next, row.program),
         program: row.program,
-        marked: row.marked,
         mark: row.mark,
     }
 }

@@ -35,15 +35,15 @@ fn write_opening(t: &mut [u8], at: usize, k: usize, name: &[u8], group: usize) -
     write_key(t, j, b"</p>\n")
 }
 
-fn write_mark(t: &mut [u8], at: usize, marked: bool, mark: usize) -> usize
-    ensures { Written t.old (page_text (mark_line marked mark)) t.new at result }
+fn write_mark(t: &mut [u8], at: usize, mark: Option<usize>) -> usize
+    ensures { Written t.old (page_text (mark_line mark)) t.new at result }
 {
-    if marked {
-        let a = write_key(t, at, b"<p>mark ");
-        let b = write_number(t, a, mark);
-        return write_key(t, b, b"</p>\n");
-    }
-    at
+    let Some(n) = mark else {
+        return at;
+    };
+    let a = write_key(t, at, b"<p>mark ");
+    let b = write_number(t, a, n);
+    write_key(t, b, b"</p>\n")
 }
 
 // The instruction after the first k of n.
@@ -138,7 +138,7 @@ pub fn write_candidate(
         (page_text (candidate k name.now found sheet.now answer.now report.now)) t.new 0 result }
 {
     let a = write_opening(t, 0, k, name, found.group);
-    let b = write_mark(t, a, found.marked, found.mark);
+    let b = write_mark(t, a, found.mark);
     write_body(t, b, found, sheet, answer, report)
 }
 

@@ -15,6 +15,8 @@ use Rattle.read_spec.specs.Place.{up_to_lf, line_start}
 use Rattle.sitting_shown.specs.declared.Among.TheVariants as among
 use Rattle.sitting_shown.specs.Readable.{Each, Printable, AlwaysPrintable}
 use Rattle.sitting_shown.proofs.Readable.{each_append, each_map, always-printable}
+use Rattle.std.specs.declared.option.Option.{Option}
+use Rattle.std.specs.declared.option.Option.TheVariants.{Some, None}
 use Rattle.page_spec.specs.declared.Found.{Found}
 use Rattle.page_spec.specs.Line.{line_of, widest, first_bytes, line_count}
 use Rattle.page_spec.specs.Words.{words_text}
@@ -174,9 +176,10 @@ signs-ascii : InAscii signs
 unfolding signs
 signs-ascii = told signs refl
 
-mark-ascii : (b : Bool) (m : ℕ) → InAscii (mark_line b m)
+mark-ascii : (m : Option ℕ) → InAscii (mark_line m)
 unfolding mark_line
-mark-ascii b m = if-so b _ (told _ refl)
+mark-ascii (Some m) = told _ refl
+mark-ascii None = told _ refl
 
 instruction-ascii : (s : List ℕ) (n k : ℕ) → InAscii (instruction_line s n k)
 unfolding instruction_line
@@ -202,7 +205,7 @@ body-ascii f s a r =
 pub candidates-are-ascii : CandidatesAreAscii
 unfolding CandidatesAreAscii candidate
 candidates-are-ascii k name f s a r =
-    and_then (opening k name f.group) _ (opening-ascii k name f.group) (and_then (mark_line f.marked f.mark) _ (mark-ascii f.marked f.mark) (body-ascii f s a r))
+    and_then (opening k name f.group) _ (opening-ascii k name f.group) (and_then (mark_line f.mark) _ (mark-ascii f.mark) (body-ascii f s a r))
 
 pub unreadable-are-ascii : UnreadableAreAscii
 unfolding UnreadableAreAscii unreadable

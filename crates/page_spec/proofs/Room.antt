@@ -13,6 +13,8 @@ use Rattle.item_spec.specs.Write.{digits_in, number_text}
 use Rattle.sitting_shown.specs.declared.Among.TheVariants as among
 use Rattle.sitting_shown.specs.Readable.{FourTimes}
 use Rattle.sitting_shown.proofs.Readable.{four-times}
+use Rattle.std.specs.declared.option.Option.{Option}
+use Rattle.std.specs.declared.option.Option.TheVariants.{Some, None}
 use Rattle.page_spec.specs.declared.Found.{Found}
 use Rattle.page_spec.specs.Line.{line_of, widest, first_bytes, line_count}
 use Rattle.page_spec.specs.Words.{words_text}
@@ -186,9 +188,10 @@ signs-short : Within 300 signs
 unfolding signs
 signs-short = sum _ (omega arith)
 
-mark-short : (b : Bool) (m : ℕ) → Within 50 (mark_line b m)
+mark-short : (m : Option ℕ) → Within 50 (mark_line m)
 unfolding mark_line
-mark-short b m = if-so b _ (sum _ (omega arith))
+mark-short (Some m) = sum _ (omega arith)
+mark-short None = sum _ (omega arith)
 
 instruction-short : (s : List ℕ) (n k : ℕ) → Within 800 (instruction_line s n k)
 unfolding instruction_line
@@ -219,7 +222,7 @@ unfolding CandidatesFit candidate
 candidates-fit k name f s a r h g =
     fits (4 * length name + 31 * length r + 8950) _
     (and_then (4 * length name + 300) (31 * length r + 8650) (opening k name f.group) _ (opening-short k name f.group)
-    (and_then 50 (31 * length r + 8600) (mark_line f.marked f.mark) _ (mark-short f.marked f.mark) (body-short f s a r) (omega arith))
+    (and_then 50 (31 * length r + 8600) (mark_line f.mark) _ (mark-short f.mark) (body-short f s a r) (omega arith))
     (omega arith))
     (omega arith)
 

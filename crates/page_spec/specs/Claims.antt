@@ -1,5 +1,5 @@
 -- What is claimed of every page. Proved in proofs/Claims.
-use Rattle.std.specs.Prelude.{ℕ, Bool, true, false, List, [], ◌∷◌, ◌++◌, ◌≡◌}
+use Rattle.std.specs.Prelude.{ℕ, true, false, List, [], ◌∷◌, ◌≡◌}
 use Rattle.sitting_shown.specs.Shown.{markup}
 use Rattle.sitting_shown.specs.Readable.{Each}
 use Rattle.page_spec.specs.Piece.{Piece, fixed, number, seen, words, piece_text, page_text}

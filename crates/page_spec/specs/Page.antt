@@ -1,5 +1,7 @@
 -- The page: its top with the counts by outcome, each candidate, its foot.
 use Rattle.std.specs.Prelude.{ℕ, ◌+◌, ◌-◌, Bool, true, false, ◌||◌, cond, List, [], ◌∷◌, ◌++◌, eqb, ltb, length, get_or}
+use Rattle.std.specs.declared.option.Option.{Option}
+use Rattle.std.specs.declared.option.Option.TheVariants.{Some, None}
 use Rattle.item_spec.specs.Reader.{byte}
 use Rattle.page_spec.specs.declared.Found.{Found}
 use Rattle.page_spec.specs.Line.{line_of, widest, first_bytes, line_count}
@@ -143,8 +145,9 @@ opening k name group =
     ∷ fixed "</p>\n"
     ∷ []
 
-unfoldable pub mark_line : Bool → ℕ → List Piece
-mark_line b m = when b (fixed "<p>mark " ∷ number m ∷ fixed "</p>\n" ∷ [])
+unfoldable pub mark_line : Option ℕ → List Piece
+mark_line (Some m) = fixed "<p>mark " ∷ number m ∷ fixed "</p>\n" ∷ []
+mark_line None = []
 
 -- the program's lines are the sheet's last: where the instruction after the first k of n stands
 unfoldable pub next_line : List ℕ → ℕ → ℕ → ℕ
@@ -189,7 +192,7 @@ body f s a r =
     cond (eqb f.group 0) (fixed "</article>\n" ∷ []) (instruction_line s f.program f.next ++ (sides a f.line r ++ signs))
 
 unfoldable pub candidate : ℕ → List ℕ → Found → List ℕ → List ℕ → List ℕ → List Piece
-candidate k name f s a r = opening k name f.group ++ (mark_line f.marked f.mark ++ body f s a r)
+candidate k name f s a r = opening k name f.group ++ (mark_line f.mark ++ body f s a r)
 
 unfoldable pub unreadable : ℕ → List ℕ → List Piece
 unreadable k name = opening k name 40 ++ signs

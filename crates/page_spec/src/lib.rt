@@ -10,6 +10,5 @@ pub struct Found {
     pub line: usize,
     pub next: usize,
     pub program: usize,
-    pub marked: bool,
-    pub mark: usize,
+    pub mark: Option<usize>,
 }

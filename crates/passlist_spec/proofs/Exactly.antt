@@ -56,5 +56,5 @@ passed-untimed OfPaper e = other 7 refl (omega arith) e
 pub passes-without-times : PassesWithoutTimes
 unfolding PassesWithoutTimes row_of
 passes-without-times name s x a =
-    let e = row-stands NoTimes name (row_of s false x a) (omega arith) in
+    let e = row-stands NoTimes name (row_of s false x a) tt in
     (λ p. passed-untimed (outcome_of s a) (sym e ∙ p), λ d. e ∙ rw d)

@@ -1,7 +1,7 @@
 -- A row that the register wrote, read again: where it stands is told by its outcome and its mark.
 -- Assumes nothing.
 use Prim.Native.Nat.{ℕ, ◌≤◌, ◌<◌}
-use mathlib.Core.Bool.{Bool, true, false}
+use mathlib.Core.Bool.{true, false}
 use mathlib.Core.List.{List, [], ◌∷◌, ◌++◌}
 use mathlib.Core.Path.{◌≡◌, refl, ap, ◌∙◌}
 use native.Mathlib.Omega.{arith}
@@ -27,7 +27,9 @@ use Rattle.passlist_spec.specs.declared.Cell.{Cell}
 use Rattle.passlist_spec.specs.declared.Cell.TheVariants as kind
 use Rattle.passlist_spec.specs.declared.Said.TheVariants as said
 use Rattle.passlist_spec.specs.Row.{Mark}
-use Rattle.std.specs.declared.option.Option.TheVariants as mark
+use Rattle.std.specs.Bool.{then_some}
+use Rattle.std.specs.declared.option.Option.{Option}
+use Rattle.std.specs.declared.option.Option.TheVariants.{Some, None}
 use Rattle.passlist_spec.specs.declared.Standing.{Standing}
 use Rattle.passlist_spec.specs.declared.Standing.TheVariants as stands
 use Rattle.passlist_spec.specs.Row.{name_cell, in_cell, past_cell, said_cell, three_cells, mark_of, mark_or, over, last_mark, number_cells, row_says}
@@ -62,32 +64,32 @@ number-in : (v : ℕ) → Each (InCell kind.Number) (number_text v)
 unfolding number_text
 number-in v = each_map Digit (InCell kind.Number) digit-in (digits_in 20 v) (digits-digits 20 v)
 
-number-cell-in : (b : Bool) (v : ℕ) → Each (InCell kind.Number) (number_cell b v)
-number-cell-in true v = number-in v
-number-cell-in false v = tt
+number-cell-in : (m : Option ℕ) → Each (InCell kind.Number) (number_cell m)
+number-cell-in (Some v) = number-in v
+number-cell-in None = tt
 
 port-in : (q : Concerned) → Each (InCell kind.Number) (port_cell q)
 port-in NoPort = tt
 port-in (UsePort q) = number-in q
 
--- the mark as its cell says it
-abbrev pub mark_said : Bool → ℕ → Mark
-mark_said true m = mark.Some m
-mark_said false m = mark.None
-
-number_read : (s : List ℕ) (v : ℕ) (r : List ℕ) → v ≤ 1000 → one_form 5 s ≡ got v r → mark_or (bytes "\n") s ≡ got (mark.Some v) r
+number_read : (s : List ℕ) (v : ℕ) (r : List ℕ) → v ≤ 1000 → one_form 5 s ≡ got v r → mark_or (bytes "\n") s ≡ got (Some v) r
 unfolding mark_or mark_of
 number_read s v r h e =
-    ap (λ (z : Reply ℕ). elim z [ got a q ↦ mark_of a q | refused n ↦ upon (bytes "\n") (give mark.None) no_line s ]) e ∙ rw (le-leb v 1000 h)
+    ap (λ (z : Reply ℕ). elim z [ got a q ↦ mark_of a q | refused n ↦ upon (bytes "\n") (give None) no_line s ]) e ∙ rw (le-leb v 1000 h)
 
 number-whole : (m : ℕ) → m ≤ 1000 → one_form 5 (number_text m ++ bytes "\n") ≡ got m []
 unfolding one_form
 number-whole m h = let l : m < 100000 = omega arith in number-ended 5 (omega arith) (omega arith) {e = 10} (lit< tt) m l []
 
-mark-read : (b : Bool) (m : ℕ) → m ≤ 1000 → mark_or (bytes "\n") (number_cell b m ++ bytes "\n") ≡ got (mark_said b m) []
+-- a mark is 0 to 1000
+abbrev pub MarkFew : Mark → Type 0
+MarkFew (Some m) = m ≤ 1000
+MarkFew None = Unit
+
+mark-read : (m : Mark) → MarkFew m → mark_or (bytes "\n") (number_cell m ++ bytes "\n") ≡ got m []
 unfolding mark_or one_form key number_from
-mark-read true m h = number_read (number_text m ++ bytes "\n") m [] h (number-whole m h)
-mark-read false m h = refl
+mark-read (Some m) h = number_read (number_text m ++ bytes "\n") m [] h (number-whole m h)
+mark-read None h = refl
 
 -- ---- the row
 
@@ -116,12 +118,12 @@ three-past a b c t f g h =
 
 -- the last cell and the line's end; three cells before it; three before these
 abbrev last_of : Row → List ℕ
-last_of r = number_cell r.marked r.mark ++ bytes "\n"
+last_of r = number_cell r.mark ++ bytes "\n"
 
 abbrev three_of : Row → List ℕ
 three_of r =
-    number_cell (walked r.outcome) r.accepted
-    ++ (44 ∷ (number_cell (walked r.outcome) r.next
+    number_cell (then_some (walked r.outcome) r.accepted)
+    ++ (44 ∷ (number_cell (then_some (walked r.outcome) r.next)
     ++ (44 ∷ (number_text r.program
     ++ (44 ∷ last_of r)))))
 
@@ -129,18 +131,18 @@ abbrev six_of : Row → List ℕ
 six_of r =
     number_text r.number
     ++ (44 ∷ (port_cell r.port
-    ++ (44 ∷ (number_cell (pointed r.outcome) r.line
+    ++ (44 ∷ (number_cell (then_some (pointed r.outcome) r.line)
     ++ (44 ∷ three_of r)))))
 
-pub row-stands : (p : Pass) (name : List ℕ) (r : Row) → r.mark ≤ 1000 → standing p (row_text name r) ≡ standing_for p r.outcome (mark_said r.marked r.mark)
+pub row-stands : (p : Pass) (name : List ℕ) (r : Row) → MarkFew r.mark → standing p (row_text name r) ≡ standing_for p r.outcome r.mark
 unfolding row_text further_cells
 row-stands p name r few =
-    stands-so p (cell name) (six_of r) (mark_said r.marked r.mark) (named_in name) (three_of r) (last_of r)
-    (three-past (number_text r.number) (port_cell r.port) (number_cell (pointed r.outcome) r.line) (three_of r)
-    (number-in r.number) (port-in r.port) (number-cell-in (pointed r.outcome) r.line))
-    (three-past (number_cell (walked r.outcome) r.accepted) (number_cell (walked r.outcome) r.next) (number_text r.program) (last_of r)
-    (number-cell-in (walked r.outcome) r.accepted) (number-cell-in (walked r.outcome) r.next) (number-in r.program))
-    (mark-read r.marked r.mark few) r.outcome
+    stands-so p (cell name) (six_of r) r.mark (named_in name) (three_of r) (last_of r)
+    (three-past (number_text r.number) (port_cell r.port) (number_cell (then_some (pointed r.outcome) r.line)) (three_of r)
+    (number-in r.number) (port-in r.port) (number-cell-in (then_some (pointed r.outcome) r.line)))
+    (three-past (number_cell (then_some (walked r.outcome) r.accepted)) (number_cell (then_some (walked r.outcome) r.next)) (number_text r.program) (last_of r)
+    (number-cell-in (then_some (walked r.outcome) r.accepted)) (number-cell-in (then_some (walked r.outcome) r.next)) (number-in r.program))
+    (mark-read r.mark few) r.outcome
 
 -- ---- the name
 

@@ -5,8 +5,8 @@ use mathlib.Core.Bool.{Bool, true, false, ◌&&◌, ◌||◌, not}
 use mathlib.Core.List.{List, [], ◌∷◌, ◌++◌, append_assoc, append-nil}
 use mathlib.Core.Path.{◌≡◌, refl, sym, ap, ◌∙◌, subst}
 use mathlib.Core.Logic.{◌≢◌}
-use native.Mathlib.Omega.{arith}
 use lib.Dec.{eqb, leb, lit<}
+use Rattle.std.specs.Bool.{then_some}
 use Rattle.item_spec.specs.Reader.{bytes}
 use Rattle.item_spec.specs.Read.{key, number_from, one_form}
 use Rattle.item_spec.specs.Write.{only_if}
@@ -31,7 +31,7 @@ use Rattle.passlist_spec.specs.Listed.{place_of, none_counted, counts_text, line
 use Rattle.passlist_spec.specs.Whole.{stands_as, passed_lines, AllRows, IsRegister, ListsExactly, TakenExactly}
 use Rattle.passlist_spec.specs.Claims.{Candidate, sat, absent, name_of, candidate_text, rows_of, register_of, joined, pass_for, is_done, passed, names_text, NamedAsRegistered, RegistersAreListed, AllJudged, RegistersAreTaken}
 use Rattle.passlist_spec.proofs.Few.{marks-few}
-use Rattle.passlist_spec.proofs.Read.{named_in, cell-past, name-of, mark_said, standing_for, row-stands, named-as-registered}
+use Rattle.passlist_spec.proofs.Read.{named_in, cell-past, name-of, standing_for, row-stands, named-as-registered}
 use Rattle.passlist_spec.proofs.Whole.{lists-exactly, taken-exactly}
 
 -- ---- lines
@@ -86,7 +86,7 @@ register-lines s b x cs = head-line (joined (rows_of s b x cs)) ∙ ap (◌∷�
 -- ---- who passed
 
 -- by the outcome and the mark
-passes-by : (b : Bool) (o : Outcome) (n m : ℕ) → eqb 0 (place_of (standing_for (pass_for b n) o (mark_said b m))) ≡ is_done o && (not b || leb n m)
+passes-by : (b : Bool) (o : Outcome) (n m : ℕ) → eqb 0 (place_of (standing_for (pass_for b n) o (then_some b m))) ≡ is_done o && (not b || leb n m)
 passes-by true Done n m = by-test (leb n m) (λ e. rw e) (λ e. rw e)
 passes-by true Unfinished n m = refl
 passes-by true Refused n m = refl
@@ -108,7 +108,7 @@ module _ (s : Paper) (x : List ℕ) (n : ℕ) where
   sat-stands true name a =
       rw (row-stands (pass_for true n) name (row_of s true x a) (marks-few s a x lent_bytes)) (passes-by true (outcome_of s a) n (timed s a x lent_bytes).mark)
   sat-stands false name a =
-      rw (row-stands (pass_for false n) name (row_of s false x a) (omega arith)) (passes-by false (outcome_of s a) n 0)
+      rw (row-stands (pass_for false n) name (row_of s false x a) tt) (passes-by false (outcome_of s a) n 0)
 
   stands-so : (b : Bool) (c : Candidate) → stands_as (pass_for b n) stands.Passed (candidate_text s b x c) ≡ passed s b x n c
   stands-so b (sat name a) = sat-stands b name a
@@ -132,7 +132,7 @@ registers-are-listed s b x n cs =
 
 -- ---- what is taken
 
-few-by : (b : Bool) (o : Outcome) (n m : ℕ) → o ≢ OfPaper → place_of (standing_for (pass_for b n) o (mark_said b m)) < 6
+few-by : (b : Bool) (o : Outcome) (n m : ℕ) → o ≢ OfPaper → place_of (standing_for (pass_for b n) o (then_some b m)) < 6
 few-by true Done n m h = by-test (leb n m) (λ e. rw e (lit< tt)) (λ e. rw e (lit< tt))
 few-by true Unfinished n m h = lit< tt
 few-by true Refused n m h = lit< tt
@@ -149,7 +149,7 @@ module _ (s : Paper) (x : List ℕ) (n : ℕ) where
   unfolding row_of
   sat-few true name a h =
       rw (row-stands (pass_for true n) name (row_of s true x a) (marks-few s a x lent_bytes)) (few-by true (outcome_of s a) n (timed s a x lent_bytes).mark h)
-  sat-few false name a h = rw (row-stands (pass_for false n) name (row_of s false x a) (omega arith)) (few-by false (outcome_of s a) n 0 h)
+  sat-few false name a h = rw (row-stands (pass_for false n) name (row_of s false x a) tt) (few-by false (outcome_of s a) n 0 h)
 
   all-few : (b : Bool) (cs : List Candidate) → AllJudged s cs → AllRows (pass_for b n) (rows_of s b x cs)
   unfolding rows_of

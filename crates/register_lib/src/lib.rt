@@ -4,6 +4,7 @@
 
 ghost use Rattle.std.specs.Prelude.{◌≡◌, cond, ◌++◌};
 ghost use Rattle.std.specs.Option.{is_some};
+ghost use Rattle.std.specs.declared.option.Option.TheVariants.{Some, None};
 ghost use Rattle.item_spec.specs.Reader.{bytes};
 ghost use Rattle.judge_spec.specs.Judged.{lent_bytes};
 ghost use Rattle.judge_spec.specs.Lent.{lent, text_lent};
@@ -31,14 +32,12 @@ fn line_of(outcome: Outcome, answer: &[u8], verdict: Verdict, place: Place) -> u
     }
 }
 
-fn mark_of(paper: Paper<'_>, times: Option<&[u8]>, answer: &[u8]) -> usize
-    ensures { result ≡ cond (is_some times.entry) (timed (lent paper.entry) answer.now (text_lent times.entry) lent_bytes).mark 0 }
+fn mark_of(paper: Paper<'_>, times: Option<&[u8]>, answer: &[u8]) -> Option<usize>
+    ensures { result ≡ cond (is_some times.entry) (Some (timed (lent paper.entry) answer.now (text_lent times.entry) lent_bytes).mark) None }
 {
-    let Some(times) = times else {
-        return 0;
-    };
+    let times = times?;
     let mut report = [0u8; LENT_BYTES];
-    timing_lib::timed(paper, answer, times, &mut report).mark
+    Some(timing_lib::timed(paper, answer, times, &mut report).mark)
 }
 
 // What the register says of an answer, with its mark where the paper has times.
@@ -62,7 +61,6 @@ pub fn row_of(paper: Paper<'_>, times: Option<&[u8]>, answer: &[u8]) -> Row
         accepted: verdict.accepted,
         next: verdict.next,
         program: told.program as usize,
-        marked: times.is_some(),
         mark,
     }
 }
@@ -91,14 +89,14 @@ fn is_walked(outcome: Outcome) -> bool
     }
 }
 
-fn write_cell(t: &mut [u8], at: usize, told: bool, n: usize) -> usize
-    ensures { Written t.old (bytes "," ++ number_cell told n) t.new at result }
+fn write_cell(t: &mut [u8], at: usize, number: Option<usize>) -> usize
+    ensures { Written t.old (bytes "," ++ number_cell number) t.new at result }
 {
     let p = write_byte(t, at, b',');
-    if told {
-        return write_number(t, p, n);
+    match number {
+        Some(n) => write_number(t, p, n),
+        None => p,
     }
-    p
 }
 
 fn write_port(t: &mut [u8], at: usize, port: Concerned) -> usize
@@ -106,7 +104,7 @@ fn write_port(t: &mut [u8], at: usize, port: Concerned) -> usize
 {
     match port {
         Concerned::NoPort => write_byte(t, at, b','),
-        Concerned::UsePort(q) => write_cell(t, at, true, q as usize),
+        Concerned::UsePort(q) => write_cell(t, at, Some(q as usize)),
     }
 }
 
@@ -119,14 +117,14 @@ pub fn write_row(t: &mut [u8], at: usize, name: &[u8], row: Row) -> usize
     let a = sitting_shown::show_cell(t, at, name);
     let b = write_byte(t, a, b',');
     let c = outcome_lib::write_outcome(t, b, outcome);
-    let d = write_cell(t, c, true, row.number as usize);
+    let d = write_cell(t, c, Some(row.number as usize));
     let e = write_port(t, d, port);
-    let f = write_cell(t, e, is_pointed(outcome), row.line);
+    let f = write_cell(t, e, is_pointed(outcome).then_some(row.line));
     let went = is_walked(outcome);
-    let g = write_cell(t, f, went, row.accepted);
-    let h = write_cell(t, g, went, row.next);
-    let i = write_cell(t, h, true, row.program);
-    let j = write_cell(t, i, row.marked, row.mark);
+    let g = write_cell(t, f, went.then_some(row.accepted));
+    let h = write_cell(t, g, went.then_some(row.next));
+    let i = write_cell(t, h, Some(row.program));
+    let j = write_cell(t, i, row.mark);
     write_byte(t, j, b'\n')
 }
 

@@ -1,7 +1,7 @@
 -- What a row's cells are made of: no comma and no line's end, and no first byte that a spreadsheet would work out.
 -- Assumes nothing.
 use Prim.Native.Nat.{ℕ, zero, suc, ◌/◌, ◌≤◌}
-use mathlib.Core.Bool.{Bool, true, false, true≢false}
+use mathlib.Core.Bool.{true, false, true≢false}
 use mathlib.Core.List.{List, [], ◌∷◌}
 use mathlib.Core.Path.{◌≡◌, refl}
 use native.Mathlib.Omega.{arith}
@@ -9,9 +9,11 @@ use lib.Dec.{ltb, eqb}
 use borrow.Author.Tests.{ne_eqb, ltb-true}
 use Rattle.item_spec.proofs.Tests.{by-test}
 use Rattle.item_spec.specs.Write.{digits_in, number_text}
+use Rattle.std.specs.Bool.{then_some}
+use Rattle.std.specs.declared.option.Option.{Option}
+use Rattle.std.specs.declared.option.Option.TheVariants.{Some, None}
 use Rattle.model.specs.declared.Concerned.{Concerned}
 use Rattle.model.specs.declared.Concerned.TheVariants.{NoPort, UsePort}
-use Rattle.sitting_shown.specs.declared.Among.TheVariants as among
 use Rattle.sitting_shown.specs.Shown.{separator, markup, quote, formula, cell}
 use Rattle.sitting_shown.specs.Readable.{Each, Printable, First, CellsArePrintable, CellsAreWhole, NoFormula}
 use Rattle.sitting_shown.proofs.Readable.{each_append, each_map, cells-are-whole, cells-are-printable, no-formula}
@@ -72,9 +74,9 @@ number-plain v = first-in Digit (λ b. formula b ≡ false) digit-formula (digit
 
 -- what numbers and the outcome's words have, the cells after the name have
 module _ (P : List ℕ → Type 0) (none : P []) (number : (v : ℕ) → P (number_text v)) (word : (o : Outcome) → P (outcome_text o)) where
-  number-cell : (b : Bool) (n : ℕ) → P (number_cell b n)
-  number-cell true n = number n
-  number-cell false n = none
+  number-cell : (m : Option ℕ) → P (number_cell m)
+  number-cell (Some n) = number n
+  number-cell None = none
 
   port-cell : (q : Concerned) → P (port_cell q)
   port-cell NoPort = none
@@ -88,15 +90,15 @@ module _ (P : List ℕ → Type 0) (none : P []) (number : (v : ℕ) → P (numb
       (
         port-cell r.port,
         (
-          number-cell (pointed r.outcome) r.line,
+          number-cell (then_some (pointed r.outcome) r.line),
           (
-            number-cell (walked r.outcome) r.accepted,
+            number-cell (then_some (walked r.outcome) r.accepted),
             (
-              number-cell (walked r.outcome) r.next,
+              number-cell (then_some (walked r.outcome) r.next),
               (
                 number r.program,
                 (
-                  number-cell r.marked r.mark,
+                  number-cell r.mark,
                   tt,
                 ),
               ),

@@ -1,5 +1,7 @@
 -- What a row of the register says of an answer on a paper: the numbers are the judge's, the mark is the timing's.
 use Rattle.std.specs.Prelude.{ℕ, Bool, cond, List}
+use Rattle.std.specs.declared.option.Option.{Option}
+use Rattle.std.specs.declared.option.Option.TheVariants.{Some, None}
 use Rattle.read_spec.specs.Place.{line_number}
 use Rattle.start_spec.specs.Paper.{Paper}
 use Rattle.judge_spec.specs.declared.Verdict.{Verdict}
@@ -20,8 +22,8 @@ line_of Fault a v p = v.line
 line_of OfPaper a v p = v.line
 
 -- with this verdict, this place and this mark
-abbrev pub row_with : Paper → List ℕ → Verdict → Place → Bool → ℕ → Row
-row_with s a v p b m = record {
+abbrev pub row_with : Paper → List ℕ → Verdict → Place → Option ℕ → Row
+row_with s a v p m = record {
   outcome = outcome_of s a;
   number = v.refused;
   port = v.port;
@@ -29,10 +31,9 @@ row_with s a v p b m = record {
   accepted = v.accepted;
   next = v.next;
   program = (said_program s.sheet).count;
-  marked = b;
   mark = m;
 }
 
 -- x are the times, where there are some
 unfoldable pub row_of : Paper → Bool → List ℕ → List ℕ → Row
-row_of s b x a = row_with s a (judged s a lent_bytes).verdict (judged s a lent_bytes).place b (cond b (timed s a x lent_bytes).mark 0)
+row_of s b x a = row_with s a (judged s a lent_bytes).verdict (judged s a lent_bytes).place (cond b (Some (timed s a x lent_bytes).mark) None)

@@ -1,7 +1,10 @@
 -- The register's text: nine cells a row, a comma between them and LF after the last; a cell is empty where there is nothing to say.
 use Rattle.std.specs.Prelude.{ℕ, Bool, true, false, List, [], ◌∷◌, ◌++◌, eqb}
+use Rattle.std.specs.Bool.{then_some}
+use Rattle.std.specs.declared.option.Option.{Option}
+use Rattle.std.specs.declared.option.Option.TheVariants.{Some, None}
 use Rattle.item_spec.specs.Reader.{bytes, byte}
-use Rattle.item_spec.specs.Write.{number_text, only_if}
+use Rattle.item_spec.specs.Write.{number_text}
 use Rattle.model.specs.declared.Concerned.{Concerned}
 use Rattle.model.specs.declared.Concerned.TheVariants.{NoPort, UsePort}
 use Rattle.sitting_shown.specs.Shown.{cell}
@@ -32,9 +35,10 @@ walked Refused = true
 walked Fault = false
 walked OfPaper = false
 
--- a number's cell, empty where the test fails
-abbrev pub number_cell : Bool → ℕ → List ℕ
-number_cell b n = only_if b (number_text n)
+-- a number's cell, empty where there is none
+abbrev pub number_cell : Option ℕ → List ℕ
+number_cell (Some n) = number_text n
+number_cell None = []
 
 -- the eight cells after the name
 abbrev pub cells_after : Row → List (List ℕ)
@@ -42,11 +46,11 @@ cells_after r =
     outcome_text r.outcome
     ∷ number_text r.number
     ∷ port_cell r.port
-    ∷ number_cell (pointed r.outcome) r.line
-    ∷ number_cell (walked r.outcome) r.accepted
-    ∷ number_cell (walked r.outcome) r.next
+    ∷ number_cell (then_some (pointed r.outcome) r.line)
+    ∷ number_cell (then_some (walked r.outcome) r.accepted)
+    ∷ number_cell (then_some (walked r.outcome) r.next)
     ∷ number_text r.program
-    ∷ number_cell r.marked r.mark
+    ∷ number_cell r.mark
     ∷ []
 
 -- further cells, each after its comma, and the line's end

@@ -16,6 +16,5 @@ pub struct Row {
     pub accepted: usize,
     pub next: usize,
     pub program: usize,
-    pub marked: bool,
-    pub mark: usize,
+    pub mark: Option<usize>,
 }

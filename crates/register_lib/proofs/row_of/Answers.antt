@@ -7,5 +7,4 @@ pub returns : goal.returns
 returns c =
     let told = c.outcome-told.ensures in
     let judged = c.judge_and_place-judged.ensures in
-    rw c.is_some.ensures
-    (row_is _ _ _ _ c.line_of-line.ensures told.outcome (judged-in (search rules) judged.judges) (placed-in (search rules) judged.places) told.program c.mark_of-mark.ensures)
+    row_is _ _ _ _ c.line_of-line.ensures told.outcome (judged-in (search rules) judged.judges) (placed-in (search rules) judged.places) told.program c.mark_of-mark.ensures
