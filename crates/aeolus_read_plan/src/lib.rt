@@ -111,12 +111,11 @@ fn read_plan(text: &[u8], types: u32, words: &mut Plan) -> Result<usize, LineFau
     ensures { RunsTo text.now (came result (plan_in words.new)) (shortly (plan types) text.now) }
 {
     aeolus_model::clear_plan(words);
-    let at = read_chain::length_run(text)?;
-    let at = read_chain::due_run(text, at, b"plan=", 1)?;
+    let at = read_chain::then_due(text, read_chain::length_run(text), b"plan=", 1)?;
     let (count, at) = read_chain::within_run(text, at, b"steps=", 0, 1024)?;
     aeolus_model::put_steps(words, count);
-    let at = read_steps(text, at, count, types, words)?;
-    read_chain::end_run(text, at)
+    let steps = read_steps(text, at, count, types, words);
+    read_chain::then_end(text, steps)
 }
 
 // The plan of a text of any length, in a sheet of so many types, whatever the lent words held before; beside a refusal they are all 0.

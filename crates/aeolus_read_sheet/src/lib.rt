@@ -24,12 +24,11 @@ fn read_sheet(text: &[u8], universe: &mut Universe) -> Result<usize, LineFault>
     ensures { RunsTo text.now (came result (universe_in universe.new)) (shortly sheet text.now) }
 {
     aeolus_model::clear_universe(universe);
-    let at = read_chain::length_run(text)?;
-    let at = read_chain::due_run(text, at, b"aeolus=", 1)?;
+    let at = read_chain::then_due(text, read_chain::length_run(text), b"aeolus=", 1)?;
     let (count, at) = read_chain::within_run(text, at, b"types=", 1, 16)?;
     aeolus_model::put_types(universe, count);
-    let at = read_types(text, at, count, universe)?;
-    read_chain::end_run(text, at)
+    let types = read_types(text, at, count, universe);
+    read_chain::then_end(text, types)
 }
 
 // The universe of a text of any length, whatever the lent words held before; beside a refusal they are all 0.

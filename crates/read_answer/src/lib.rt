@@ -116,12 +116,11 @@ fn read_lines(text: &[u8], answer: &mut AnswerWords) -> Result<usize, LineFault>
     requires { answer_in answer.old ≡ no_answer }
     ensures { RunsTo text.now (came result (answer_in answer.new)) (answer_lines text.now) }
 {
-    let at = read_chain::length_run(text)?;
-    let at = read_chain::due_run(text, at, b"answer=", 1)?;
-    let (count, steps) = read_chain::count_run(text, at, b"steps=", Limit::Steps)?;
+    let first = read_chain::then_due(text, read_chain::length_run(text), b"answer=", 1);
+    let (count, at) = read_chain::then_number(text, first, b"steps=", Limit::Steps)?;
     words::answer::put_steps(answer, count);
-    let at = read_steps(text, steps, count, answer)?;
-    read_chain::end_run(text, at)
+    let steps = read_steps(text, at, count, answer);
+    read_chain::then_end(text, steps)
 }
 
 // The answer of a text of any length, in the lent words, whatever these held before; beside a refusal they are all 0.

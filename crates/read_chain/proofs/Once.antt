@@ -6,6 +6,7 @@ use mathlib.Core.Path.{◌≡◌, refl, sym, ap, ◌∙◌}
 use lib.ListN.{drop}
 use Rattle.read_items.proofs.Once.{place-once, refusal_by, refusal-back}
 use Rattle.read_spec.specs.Lines.{Run, on, stop}
+use Rattle.item_spec.specs.declared.Refusal.{Refusal}
 use Rattle.read_lines.specs.declared.LineFault.{LineFault}
 use Rattle.read_lines.specs.Runs.{Came, onto, fault_at, place, run, came, number_came, RunsTo}
 use Rattle.read_chain.specs.Chain.{NoOtherRun, NoOtherNumber}
@@ -40,22 +41,22 @@ module _ {A : Type 0} where
       sym (back-is s c) ∙ (λ i. back (e i) (p i)) ∙ back-is s d
 
 -- and that tells the answer
-abbrev fault_back : ℕ → ℕ → LineFault
+abbrev fault_back : ℕ → ℕ → LineFault Refusal
 fault_back k at = record { refusal = refusal_by k; at = at }
 
-abbrev came_back : Came (Unit {0}) → Result ℕ LineFault
+abbrev came_back : Came (Unit {0}) → Result ℕ (LineFault Refusal)
 came_back (onto a at) = Ok at
 came_back (fault_at k at) = Err (fault_back k at)
 
-came-back : (r : Result ℕ LineFault) → came_back (came r tt) ≡ r
+came-back : (r : Result ℕ (LineFault Refusal)) → came_back (came r tt) ≡ r
 came-back (Ok at) = refl
 came-back (Err f) = ap (λ q. Err (record { refusal = q; at = f.at })) (refusal-back f.refusal)
 
-abbrev number_back : Came ℕ → Result (ℕ × ℕ) LineFault
+abbrev number_back : Came ℕ → Result (ℕ × ℕ) (LineFault Refusal)
 number_back (onto a at) = Ok (a, at)
 number_back (fault_at k at) = Err (fault_back k at)
 
-number-back : (r : Result (ℕ × ℕ) LineFault) → number_back (number_came r) ≡ r
+number-back : (r : Result (ℕ × ℕ) (LineFault Refusal)) → number_back (number_came r) ≡ r
 number-back (Ok (a, at)) = refl
 number-back (Err f) = ap (λ q. Err (record { refusal = q; at = f.at })) (refusal-back f.refusal)
 

@@ -9,12 +9,12 @@ use Rattle.std.specs.declared.result.Result.{Result}
 use Rattle.std.specs.declared.result.Result.TheVariants.{Ok, Err}
 
 -- a number that was read is no greater than n
-abbrev pub Few : ℕ → Result (ℕ × ℕ) LineFault → Type 0
+abbrev pub Few : ℕ → Result (ℕ × ℕ) (LineFault Refusal) → Type 0
 Few n (Ok (a, at)) = a ≤ n
 Few n (Err f) = Unit
 
 -- what was read of a line, whose fault is at the place at
-abbrev pub placed : {A : Type 0} → ℕ → Result A Refusal → Result A LineFault
+abbrev pub placed : {A R : Type 0} → ℕ → Result A R → Result A (LineFault R)
 placed at (Ok a) = Ok a
 placed at (Err r) = Err (record { refusal = r; at = at })
 
@@ -27,7 +27,7 @@ shortly m s = run_on (short s) (λ _. m)
 
 -- no other answer fits: to lines of which no value is looked at, and to lines of one number
 unfoldable pub NoOtherRun : Type 0
-NoOtherRun = (s : List ℕ) (m : Run (Unit {0})) (r q : Result ℕ LineFault) → RunsTo s (came r tt) m → RunsTo s (came q tt) m → r ≡ q
+NoOtherRun = (s : List ℕ) (m : Run (Unit {0})) (r q : Result ℕ (LineFault Refusal)) → RunsTo s (came r tt) m → RunsTo s (came q tt) m → r ≡ q
 
 unfoldable pub NoOtherNumber : Type 0
-NoOtherNumber = (s : List ℕ) (m : Run ℕ) (r q : Result (ℕ × ℕ) LineFault) → RunsTo s (number_came r) m → RunsTo s (number_came q) m → r ≡ q
+NoOtherNumber = (s : List ℕ) (m : Run ℕ) (r q : Result (ℕ × ℕ) (LineFault Refusal)) → RunsTo s (number_came r) m → RunsTo s (number_came q) m → r ≡ q

@@ -7,8 +7,9 @@ ghost use Rattle.read_spec.specs.Kinds.{edition_line, due_line, count_line};
 ghost use Rattle.read_spec.specs.Lines.{line, at_end};
 ghost use Rattle.read_lines.specs.Counts.{limit_ok, greatest, in_range};
 ghost use Rattle.read_lines.specs.Runs.{RunsTo, came, number_came};
+ghost use Rattle.read_chain.specs.After.{After};
 ghost use Rattle.read_chain.specs.Chain.{Few, short, placed};
-ghost use Rattle.read_chain.specs.Whole.{place_of};
+ghost use Rattle.read_chain.specs.Whole.{PlaceOf};
 
 use item_spec::Refusal;
 use read_items::Digits;
@@ -22,7 +23,7 @@ pub struct Place {
 }
 
 // What was read of the line at a place, or its fault.
-pub fn line_at<T: Drop>(at: usize, line: Result<T, Refusal>) -> Result<T, LineFault>
+pub fn line_at<T: Drop, R: Drop>(at: usize, line: Result<T, R>) -> Result<T, LineFault<R>>
     ensures { result ≡ placed at line }
 {
     match line {
@@ -69,11 +70,11 @@ pub fn length_run(text: &[u8]) -> Result<usize, LineFault>
 }
 
 // What the line at a place comes to that has one number or one list.
-pub fn number_run(
+pub fn number_run<R: Drop>(
     text: &[u8],
     start: usize,
-    line: Result<(u32, usize), Refusal>,
-) -> Result<(u32, usize), LineFault>
+    line: Result<(u32, usize), R>,
+) -> Result<(u32, usize), LineFault<R>>
     ensures { result ≡ placed (min start (length text.now)) line }
 {
     line_at(read_items::place_in(text, start), line)
@@ -117,14 +118,64 @@ pub fn within_run(
     number_run(text, start, line)
 }
 
-// What the lines of a whole text come to.
-pub fn came_to(read: Result<usize, LineFault>) -> Place
-    ensures { result ≡ place_of read }
+// The same after what was read so far: where that stopped, nothing more is read.
+pub fn then_due(
+    text: &[u8],
+    read: Result<usize, LineFault>,
+    key: &[u8],
+    number: u32,
+) -> Result<usize, LineFault>
+    ensures { After text.now read (line (due_line key.now number)) result (came result tt) }
+{
+    due_run(text, read?, key, number)
+}
+
+pub fn then_edition(text: &[u8], read: Result<usize, LineFault>) -> Result<(u32, usize), LineFault>
+    ensures reads { After text.now read (line edition_line) result (number_came result) }
+    ensures few { Few 2 result }
+{
+    edition_run(text, read?)
+}
+
+pub fn then_number(
+    text: &[u8],
+    read: Result<usize, LineFault>,
+    key: &[u8],
+    limit: Limit,
+) -> Result<(u32, usize), LineFault>
+    ensures reads { After text.now read (line (count_line key.now (limit_ok limit))) result (number_came result) }
+    ensures few { Few (greatest limit) result }
+{
+    count_run(text, read?, key, limit)
+}
+
+pub fn then_within(
+    text: &[u8],
+    read: Result<usize, LineFault>,
+    key: &[u8],
+    least: u32,
+    greatest: u32,
+) -> Result<(u32, usize), LineFault>
+    ensures reads { After text.now read (line (count_line key.now (in_range least greatest))) result (number_came result) }
+    ensures few { Few greatest result }
+{
+    within_run(text, read?, key, least, greatest)
+}
+
+pub fn then_end(text: &[u8], read: Result<usize, LineFault>) -> Result<usize, LineFault>
+    ensures { After text.now read at_end result (came result tt) }
+{
+    end_run(text, read?)
+}
+
+// What the lines of a whole text come to, their fault by its number, whichever enum names it; a number names itself.
+pub fn came_to<R: Into<u8>>(read: Result<usize, LineFault<R>>) -> Place
+    ensures { PlaceOf R.converts read result }
 {
     match read {
         Ok(place) => Place { refused: 0, place },
         Err(fault) => Place {
-            refused: u8::from(fault.refusal),
+            refused: fault.refusal.into(),
             place: fault.at,
         },
     }

@@ -22,12 +22,12 @@ run s (onto a at) = on a (drop at s)
 run s (fault_at k at) = stop k (drop at s)
 
 -- what a reader says that answers the next line's place beside the group a; beside a refusal the group says nothing
-abbrev pub came : {A : Type 0} → Result ℕ LineFault → A → Came A
+abbrev pub came : {A : Type 0} → Result ℕ (LineFault Refusal) → A → Came A
 came (Ok at) a = onto a at
 came (Err f) a = fault_at (number_of f.refusal) f.at
 
 -- of one number, or of one list as a set
-abbrev pub number_came : Result (ℕ × ℕ) LineFault → Came ℕ
+abbrev pub number_came : Result (ℕ × ℕ) (LineFault Refusal) → Came ℕ
 number_came (Ok (n, at)) = onto n at
 number_came (Err f) = fault_at (number_of f.refusal) f.at
 

@@ -36,8 +36,8 @@ struct Range(u32, u32);
 
 // A line that isn't the one due ends the reading: why, and the place of that line.
 #[derive(Clone, Copy)]
-pub struct LineFault {
-    pub refusal: Refusal,
+pub struct LineFault<R = Refusal> {
+    pub refusal: R,
     pub at: usize,
 }
 

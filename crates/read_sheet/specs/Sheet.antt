@@ -5,6 +5,7 @@ use Rattle.model.specs.declared.Program.{Program}
 use Rattle.model.specs.Empty.{no_tables, no_program}
 use Rattle.read_spec.specs.Lines.{Lines}
 use Rattle.read_spec.specs.Texts.{sheet}
+use Rattle.item_spec.specs.declared.Refusal.{Refusal}
 use Rattle.read_lines.specs.declared.LineFault.{LineFault}
 use Rattle.std.specs.declared.result.Result.{Result}
 use Rattle.read_chain.specs.declared.Place.{Place}
@@ -16,7 +17,7 @@ abbrev pub sheet_read : List ℕ → Whole (Tables × Program)
 sheet_read s = whole (no_tables, no_program) sheet s
 
 -- what a reading comes to whose words say v: none beside a refusal
-abbrev pub handed_out : Result ℕ LineFault → Tables × Program → Whole (Tables × Program)
+abbrev pub handed_out : Result ℕ (LineFault Refusal) → Tables × Program → Whole (Tables × Program)
 handed_out x v = beside (place_of x) (kept (no_tables, no_program) x v)
 
 -- what r and the words of tables and program say together is what reading the text s by m answers

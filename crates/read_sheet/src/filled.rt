@@ -174,6 +174,6 @@ pub(crate) fn read_rows(
     let at = read_types(text, at, types, true, tables)?;
     let (count, at) = read_counted(text, at, b"do=", false, 0, 256)?;
     words::program::start_program(program, edition, count);
-    let at = read_instructions(text, at, count, edition, types, program)?;
-    read_chain::end_run(text, at)
+    let instructions = read_instructions(text, at, count, edition, types, program);
+    read_chain::then_end(text, instructions)
 }

@@ -34,8 +34,7 @@ fn read_lines(
     ensures { RunsTo text.now (came result (tables_in tables.new, program_in program.new))
         (shortly sheet text.now) }
 {
-    let at = read_chain::length_run(text)?;
-    let (edition, at) = read_chain::edition_run(text, at)?;
+    let (edition, at) = read_chain::then_edition(text, read_chain::length_run(text))?;
     let (depth, at) = read_chain::count_run(text, at, b"depth=", Limit::Depth)?;
     let (types, at) = read_chain::count_run(text, at, b"types=", Limit::Types)?;
     words::tables::put_head(tables, depth, types);
@@ -43,8 +42,8 @@ fn read_lines(
     let (count, at) = read_chain::count_run(text, at, b"program=", Limit::Program)?;
     words::program::put_instructions(program, count);
     words::program::put_edition(program, edition);
-    let at = read_instructions(text, at, count, edition, types, program)?;
-    read_chain::end_run(text, at)
+    let instructions = read_instructions(text, at, count, edition, types, program);
+    read_chain::then_end(text, instructions)
 }
 
 // What a reading comes to; beside a refusal nothing of it is handed out.

@@ -129,6 +129,6 @@ module _ (t : Tables) (m : ℕ) (c : Configuration) (s : List ℕ) (start at : �
   unfolding connection_at
   join-put q j l = line-put join_says (connection_line t c m) (λ k. (connected c k, suc (port_number k.user k.useport), l)) s start at e r o q refl
 
-  pub join-stop : {f : LineFault} → Err f ≡ placed at r → (j : ℕ) (l : List ℕ) → RunsTo s (fault_at (number_of f.refusal) f.at) (connection_at t j (c, m, l) (drop start s))
+  pub join-stop : {f : LineFault Refusal} → Err f ≡ placed at r → (j : ℕ) (l : List ℕ) → RunsTo s (fault_at (number_of f.refusal) f.at) (connection_at t j (c, m, l) (drop start s))
   unfolding connection_at
   join-stop q j l = line-stop join_says (connection_line t c m) (λ k. (connected c k, suc (port_number k.user k.useport), l)) s start at e r o q refl

@@ -265,6 +265,6 @@ module _ (ed d : ℕ) (t : Tables) (m : ℕ) (c : Configuration) (lasts : List �
   unfolding instance_at row_says
   row_put p j = line-put (λ x. row_says x slots) (instance_line ed d t m) (λ x. (with_row t c x, suc x.id, set lasts x.id x.last)) s start at e r o p refl
 
-  pub row-stop : {f : LineFault} → Err f ≡ placed at r → (j : ℕ) → RunsTo s (fault_at (number_of f.refusal) f.at) (instance_at ed d t j (c, m, lasts) (drop start s))
+  pub row-stop : {f : LineFault Refusal} → Err f ≡ placed at r → (j : ℕ) → RunsTo s (fault_at (number_of f.refusal) f.at) (instance_at ed d t j (c, m, lasts) (drop start s))
   unfolding instance_at row_says
   row-stop p j = line-stop (λ x. row_says x slots) (instance_line ed d t m) (λ x. (with_row t c x, suc x.id, set lasts x.id x.last)) s start at e r o p refl

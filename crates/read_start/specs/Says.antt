@@ -85,7 +85,7 @@ SmallRow d s slots (Ok (w, q, at)) = (q.count ≤ d) × ((at ≤ length s) × (l
 SmallRow d s slots (Err r) = Unit {0}
 
 -- what a reader says that answers the next line's place and the least that may come next, beside the configuration and the last tickets so far
-abbrev pub stood_came : Result Stood LineFault → Configuration → List ℕ → Came SoFar
+abbrev pub stood_came : Result Stood (LineFault Refusal) → Configuration → List ℕ → Came SoFar
 stood_came (Ok o) c lasts = onto (c, o.least, lasts) o.at
 stood_came (Err f) c lasts = fault_at (number_of f.refusal) f.at
 

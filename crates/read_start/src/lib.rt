@@ -103,9 +103,8 @@ fn read_lines(
     ensures { RunsTo text.now (came result (state_in state.new, (begun_in begun.new).last))
         (start_run setting.edition (queue_room setting.default (tables_in tables.now)) (tables_in tables.now) text.now) }
 {
-    let at = length_run(text)?;
-    let at = read_chain::due_run(text, at, b"start=", 1)?;
-    let (count, at) = read_chain::within_run(text, at, b"instances=", 0, 32)?;
+    let first = read_chain::then_due(text, length_run(text), b"start=", 1);
+    let (count, at) = read_chain::then_within(text, first, b"instances=", 0, 32)?;
     let stood = read_instances(setting, text, at, count, tables, state, begun)?;
     let (joins, at) = read_chain::within_run(text, stood.at, b"connections=", 0, 64)?;
     let joined = read_connections(text, at, joins, tables, state)?;

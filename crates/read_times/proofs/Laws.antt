@@ -104,7 +104,7 @@ module _ (s : List ℕ) (at : ℕ) (l : at ≤ length s) (ts : Times) (j : ℕ) 
   pub row_read : {n : ℕ} → Ok n ≡ placed at r → RunsTo s (onto b (at + n)) (time j ts (drop at s))
   row_read e = moved (time j ts) s at l (rw (placed-ok at r e) at h)
 
-  pub row-refused : {f : LineFault} → Err f ≡ placed at r → RunsTo s (fault_at (number_of f.refusal) f.at) (time j ts (drop at s))
+  pub row-refused : {f : LineFault Refusal} → Err f ≡ placed at r → RunsTo s (fault_at (number_of f.refusal) f.at) (time j ts (drop at s))
   row-refused e = rw (placed-err at r e).1 (stayed (time j ts) s at l (rw (placed-err at r e).0 at h))
 
 -- a count of rows has no least number

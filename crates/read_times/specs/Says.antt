@@ -18,6 +18,6 @@ row_came (Ok n) ts = onto ts n
 row_came (Err r) ts = fault_at (number_of r) 0
 
 -- of a text: the times of its par, or the refusal and the place of the line at fault
-abbrev pub times_came : Result (ℕ × ℕ) LineFault → List ℕ → List ℕ → Came Times
+abbrev pub times_came : Result (ℕ × ℕ) (LineFault Refusal) → List ℕ → List ℕ → Came Times
 times_came (Ok (par, at)) listed seconds = onto (filled par listed seconds) at
 times_came (Err f) listed seconds = fault_at (number_of f.refusal) f.at

@@ -1,4 +1,5 @@
 use mathlib.Core.Path.{sym, ◌∙◌}
+use Rattle.read_chain.proofs.Chain.{place-of}
 use Rattle.read_chain.proofs.Placed.{came-cleared, came-left}
 use Rattle.aeolus_model.specs.Action.{no_plan}
 use Rattle.aeolus_read_spec.specs.Texts.{plan}
@@ -9,7 +10,7 @@ pub returns : goal.returns
 returns c =
     let r = c.read_plan-read in
     let m = plan c.args.types in
-    rw c.came_to.ensures
+    rw (place-of _ c.came_to.ensures)
     (elim c.if-is_err.branch [
       | then-is_err w ↦
           rw (w.words-is, w.clear_plan.ensures)

@@ -1,4 +1,5 @@
 use mathlib.Core.Path.{sym, ◌∙◌}
+use Rattle.read_chain.proofs.Chain.{place-of}
 use Rattle.read_chain.proofs.Placed.{came-cleared, came-left}
 use Rattle.aeolus_model.specs.Model.{no_universe}
 use Rattle.aeolus_read_spec.specs.Texts.{sheet}
@@ -8,7 +9,7 @@ use Rattle.aeolus_read_sheet.proofs.fill_universe.Goals as goal
 pub returns : goal.returns
 returns c =
     let r = c.read_sheet-read in
-    rw c.came_to.ensures
+    rw (place-of _ c.came_to.ensures)
     (elim c.if-is_err.branch [
       | then-is_err w ↦
           rw (w.universe-is, w.clear_universe.ensures)

@@ -1,41 +1,19 @@
-use Rattle.read_items.proofs.Laws.{handed_on}
 use Rattle.model.specs.Empty.{no_answer}
+use Rattle.read_items.proofs.Laws.{handed_on}
 use Rattle.read_spec.specs.Fill.{answer_of}
 use Rattle.read_spec.specs.Texts.{answer}
-use Rattle.read_lines.proofs.Runs.{run-refused, run-then}
 use Rattle.read_chain.specs.Chain.{shortly}
-use Rattle.read_chain.proofs.Placed.{run-given}
+use Rattle.read_chain.proofs.After.{end-after, three-refused, three-then}
 use Rattle.read_answer.proofs.read_lines.Goals as goal
-
-pub returns-in_err-at : goal.returns-in_err-at
-unfolding shortly answer
-returns-in_err-at c = rw (handed_on _ c.from_residual.ensures.1) (run-refused _ _ c.in_err-at.ensures)
-
-pub returns-in_err-at-2 : goal.returns-in_err-at-2
-unfolding shortly answer
-returns-in_err-at-2 c =
-    rw (handed_on _ c.from_residual-in_err-at-2.ensures.1) (run-then _ _ c.in_ok-at.ensures (run-refused _ _ c.in_err-at-2.ensures))
 
 pub returns-in_err-count : goal.returns-in_err-count
 unfolding shortly answer
 returns-in_err-count c =
-    rw (handed_on _ c.from_residual-in_err-count.ensures.1)
-    (run-then _ _ c.in_ok-at.ensures (run-then _ _ c.in_ok-at-2.ensures (run-refused _ _ c.in_err-count.ensures.reads)))
-
-pub returns-in_err-at-3 : goal.returns-in_err-at-3
-unfolding shortly answer answer_of no_answer
-returns-in_err-at-3 c =
-    rw (handed_on _ c.from_residual-in_err-at-3.ensures.1)
-    (run-then _ _ c.in_ok-at.ensures
-    (run-then _ _ c.in_ok-at-2.ensures
-    (run-then _ _ c.in_ok-count.ensures.reads
-    (run-refused _ _ (rw (c.put_steps.ensures, c.requires) at c.in_err-at-3.ensures)))))
+    rw (handed_on _ c.from_residual.ensures.1)
+    (three-refused _ _ c.length_run.ensures _ c.then_due-first.ensures c.in_err-count.ensures.reads)
 
 pub returns : goal.returns
 unfolding shortly answer answer_of no_answer
 returns c =
-    run-then _ _ c.in_ok-at.ensures
-    (run-then _ _ c.in_ok-at-2.ensures
-    (run-then _ _ c.in_ok-count.ensures.reads
-    (run-then _ _ (rw (c.put_steps.ensures, c.requires) at c.in_ok-at-3.ensures)
-    (run-given _ _ c.end_run.ensures))))
+    three-then _ _ c.length_run.ensures _ c.then_due-first.ensures c.in_ok-count.ensures.reads
+    (end-after (λ a. a) _ _ _ (rw (c.put_steps.ensures, c.requires) at c.read_steps-steps.ensures) c.then_end.ensures)

@@ -1,10 +1,11 @@
 use mathlib.Core.Path.{sym, ◌∙◌}
+use Rattle.read_chain.proofs.Chain.{place-of}
 use Rattle.read_start.proofs.Laws.{start-stopped, start-fifty, start-served}
 use Rattle.read_start.proofs.fill_start.Goals as goal
 
 pub returns-in_default : goal.returns-in_default
 returns-in_default c =
-    rw (c.came_to.ensures, c.in_default.is, c.clear_words-in_default.ensures.0, c.clear_words-in_default.ensures.1)
+    rw (place-of _ c.came_to.ensures, c.in_default.is, c.clear_words-in_default.ensures.0, c.clear_words-in_default.ensures.1)
     (start-stopped _ _ _ _ c.in_default.ensures)
 
 pub returns-then-some_unserved : goal.returns-then-some_unserved

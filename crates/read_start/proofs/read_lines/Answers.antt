@@ -1,64 +1,47 @@
 use Rattle.read_items.proofs.Laws.{handed_on}
 use Rattle.start_spec.specs.Text.{start_lines}
 use Rattle.read_lines.proofs.Runs.{run-refused, run-then}
+use Rattle.read_chain.proofs.After.{three-refused, three-then}
 use Rattle.read_chain.proofs.Placed.{run-given}
 use Rattle.read_start.specs.Start.{start_run}
 use Rattle.read_start.proofs.Laws.{none-least}
 use Rattle.read_start.proofs.read_lines.Goals as goal
 
-pub returns-in_err-at : goal.returns-in_err-at
-unfolding start_run start_lines
-returns-in_err-at c = rw (handed_on _ c.from_residual.ensures.1) (run-refused _ _ c.in_err-at.ensures)
-
-pub returns-in_err-at-2 : goal.returns-in_err-at-2
-unfolding start_run start_lines
-returns-in_err-at-2 c = rw (handed_on _ c.from_residual-in_err-at-2.ensures.1) (run-then _ _ c.in_ok-at.ensures (run-refused _ _ c.in_err-at-2.ensures))
-
 pub returns-in_err-count : goal.returns-in_err-count
 unfolding start_run start_lines
 returns-in_err-count c =
-    rw (handed_on _ c.from_residual-in_err-count.ensures.1)
-    (run-then _ _ c.in_ok-at.ensures
-    (run-then _ _ c.in_ok-at-2.ensures
-    (run-refused _ _ (rw (none-least 32) at c.in_err-count.ensures.reads))))
+    rw (handed_on _ c.from_residual.ensures.1)
+    (three-refused _ _ c.length_run.ensures _ c.then_due-first.ensures (rw (none-least 32) at c.in_err-count.ensures.reads))
 
 pub returns-in_err-stood : goal.returns-in_err-stood
 unfolding start_run start_lines
 returns-in_err-stood c =
     rw (handed_on _ c.from_residual-in_err-stood.ensures.1)
-    (run-then _ _ c.in_ok-at.ensures
-    (run-then _ _ c.in_ok-at-2.ensures
-    (run-then _ _ (rw (none-least 32) at c.in_ok-count.ensures.reads)
-    (run-refused _ _ (rw (c.requires.0, c.requires.1) at c.in_err-stood.ensures)))))
+    (three-then _ _ c.length_run.ensures _ c.then_due-first.ensures (rw (none-least 32) at c.in_ok-count.ensures.reads)
+    (run-refused _ _ (rw (c.requires.0, c.requires.1) at c.in_err-stood.ensures)))
 
 pub returns-in_err-joins : goal.returns-in_err-joins
 unfolding start_run start_lines
 returns-in_err-joins c =
     rw (handed_on _ c.from_residual-in_err-joins.ensures.1)
-    (run-then _ _ c.in_ok-at.ensures
-    (run-then _ _ c.in_ok-at-2.ensures
-    (run-then _ _ (rw (none-least 32) at c.in_ok-count.ensures.reads)
+    (three-then _ _ c.length_run.ensures _ c.then_due-first.ensures (rw (none-least 32) at c.in_ok-count.ensures.reads)
     (run-then _ _ (rw (c.requires.0, c.requires.1) at c.in_ok-stood.ensures)
-    (run-refused _ _ (rw (none-least 64) at c.in_err-joins.ensures.reads))))))
+    (run-refused _ _ (rw (none-least 64) at c.in_err-joins.ensures.reads))))
 
 pub returns-in_err-joined : goal.returns-in_err-joined
 unfolding start_run start_lines
 returns-in_err-joined c =
     rw (handed_on _ c.from_residual-in_err-joined.ensures.1)
-    (run-then _ _ c.in_ok-at.ensures
-    (run-then _ _ c.in_ok-at-2.ensures
-    (run-then _ _ (rw (none-least 32) at c.in_ok-count.ensures.reads)
+    (three-then _ _ c.length_run.ensures _ c.then_due-first.ensures (rw (none-least 32) at c.in_ok-count.ensures.reads)
     (run-then _ _ (rw (c.requires.0, c.requires.1) at c.in_ok-stood.ensures)
     (run-then _ _ (rw (none-least 64) at c.in_ok-joins.ensures.reads)
-    (run-refused _ _ (c.in_err-joined.ensures _)))))))
+    (run-refused _ _ (c.in_err-joined.ensures _)))))
 
 pub returns : goal.returns
 unfolding start_run start_lines
 returns c =
-    run-then _ _ c.in_ok-at.ensures
-    (run-then _ _ c.in_ok-at-2.ensures
-    (run-then _ _ (rw (none-least 32) at c.in_ok-count.ensures.reads)
+    three-then _ _ c.length_run.ensures _ c.then_due-first.ensures (rw (none-least 32) at c.in_ok-count.ensures.reads)
     (run-then _ _ (rw (c.requires.0, c.requires.1) at c.in_ok-stood.ensures)
     (run-then _ _ (rw (none-least 64) at c.in_ok-joins.ensures.reads)
     (run-then _ _ (c.in_ok-joined.ensures _)
-    (run-given _ _ c.end_run.ensures))))))
+    (run-given _ _ c.end_run.ensures))))

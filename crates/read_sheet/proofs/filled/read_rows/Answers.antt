@@ -2,7 +2,7 @@ use mathlib.Core.Path.{sym}
 use Rattle.read_items.proofs.Laws.{handed_on}
 use Rattle.read_lines.proofs.Runs.{run-refused, run-then}
 use Rattle.read_chain.specs.Chain.{shortly}
-use Rattle.read_chain.proofs.Placed.{run-given}
+use Rattle.read_chain.proofs.After.{end-after}
 use Rattle.read_sheet.proofs.Forms.{form_counted, form-shortly}
 use Rattle.read_sheet.proofs.filled.read_rows.Goals as goal
 
@@ -57,18 +57,6 @@ returns-in_err-count c =
     (run-then _ _ (rw c.start_tables.ensures at c.in_ok-at-2.ensures)
     (run-refused _ _ c.in_err-count.ensures.reads))))))
 
-pub returns-in_err-at-3 : goal.returns-in_err-at-3
-unfolding shortly form_counted
-returns-in_err-at-3 c =
-    rw (handed_on _ c.from_residual-in_err-at-3.ensures.1, sym (form-shortly c.args.text.now))
-    (run-then _ _ c.in_ok-at.ensures
-    (run-then _ _ c.in_ok-edition.ensures
-    (run-then _ _ c.in_ok-depth.ensures.reads
-    (run-then _ _ c.in_ok-types.ensures.reads
-    (run-then _ _ (rw c.start_tables.ensures at c.in_ok-at-2.ensures)
-    (run-then _ _ c.in_ok-count.ensures.reads
-    (run-refused _ _ (rw c.start_program.ensures at c.in_err-at-3.ensures))))))))
-
 pub returns : goal.returns
 unfolding shortly form_counted
 returns c =
@@ -79,5 +67,4 @@ returns c =
     (run-then _ _ c.in_ok-types.ensures.reads
     (run-then _ _ (rw c.start_tables.ensures at c.in_ok-at-2.ensures)
     (run-then _ _ c.in_ok-count.ensures.reads
-    (run-then _ _ (rw c.start_program.ensures at c.in_ok-at-3.ensures)
-    (run-given _ _ c.end_run.ensures))))))))
+    (end-after (λ p. (_, p)) _ _ _ (rw c.start_program.ensures at c.read_instructions-instructions.ensures) c.then_end.ensures)))))))
