@@ -7,7 +7,9 @@
 use page_found::found_of;
 use page_lib::tops;
 use page_spec::Found;
-use program_input::{Listed, Texts, Went, argument, base_from, print, read_listed, take_names};
+use program_input::{
+    Listed, TakeName, Texts, Went, argument, base_from, print, read_listed, take_names,
+};
 
 // `longest` in crates/page_spec/specs/Room.antt: no candidate has more, and neither has the page's top.
 const LONGEST: usize = 294912;
@@ -145,28 +147,48 @@ fn run_name(
     run_answer(rt, block, sat, texts, path, name)
 }
 
-fn run(rt: &HostRuntime, block: &mut [u8], texts: Texts<'_>) {
+// Each candidate is counted, and then written, when the name comes.
+#[derive(Drop)]
+struct Candidates<'a> {
+    rt: &'a HostRuntime,
+    block: &'a mut [u8],
+    sat: Sat,
+    texts: Texts<'a>,
+}
+
+impl TakeName for Candidates<'_> {
+    fn take_name(&mut self, name: &[u8]) -> Went {
+        run_name(self.rt, self.block, &mut self.sat, self.texts, name)
+    }
+}
+
+fn run<'a>(rt: &'a HostRuntime, block: &'a mut [u8], texts: Texts<'a>) {
     let verdict = outcome_lib::paper_verdict(texts.paper, texts.times);
     if verdict.refused != 0 {
         let text = verdict.text;
         program_input::say_fault(rt, b"page", text, verdict.line, verdict.refused);
         return;
     }
-    let mut sat = Sat {
+    let sat = Sat {
         counting: true,
         candidates: 0,
         counts: [0; 41],
     };
+    let mut candidates = Candidates {
+        rt,
+        block,
+        sat,
+        texts,
+    };
     let mut input = rt.stdin();
-    let went = take_names(
-        &mut input,
-        |name| run_name(rt, block, &mut sat, texts, name),
-    );
-    if sat.counting || !went.written {
+    let went = take_names(&mut input, &mut candidates);
+    let counting = candidates.sat.counting;
+    if counting || !went.written {
         return;
     }
-    let used = tops::write_foot(block, sat.candidates);
-    if print(block, used) {
+    let written = candidates.sat.candidates;
+    let used = tops::write_foot(candidates.block, written);
+    if print(candidates.block, used) {
         program_io::tell_of(went.unread, false);
     }
 }

@@ -49,11 +49,11 @@ fn take_parts<R: Read>(
     line: &mut [u8],
     counts: &mut [usize; 9],
 ) -> Went {
-    let mut parts = no_parts_yet(input, bytes);
+    let mut parts = no_parts_yet();
     let mut written = true;
     // A loop that is proved ends, so it counts its turns.
     for _ in 0..u64::MAX {
-        let Some(part) = parts.next_part(row, b'\n') else {
+        let Some(part) = parts.next_part(input, bytes, row, b'\n') else {
             break;
         };
         written = take_part(pass, row, part, line, counts);

@@ -6,13 +6,15 @@
 
 mod names;
 
-ghost use Rattle.std.specs.Prelude.{◌≤◌, ◌≡◌, length, drop, IfSome};
+ghost use Rattle.std.specs.Prelude.{◌≤◌, ◌≡◌, length, drop, IfSome, replicate};
 ghost use Rattle.io.specs.Counts.{IsPrefixLen};
 ghost use Rattle.program_input.specs.Last.{last_part};
 
 use judge_spec::Paper;
 use model::Text;
-pub use names::{Left, Listed, Part, Parts, Went, at_most, no_parts_yet, read_listed, take_names};
+pub use names::{
+    Left, Listed, Part, Parts, TakeName, Went, at_most, no_parts_yet, read_listed, take_names,
+};
 use sitting_shown::Among;
 use std::env::FillError;
 use std::rt::{Env, Files};
@@ -68,7 +70,11 @@ pub struct Texts<'a> {
     pub times: Option<&'a [u8]>,
 }
 
-pub fn empty_room() -> Room {
+pub fn empty_room() -> Room
+    ensures sheet { result.sheet ≡ replicate 32769 0 }
+    ensures start { result.start ≡ replicate 8193 0 }
+    ensures times { result.times ≡ replicate 32769 0 }
+{
     Room {
         sheet: [0; 32769],
         start: [0; 8193],

@@ -16,11 +16,9 @@ pub enum Left {
     Unread,
 }
 
-// An input in parts, by way of lent bytes: of those that the last read gave, so many are taken.
-#[derive(Drop)]
-pub struct Parts<'a, R> {
-    pub input: &'a mut R,
-    pub bytes: &'a mut [u8],
+// Of the bytes that the last read gave, so many are taken; and what is still to come.
+#[derive(Clone, Copy)]
+pub struct Parts {
     pub taken: usize,
     pub size: usize,
     pub left: Left,
@@ -33,12 +31,10 @@ pub struct Part {
     pub size: usize,
 }
 
-pub fn no_parts_yet<'a, R: Read>(input: &'a mut R, bytes: &'a mut [u8]) -> Parts<'a, R>
+pub fn no_parts_yet() -> Parts
     ensures { (result.taken ≡ 0) × (result.size ≡ 0) × (result.left ≡ More) }
 {
     Parts {
-        input,
-        bytes,
         taken: 0,
         size: 0,
         left: Left::More,
@@ -53,12 +49,12 @@ pub fn at_most(size: usize, text: &[u8]) -> usize
     size.min(text.len())
 }
 
-impl<'a, R: Read> Parts<'a, R> {
+impl Parts {
     // What the next read gives.
-    fn read_more(&mut self) {
+    fn read_more<R: Read>(&mut self, input: &mut R, bytes: &mut [u8]) {
         self.taken = 0;
         self.size = 0;
-        match self.input.read(self.bytes) {
+        match input.read(bytes) {
             Ok(0) => self.left = Left::Nothing,
             Ok(size) => self.size = size,
             Err(error) => {
@@ -68,27 +64,34 @@ impl<'a, R: Read> Parts<'a, R> {
         }
     }
 
-    fn next_byte(&mut self) -> Option<u8> {
+    fn next_byte<R: Read>(&mut self, input: &mut R, bytes: &mut [u8]) -> Option<u8> {
         if self.left == Left::More && self.size <= self.taken {
-            self.read_more();
+            self.read_more(input, bytes);
         }
         if self.left != Left::More {
             return None;
         }
         let at = self.taken;
-        let byte = *self.bytes.get(at)?;
+        let byte = *bytes.get(at)?;
         self.taken = at + 1;
         Some(byte)
     }
 
     // The next part, without the byte that ends it, into the lent bytes; of a longer one the first bytes. The last part may lack its end, and then has a byte.
-    pub fn next_part(&mut self, part: &mut [u8], end: u8) -> Option<Part>
+    // What was read and is not taken yet stands in `bytes`.
+    pub fn next_part<R: Read>(
+        &mut self,
+        input: &mut R,
+        bytes: &mut [u8],
+        part: &mut [u8],
+        end: u8,
+    ) -> Option<Part>
         ensures { IfSome result (λ p. IsPrefixLen p.size part.new) }
     {
         let mut size: usize = 0;
         // A loop that is proved ends, so it counts its turns.
         for _ in 0..u64::MAX {
-            match self.next_byte() {
+            match self.next_byte(input, bytes) {
                 None if size == 0 => return None,
                 None => {
                     return Some(Part {
@@ -116,24 +119,27 @@ pub struct Went {
     pub written: bool,
 }
 
+// Who takes the names. No closure: a function that takes one must ask that it may be called, and no public function has a precondition.
+pub trait TakeName {
+    fn take_name(&mut self, name: &[u8]) -> Went;
+}
+
 // Each part of the list of names in turn, up to the first of which not all is written.
-pub fn take_names<R: Read, F: FnMut(&[u8]) -> Went>(input: &mut R, mut take: F) -> Went
-    requires { F.IsAlwaysCallable take }
-{
+pub fn take_names<R: Read, T: TakeName>(input: &mut R, taker: &mut T) -> Went {
     let mut name = [0u8; 4097];
     let mut bytes = [0u8; 65536];
-    let mut names = no_parts_yet(input, &mut bytes);
+    let mut names = no_parts_yet();
     let mut went = Went {
         unread: false,
         written: true,
     };
     // A loop that is proved ends, so it counts its turns.
     for _ in 0..u64::MAX {
-        let Some(next) = names.next_part(&mut name, 0) else {
+        let Some(next) = names.next_part(input, &mut bytes, &mut name, 0) else {
             break;
         };
         let size = next.size;
-        let taken = take(&name[..size]);
+        let taken = taker.take_name(&name[..size]);
         went.unread = went.unread || taken.unread;
         went.written = taken.written;
         if !went.written {

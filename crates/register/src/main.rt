@@ -4,7 +4,7 @@
 // ends it. On descriptor 3 it tells that all was written, and whether every answer was read.
 #![tactic(auto)]
 
-use program_input::{Listed, Texts, Went, base_from, print, read_listed, take_names};
+use program_input::{Listed, TakeName, Texts, Went, base_from, print, read_listed, take_names};
 use register_lib::{row_of, write_row};
 
 // A name of 4,096 bytes, each shown as four at most, and the cells after it.
@@ -49,7 +49,21 @@ fn run_name(rt: &HostRuntime, block: &mut [u8], texts: Texts<'_>, marked: &[u8])
     run_answer(rt, block, texts, path, name)
 }
 
-fn run(rt: &HostRuntime, block: &mut [u8], texts: Texts<'_>) {
+// Each candidate's row is written when the name comes.
+#[derive(Drop)]
+struct Rows<'a> {
+    rt: &'a HostRuntime,
+    block: &'a mut [u8],
+    texts: Texts<'a>,
+}
+
+impl TakeName for Rows<'_> {
+    fn take_name(&mut self, name: &[u8]) -> Went {
+        run_name(self.rt, self.block, self.texts, name)
+    }
+}
+
+fn run<'a>(rt: &'a HostRuntime, block: &'a mut [u8], texts: Texts<'a>) {
     let verdict = outcome_lib::paper_verdict(texts.paper, texts.times);
     if verdict.refused != 0 {
         let text = verdict.text;
@@ -61,7 +75,7 @@ fn run(rt: &HostRuntime, block: &mut [u8], texts: Texts<'_>) {
         return;
     }
     let mut input = rt.stdin();
-    let went = take_names(&mut input, |name| run_name(rt, block, texts, name));
+    let went = take_names(&mut input, &mut Rows { rt, block, texts });
     if went.written {
         program_io::tell_of(went.unread, false);
     }

@@ -5,7 +5,7 @@
 #![tactic(auto)]
 
 use model::Text;
-use program_input::{Listed, Texts, Went, print, read_listed, take_names};
+use program_input::{Listed, TakeName, Texts, Went, print, read_listed, take_names};
 use sitting_lib::LONGEST;
 
 fn run_unread(block: &mut [u8], name: &[u8]) -> Went {
@@ -44,15 +44,34 @@ fn run_name(rt: &HostRuntime, block: &mut [u8], texts: Texts<'_>, marked: &[u8])
     run_answer(rt, block, texts, path, name)
 }
 
-fn sit(rt: &HostRuntime, block: &mut [u8], texts: Texts<'_>) {
-    let mut candidates: usize = 0;
+// Each candidate is judged and written when the name comes.
+#[derive(Drop)]
+struct Sitting<'a> {
+    rt: &'a HostRuntime,
+    block: &'a mut [u8],
+    texts: Texts<'a>,
+    candidates: usize,
+}
+
+impl TakeName for Sitting<'_> {
+    fn take_name(&mut self, name: &[u8]) -> Went {
+        self.candidates = self.candidates.wrapping_add(1);
+        run_name(self.rt, self.block, self.texts, name)
+    }
+}
+
+fn sit<'a>(rt: &'a HostRuntime, block: &'a mut [u8], texts: Texts<'a>) {
+    let mut sitting = Sitting {
+        rt,
+        block,
+        texts,
+        candidates: 0,
+    };
     let mut input = rt.stdin();
-    let went = take_names(&mut input, |name| {
-        candidates = candidates.wrapping_add(1);
-        run_name(rt, block, texts, name)
-    });
-    let used = write_report::write_count(block, b"candidates=", candidates);
-    if went.written && print(block, used) {
+    let went = take_names(&mut input, &mut sitting);
+    let candidates = sitting.candidates;
+    let used = write_report::write_count(sitting.block, b"candidates=", candidates);
+    if went.written && print(sitting.block, used) {
         program_io::tell_of(went.unread, false);
     }
 }
