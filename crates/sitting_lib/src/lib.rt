@@ -93,7 +93,7 @@ fn write_instruction(t: &mut [u8], at: usize, sheet: &[u8], k: usize, n: usize) 
     show_first(t, d, line)
 }
 
-// `asked` is what the program is called with, and the sheet is there without it.
+// A flag and no Option: the sheet is lent whether or not the line is asked for.
 // The last of the seven lines: that instruction, where it is asked for.
 fn write_asked(t: &mut [u8], at: usize, asked: bool, sheet: &[u8], k: usize, n: usize) -> usize
     ensures { Written t.old (asked_text asked sheet.now k n) t.new at result }
