@@ -60,6 +60,8 @@ impl TakeName for Sitting<'_> {
     }
 }
 
+// By itself, so that a paper that is refused needs no stack for the names.
+#[inline(never)]
 fn sit<'a>(rt: &'a HostRuntime, block: &'a mut [u8], texts: Texts<'a>) {
     let mut sitting = Sitting {
         rt,
