@@ -9,7 +9,7 @@ use Rattle.std.specs.declared.result.Result.{Result}
 use Rattle.std.specs.declared.result.Result.TheVariants.{Ok, Err}
 
 -- a number that was read is no greater than n
-abbrev pub Few : ℕ → Result (ℕ × ℕ) (LineFault Refusal) → Type 0
+abbrev pub Few : {R : Type 0} → ℕ → Result (ℕ × ℕ) (LineFault R) → Type 0
 Few n (Ok (a, at)) = a ≤ n
 Few n (Err f) = Unit
 

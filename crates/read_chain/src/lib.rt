@@ -7,7 +7,7 @@ ghost use Rattle.read_spec.specs.Kinds.{edition_line, due_line, count_line};
 ghost use Rattle.read_spec.specs.Lines.{line, at_end};
 ghost use Rattle.read_lines.specs.Counts.{limit_ok, greatest, in_range};
 ghost use Rattle.read_lines.specs.Runs.{RunsTo, came, number_came};
-ghost use Rattle.read_chain.specs.After.{After};
+ghost use Rattle.read_chain.specs.After.{After, SaidAs, SaidFor, no_value, one_number};
 ghost use Rattle.read_chain.specs.Chain.{Few, short, placed};
 ghost use Rattle.read_chain.specs.Whole.{PlaceOf};
 
@@ -118,54 +118,73 @@ pub fn within_run(
     number_run(text, start, line)
 }
 
-// The same after what was read so far: where that stopped, nothing more is read.
-pub fn then_due(
+// What was read of a line; a fault's refusal is said as R says it.
+fn said_as<T: Drop, R: From<Refusal>>(line: Result<T, LineFault>) -> Result<T, LineFault<R>>
+    ensures { SaidAs R.from_gives line result }
+{
+    match line {
+        Ok(read) => Ok(read),
+        Err(fault) => Err(LineFault {
+            refusal: R::from(fault.refusal),
+            at: fault.at,
+        }),
+    }
+}
+
+// The runs above after what was read so far: where that stopped, whatever refusal it names, nothing more is read.
+pub fn then_due<R: Drop + From<Refusal>>(
     text: &[u8],
-    read: Result<usize, LineFault>,
+    read: Result<usize, LineFault<R>>,
     key: &[u8],
     number: u32,
-) -> Result<usize, LineFault>
-    ensures { After text.now read (line (due_line key.now number)) result (came result tt) }
+) -> Result<usize, LineFault<R>>
+    ensures { After (SaidFor R.from_gives) no_value text.now read (line (due_line key.now number)) result }
 {
-    due_run(text, read?, key, number)
+    said_as(due_run(text, read?, key, number))
 }
 
-pub fn then_edition(text: &[u8], read: Result<usize, LineFault>) -> Result<(u32, usize), LineFault>
-    ensures reads { After text.now read (line edition_line) result (number_came result) }
+pub fn then_edition<R: Drop + From<Refusal>>(
+    text: &[u8],
+    read: Result<usize, LineFault<R>>,
+) -> Result<(u32, usize), LineFault<R>>
+    ensures reads { After (SaidFor R.from_gives) one_number text.now read (line edition_line) result }
     ensures few { Few 2 result }
 {
-    edition_run(text, read?)
+    said_as(edition_run(text, read?))
 }
 
-pub fn then_number(
+pub fn then_number<R: Drop + From<Refusal>>(
     text: &[u8],
-    read: Result<usize, LineFault>,
+    read: Result<usize, LineFault<R>>,
     key: &[u8],
     limit: Limit,
-) -> Result<(u32, usize), LineFault>
-    ensures reads { After text.now read (line (count_line key.now (limit_ok limit))) result (number_came result) }
+) -> Result<(u32, usize), LineFault<R>>
+    ensures reads { After (SaidFor R.from_gives) one_number text.now read (line (count_line key.now (limit_ok limit))) result }
     ensures few { Few (greatest limit) result }
 {
-    count_run(text, read?, key, limit)
+    said_as(count_run(text, read?, key, limit))
 }
 
-pub fn then_within(
+pub fn then_within<R: Drop + From<Refusal>>(
     text: &[u8],
-    read: Result<usize, LineFault>,
+    read: Result<usize, LineFault<R>>,
     key: &[u8],
     least: u32,
     greatest: u32,
-) -> Result<(u32, usize), LineFault>
-    ensures reads { After text.now read (line (count_line key.now (in_range least greatest))) result (number_came result) }
+) -> Result<(u32, usize), LineFault<R>>
+    ensures reads { After (SaidFor R.from_gives) one_number text.now read (line (count_line key.now (in_range least greatest))) result }
     ensures few { Few greatest result }
 {
-    within_run(text, read?, key, least, greatest)
+    said_as(within_run(text, read?, key, least, greatest))
 }
 
-pub fn then_end(text: &[u8], read: Result<usize, LineFault>) -> Result<usize, LineFault>
-    ensures { After text.now read at_end result (came result tt) }
+pub fn then_end<R: Drop + From<Refusal>>(
+    text: &[u8],
+    read: Result<usize, LineFault<R>>,
+) -> Result<usize, LineFault<R>>
+    ensures { After (SaidFor R.from_gives) no_value text.now read at_end result }
 {
-    end_run(text, read?)
+    said_as(end_run(text, read?))
 }
 
 // What the lines of a whole text come to, their fault by its number, whichever enum names it; a number names itself.

@@ -1,7 +1,7 @@
 use Rattle.read_items.proofs.Laws.{handed_on}
 use Rattle.start_spec.specs.Text.{start_lines}
 use Rattle.read_lines.proofs.Runs.{run-refused, run-then}
-use Rattle.read_chain.proofs.After.{three-refused, three-then}
+use Rattle.read_chain.proofs.After.{before-line, before-run, then-read, then-refused}
 use Rattle.read_chain.proofs.Placed.{run-given}
 use Rattle.read_start.specs.Start.{start_run}
 use Rattle.read_start.proofs.Laws.{none-least}
@@ -11,20 +11,20 @@ pub returns-in_err-count : goal.returns-in_err-count
 unfolding start_run start_lines
 returns-in_err-count c =
     rw (handed_on _ c.from_residual.ensures.1)
-    (three-refused _ _ c.length_run.ensures _ c.then_due-first.ensures (rw (none-least 32) at c.in_err-count.ensures.reads))
+    (then-refused _ _ (before-line _ (before-run _ c.length_run.ensures) c.then_due-first.ensures) (rw (none-least 32) at c.in_err-count.ensures.reads))
 
 pub returns-in_err-stood : goal.returns-in_err-stood
 unfolding start_run start_lines
 returns-in_err-stood c =
     rw (handed_on _ c.from_residual-in_err-stood.ensures.1)
-    (three-then _ _ c.length_run.ensures _ c.then_due-first.ensures (rw (none-least 32) at c.in_ok-count.ensures.reads)
+    (then-read _ _ (before-line _ (before-run _ c.length_run.ensures) c.then_due-first.ensures) (rw (none-least 32) at c.in_ok-count.ensures.reads)
     (run-refused _ _ (rw (c.requires.0, c.requires.1) at c.in_err-stood.ensures)))
 
 pub returns-in_err-joins : goal.returns-in_err-joins
 unfolding start_run start_lines
 returns-in_err-joins c =
     rw (handed_on _ c.from_residual-in_err-joins.ensures.1)
-    (three-then _ _ c.length_run.ensures _ c.then_due-first.ensures (rw (none-least 32) at c.in_ok-count.ensures.reads)
+    (then-read _ _ (before-line _ (before-run _ c.length_run.ensures) c.then_due-first.ensures) (rw (none-least 32) at c.in_ok-count.ensures.reads)
     (run-then _ _ (rw (c.requires.0, c.requires.1) at c.in_ok-stood.ensures)
     (run-refused _ _ (rw (none-least 64) at c.in_err-joins.ensures.reads))))
 
@@ -32,7 +32,7 @@ pub returns-in_err-joined : goal.returns-in_err-joined
 unfolding start_run start_lines
 returns-in_err-joined c =
     rw (handed_on _ c.from_residual-in_err-joined.ensures.1)
-    (three-then _ _ c.length_run.ensures _ c.then_due-first.ensures (rw (none-least 32) at c.in_ok-count.ensures.reads)
+    (then-read _ _ (before-line _ (before-run _ c.length_run.ensures) c.then_due-first.ensures) (rw (none-least 32) at c.in_ok-count.ensures.reads)
     (run-then _ _ (rw (c.requires.0, c.requires.1) at c.in_ok-stood.ensures)
     (run-then _ _ (rw (none-least 64) at c.in_ok-joins.ensures.reads)
     (run-refused _ _ (c.in_err-joined.ensures _)))))
@@ -40,7 +40,7 @@ returns-in_err-joined c =
 pub returns : goal.returns
 unfolding start_run start_lines
 returns c =
-    three-then _ _ c.length_run.ensures _ c.then_due-first.ensures (rw (none-least 32) at c.in_ok-count.ensures.reads)
+    then-read _ _ (before-line _ (before-run _ c.length_run.ensures) c.then_due-first.ensures) (rw (none-least 32) at c.in_ok-count.ensures.reads)
     (run-then _ _ (rw (c.requires.0, c.requires.1) at c.in_ok-stood.ensures)
     (run-then _ _ (rw (none-least 64) at c.in_ok-joins.ensures.reads)
     (run-then _ _ (c.in_ok-joined.ensures _)
