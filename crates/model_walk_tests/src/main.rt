@@ -19,7 +19,11 @@ const ROOM: usize = 17428;
 
 // How many bytes are as they were found.
 fn as_found(buffer: &[u8]) -> usize {
-    buffer.iter().filter(|b| **b == FOUND).count()
+    let mut n: usize = 0;
+    for b in buffer {
+        n += usize::from(*b == FOUND);
+    }
+    n
 }
 
 fn print_text(text: Text) {

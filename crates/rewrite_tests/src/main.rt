@@ -14,7 +14,11 @@ const FOUND: u8 = b'#';
 
 // How many bytes are as they were found.
 fn as_found(buffer: &[u8]) -> usize {
-    buffer.iter().filter(|b| **b == FOUND).count()
+    let mut n: usize = 0;
+    for b in buffer {
+        n += usize::from(*b == FOUND);
+    }
+    n
 }
 
 fn print_answered(done: Rewritten, found: usize) {

@@ -73,7 +73,11 @@ fn same_text(name: &[u8], text: &[u8]) -> bool {
 
 // Bytes that no writer writes stand in the buffer first; how many of them are there yet from a place on.
 fn untouched(out: &[u8], from: usize) -> usize {
-    out.iter().skip(from).filter(|b| **b == b'~').count()
+    let mut n: usize = 0;
+    for b in out.get(from..).unwrap_or(&[]) {
+        n += usize::from(*b == b'~');
+    }
+    n
 }
 
 fn show_text(out: &[u8], bytes: usize) {
