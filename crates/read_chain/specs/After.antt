@@ -15,7 +15,7 @@ no_value at = (tt, at)
 abbrev pub one_number : ℕ × ℕ → ℕ × ℕ
 one_number v = v
 
--- what the answer r tells is c; says n x, where x may be said for 01's number n
+-- what the answer r tells is c; says n x, where x may be said for a refusal of the number n
 abbrev pub Tells : {A R T : Type 0} → (ℕ → R → Type 0) → (T → A × ℕ) → Result T (LineFault R) → Came A → Type 0
 Tells says holds (Ok v) c = c ≡ onto (holds v).0 (holds v).1
 Tells says holds (Err e) c = (n : ℕ) × says n e.refusal × (c ≡ fault_at n e.at)
@@ -32,7 +32,7 @@ pub record After {A R T : Type 0} (says : ℕ → R → Type 0) (holds : T → A
   pub went : (at : ℕ) → a ≡ Ok at → ComesTo says holds s r (f (drop at s))
   pub stopped : (e : LineFault R) → a ≡ Err e → r ≡ Err e
 
--- x is said for a refusal of the number n, as gives has it
+-- x is said for a reader's refusal, of 01's number n, as gives has it
 abbrev pub SaidFor : {R : Type 0} → (Refusal → R → Type 0) → ℕ → R → Type 0
 SaidFor gives n x = (k : Refusal) × (n ≡ number_of k) × gives k x
 
